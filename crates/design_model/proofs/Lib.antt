@@ -1,0 +1,3 @@
+pub mod KnownSteps
+pub mod Sorting
+pub mod SortUnique

@@ -1,0 +1,9 @@
+pub mod Codes
+pub mod Counting
+pub mod Geometry
+pub mod Known
+pub mod Order
+pub mod Tokens
+pub mod Units
+pub mod Views
+pub mod Words

@@ -1,0 +1,39 @@
+//! Lines of a report on a design.
+
+ghost use Rattle.std.specs.Prelude.{◌≡◌};
+ghost use Rattle.design_model.specs.Order.{texts, sorted_by_bytes};
+
+use crate::sequence::{Bytes, Sequence};
+use std::alloc::{Allocator, Global};
+
+/// What a line reports.
+#[derive(Clone, Copy, Debug, PartialEq, Eq)]
+pub enum DiagKind {
+    /// Two components lie on one another.
+    Overlap,
+}
+
+/// A report, with the names that it borrows and its numbers in database units.
+#[derive(Drop)]
+pub struct Diag<'a, A: Allocator = Global> {
+    pub kind: DiagKind,
+    pub words: Sequence<&'a [u8], A>,
+    pub nums: Sequence<i64, A>,
+}
+
+/// A report as it is printed, without a line end.
+#[derive(Drop)]
+pub struct DiagLine<A: Allocator = Global> {
+    pub kind: DiagKind,
+    pub text: Bytes<A>,
+}
+
+/// The lines of a report.
+pub type DiagLines<A = Global> = Sequence<DiagLine<A>, A>;
+
+/// Puts lines into the order of their bytes. It takes no memory.
+pub fn sort_lines<A: Allocator>(lines: &mut Vec<DiagLine<A>, A>)
+    ensures { texts lines.new.items ≡ sorted_by_bytes (texts lines.old.items) }
+{
+    lines.sort_unstable_by(|a, b| a.text.as_slice().cmp(b.text.as_slice()))
+}

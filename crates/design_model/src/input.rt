@@ -1,0 +1,56 @@
+//! Reading to the end, within a number of turns and of bytes.
+ghost use Rattle.std.specs.Prelude.{◌≡◌, ◌++◌, ◌+◌, ◌^◌, ◌<◌, ◌≤◌, IfOk, IfErr, OnOk, OnErr, IfSome, IsErrOf, length, take, vec_len};
+ghost use Rattle.std.specs.Io.KnownBytes.{Consumes, IsAtEnd};
+ghost use Rattle.design_model.specs.Known.{Reads};
+
+use crate::counted::{CountedRead, Failures};
+use std::alloc::{AllocError, Global};
+use std::io;
+use std::io::Read;
+
+/// Why an input is not read.
+#[derive(Clone, Copy, Debug, PartialEq, Eq)]
+pub enum InputError {
+    Memory,
+    Read,
+    TooLong,
+    Endless,
+}
+
+/// Reads to the end.
+pub fn read_whole<R: CountedRead>(
+    alloc: Global,
+    reader: &mut R,
+    limit: usize,
+    turns: u32,
+) -> Result<Vec<u8>, InputError>
+    requires few { R.failed reader.old < 2 ^ 63 }
+    requires limit { limit < 2 ^ 62 }
+    ensures ok { IfOk result (λ v. Reads (R.remaining reader.old) (R.remaining reader.new) v.items) }
+    ensures small { IfOk result (λ v. length v.items ≤ limit) }
+    ensures failed { IsErrOf result InputError.Read → R.failed reader.old < R.failed reader.new }
+    ensures long { IsErrOf result InputError.TooLong → IfSome (R.remaining reader.old) (λ xs. limit < length xs) }
+    ensures few_more { R.failed reader.new ≤ R.failed reader.old + turns }
+{
+    let mut all = Vec::new(alloc);
+    let mut buf = [0u8; 512];
+    for _ in 0..turns {
+        match reader.read_counted(&mut buf) {
+            Ok(0) => return Ok(all),
+            Ok(n) => {
+                if all.extend_from_slice(&buf[..n]).is_err() {
+                    return Err(InputError::Memory);
+                }
+                if all.len() > limit {
+                    return Err(InputError::TooLong);
+                }
+            }
+            Err(e) => {
+                if e.kind() != io::ErrorKind::Interrupted {
+                    return Err(InputError::Read);
+                }
+            }
+        }
+    }
+    Err(InputError::Endless)
+}

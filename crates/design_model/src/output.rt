@@ -1,0 +1,42 @@
+//! Writing all, with a number of interruptions that is borne.
+ghost use Rattle.std.specs.Prelude.{◌≡◌, ◌++◌, ◌+◌, ◌^◌, ◌<◌, ◌≤◌, OnOk, OnErr, length, take};
+ghost use Rattle.std.specs.Io.KnownBytes.{Appends};
+ghost use Rattle.design_model.specs.Known.{WritesPart};
+
+use crate::counted::{CountedWrite, Failures};
+use std::io;
+use std::io::Write;
+
+/// A write failed.
+#[derive(Clone, Copy, Debug, PartialEq, Eq)]
+pub struct WriteFault;
+
+/// Writes all the bytes.
+pub fn write_whole<W: CountedWrite>(
+    out: &mut W,
+    bytes: &[u8],
+    patience: &mut u32,
+) -> Result<(), WriteFault>
+    requires { W.failed out.old + patience.old < 2 ^ 63 }
+    ensures ok { OnOk result (Appends (W.contents out.old) (W.contents out.new) bytes.now) }
+    ensures err { OnErr result (WritesPart (W.contents out.old) (W.contents out.new) bytes.now) }
+    ensures failed { OnErr result (W.failed out.old < W.failed out.new) }
+    ensures rises { W.failed out.old ≤ W.failed out.new }
+    ensures few { W.failed out.new + patience.new ≤ W.failed out.old + patience.old + 1 }
+    ensures few_ok { OnOk result (W.failed out.new + patience.new ≤ W.failed out.old + patience.old) }
+{
+    let mut rest = bytes;
+    while !rest.is_empty() {
+        match out.write_counted(rest) {
+            Ok(0) => return Err(WriteFault),
+            Ok(n) => rest = &rest[n..],
+            Err(e) => {
+                if e.kind() != io::ErrorKind::Interrupted || *patience == 0 {
+                    return Err(WriteFault);
+                }
+                *patience -= 1;
+            }
+        }
+    }
+    Ok(())
+}
