@@ -1,8 +1,13 @@
+pub mod Boundaries
 pub mod Codes
 pub mod Counting
+pub mod Folds
+pub mod Forms
 pub mod Geometry
 pub mod Known
+pub mod Library
 pub mod Order
+pub mod Reading
 pub mod Tokens
 pub mod Units
 pub mod Views
