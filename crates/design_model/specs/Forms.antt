@@ -47,6 +47,14 @@ abbrev pub passes : (ℤ → Bool) → Result ℤ NumFault → Bool
 passes test (Ok n) = test n
 passes test (Err e) = false
 
+-- the number that a word is, and 0 where it is none
+abbrev pub number_or_0 : Result ℤ NumFault → ℤ
+number_or_0 (Ok n) = n
+number_or_0 (Err e) = pos 0
+
+abbrev pub int_of : List ℕ → ℤ
+int_of w = number_or_0 (whole w)
+
 abbrev pub is_int : List ℕ → Bool
 is_int w = passes (λ n. true) (whole w)
 

@@ -1,0 +1,4 @@
+pub mod ClauseLemmas
+pub mod ListSteps
+pub mod PieceLemmas
+pub mod StatementLemmas

@@ -1,0 +1,23 @@
+use Rattle.std.proofs.Common.{◌≡◌, length, ap, ◌∙◌, Ok, Err, ⊎_elim}
+use Rattle.std.proofs.lemmas.Result.{err_from_is_err_and}
+use Rattle.design_model.specs.declared.mode.Mode.{Mode}
+use Rattle.design_model.specs.Tokens.{left_from}
+use Rattle.design_model.specs.Reading.{read_at, nothing_left}
+use Rattle.edit_session.proofs.StatementLemmas.{read_nothing, read_fault, ends_early}
+use Rattle.edit_session.proofs.reading.read_statement.read_statement.Goals as goal
+
+pub returns-in_err-first : goal.returns-in_err-first
+returns-in_err-first c =
+    let p = err_from_is_err_and c.from_residual.result c.from_residual.ensures.1 in
+    rw (p.1, p.2) (read_fault c.args.mode (left_from c.args.text.now c.args.pos) c.in_err-first.field-0.0 c.in_err-first.ensures.steps)
+
+pub returns-in-After : goal.returns-in-After
+returns-in-After c =
+    let s = rw c.in_default.is at c.in_ok-first.ensures.steps in
+    read_nothing c.args.mode (left_from c.args.text.now c.args.pos) (length c.args.text.now) s
+    ∙ ap (λ (m : Mode). nothing_left m (Ok (length c.args.text.now))) c.in-After.is
+
+pub returns-in-Top : goal.returns-in-Top
+returns-in-Top c =
+    let s = rw c.in_default.is at c.in_ok-first.ensures.steps in
+    read_nothing c.args.mode (left_from c.args.text.now c.args.pos) (length c.args.text.now) s ∙ ends_early c.args.mode (length c.args.text.now) c.in-Top.is

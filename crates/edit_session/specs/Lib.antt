@@ -1,0 +1,3 @@
+pub mod ClauseViews
+pub mod Endings
+pub mod StatementViews

@@ -1,0 +1,4 @@
+//! An editor session over a chip design kept as its LEF and DEF text.
+#![tactic(auto)]
+
+pub mod reading;

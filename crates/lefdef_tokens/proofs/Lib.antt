@@ -1,0 +1,5 @@
+pub mod Lexing
+pub mod Finding
+pub mod Joining
+pub mod Moving
+pub mod RunLemmas

@@ -1,0 +1,46 @@
+-- How far white space, comments, words and strings go.
+use Rattle.std.specs.Prelude.{◌≡◌, ◌≢◌, ℕ, ◌+◌, ◌-◌, ◌≤◌, ◌<◌, false, slice_index, MatchOption, Bool, not, ◌&&◌, ◌==◌, List, length, Option, Result, MatchResult}
+use Rattle.std.specs.List.{slice_range}
+use Rattle.memchr.specs.Find.{Nowhere, Passes, is_byte}
+use Rattle.design_model.specs.Tokens.{Piece, is_white, is_refused, closes, before, left_from, only_fault}
+use Rattle.design_model.specs.declared.fault.Fault.{Fault}
+use Rattle.design_model.specs.declared.token_kind.TokenKind.{TokenKind}
+
+-- From a place between two tokens on, reading comes to the returned place of the text, also between two tokens, after the
+-- given tokens; or to nothing but the fault.
+abbrev pub GoesTo : List ℕ → ℕ → (ℕ → List Piece) → Result ℕ Fault → Type 0
+GoesTo text from given r =
+    MatchResult r
+    (λ end. (from ≤ end) × (end ≤ length text) × (left_from text from ≡ before (given end) (left_from text end)))
+    (λ f. left_from text from ≡ only_fault f)
+
+-- end is the first line end from a place on, or the text's length
+pub record IsLineEnd (text : List ℕ) (from end : ℕ) : Type 0 where
+  pub low : from ≤ end
+  pub high : end ≤ length text
+  pub inside : Nowhere (Passes (is_byte 10) text) from end
+  pub here : end < length text → slice_index text end ≡ 10
+
+-- no byte from i up to j ends a string
+abbrev pub GoesOn : List ℕ → ℕ → ℕ → Type 0
+GoesOn text i j = (k : ℕ) → i ≤ k → k < j → closes (slice_index text (k - 1)) (slice_index text k) ≡ false
+
+-- quote ends the string that begins at start
+pub record Closes (text : List ℕ) (start quote : ℕ) : Type 0 where
+  pub low : start < quote
+  pub high : quote < length text
+  pub inside : GoesOn text (start + 1) quote
+  pub here : slice_index text quote ≡ 34
+  pub free : slice_index text (quote - 1) ≢ 92
+
+-- the quote that ends the string that begins at start, if there is one
+abbrev pub IsClosing : List ℕ → ℕ → Option ℕ → Type 0
+IsClosing text start r = MatchOption r (GoesOn text (start + 1) (length text)) (λ quote. Closes text start quote)
+
+-- the byte begins a token
+abbrev pub begins : ℕ → Bool
+begins b = not (is_refused b) && not (is_white b) && not (b == 35)
+
+-- the word, or the string, from start up to end
+abbrev pub piece_at : TokenKind → List ℕ → ℕ → ℕ → Piece
+piece_at kind text start end = record { kind = kind; bytes = slice_range text start end; pos = start }

@@ -1,0 +1,24 @@
+//! Kinds of bytes.
+
+ghost use Rattle.std.specs.Prelude.{◌≡◌, ◌≤◌, ◌<◌, true, false};
+ghost use Rattle.design_model.specs.Tokens.{is_white, is_refused};
+
+pub fn is_white(byte: u8) -> bool
+    ensures { result ≡ is_white byte }
+{
+    matches!(byte, b' ' | b'\t' | b'\r' | b'\n')
+}
+
+pub fn is_refused(byte: u8) -> bool
+    ensures { result ≡ is_refused byte }
+{
+    (byte < 32 && !is_white(byte)) || byte == 127
+}
+
+/// Whether the byte is a printed sign of ASCII: most are, and one comparison finds it.
+pub fn is_sign(byte: u8) -> bool
+    ensures accepted { result ≡ true → is_refused byte ≡ false }
+    ensures black { result ≡ true → is_white byte ≡ false }
+{
+    matches!(byte, b'!'..=b'~')
+}

@@ -1,0 +1,3 @@
+pub mod Rounding
+pub mod Unique
+pub mod Sizes

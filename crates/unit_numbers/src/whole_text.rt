@@ -1,0 +1,29 @@
+//! Whole numbers, as they are written.
+
+ghost use Rattle.std.specs.Prelude.{◌≡◌};
+ghost use Rattle.design_model.specs.Units.{whole};
+
+use crate::digits::{spelled, split_sign};
+use design_model::number::NumFault;
+
+const LIMIT: u64 = 2147483647;
+
+/// The whole number that a word is. A word that is not written as one has the fault `Form`,
+/// and one outside plus or minus 2147483647 the fault `Range`.
+#[tactic(auto, unfolding(design_model::specs::Units::whole))]
+pub fn whole(text: &[u8]) -> Result<i32, NumFault>
+    ensures { result ≡ whole text.now }
+{
+    let (minus, body) = split_sign(text);
+    if body.is_empty() {
+        return Err(NumFault::Form);
+    }
+    let Some(size) = spelled(0, body) else {
+        return Err(NumFault::Form);
+    };
+    if size > LIMIT {
+        return Err(NumFault::Range);
+    }
+    let size = size as i32;
+    Ok(if minus { -size } else { size })
+}
