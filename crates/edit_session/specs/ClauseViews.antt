@@ -4,9 +4,9 @@ use Rattle.design_model.specs.Words.{Rest}
 use Rattle.design_model.specs.Forms.{Coordinates, Clause, placed, unplaced, region, other}
 use Rattle.lefdef_tokens.specs.Views.{rest_of, words_of}
 use Rattle.lefdef_tokens.specs.declared.cursor.Cursor.{Cursor}
-use Rattle.edit_session.specs.declared.reading.clause.Coordinates as code
-use Rattle.edit_session.specs.declared.reading.clause.Clause as code_clause
-use Rattle.edit_session.specs.declared.reading.clause.Clause.TheVariants as variants
+use Rattle.edit_session.specs.declared.def_reader.clause.Coordinates as code
+use Rattle.edit_session.specs.declared.def_reader.clause.Clause as code_clause
+use Rattle.edit_session.specs.declared.def_reader.clause.Clause.TheVariants as variants
 
 abbrev pub point_view : code.Coordinates → Coordinates
 point_view p = record { x = p.x.bytes.now; y = p.y.bytes.now }

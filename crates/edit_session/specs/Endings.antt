@@ -5,8 +5,8 @@ use Rattle.design_model.specs.Tokens.{left_from}
 use Rattle.design_model.specs.Boundaries.{Ending, alone, with_next, up_to, statement_at}
 use Rattle.lefdef_tokens.specs.Views.{pieces_of}
 use Rattle.lefdef_tokens.specs.declared.token_run.TokenRun.{TokenRun}
-use Rattle.edit_session.specs.declared.reading.boundary.Ending as code
-use Rattle.edit_session.specs.declared.reading.boundary.Ending.TheVariants as variants
+use Rattle.edit_session.specs.declared.def_reader.boundary.Ending as code
+use Rattle.edit_session.specs.declared.def_reader.boundary.Ending.TheVariants as variants
 
 abbrev pub ending_view : code.Ending → Ending
 ending_view variants.Alone = alone

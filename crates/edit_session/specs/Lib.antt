@@ -1,3 +1,4 @@
 pub mod ClauseViews
 pub mod Endings
+pub mod LefViews
 pub mod StatementViews

@@ -7,10 +7,10 @@ use Rattle.design_model.specs.Words.{◌>>=◌, Rest}
 use Rattle.design_model.specs.Forms.{Clause, Component, Record, clauses_at, units, header, component, end_section, end_design, kept}
 use Rattle.design_model.specs.Reading.{read_at}
 use Rattle.lefdef_tokens.specs.Views.{rest_of, words_of}
-use Rattle.edit_session.specs.declared.reading.component.ComponentParts.{ComponentParts}
-use Rattle.edit_session.specs.declared.reading.statement.Statement.{Statement}
-use Rattle.edit_session.specs.declared.reading.statement.Statement.TheVariants as variants
-use Rattle.edit_session.specs.declared.reading.statement.Read.{Read}
+use Rattle.edit_session.specs.declared.def_reader.component.ComponentParts.{ComponentParts}
+use Rattle.edit_session.specs.declared.def_reader.statement.Statement.{Statement}
+use Rattle.edit_session.specs.declared.def_reader.statement.Statement.TheVariants as variants
+use Rattle.edit_session.specs.declared.def_reader.statement.Read.{Read}
 
 -- what is left behind something that was read
 abbrev pub behind : {A : Type 0} → Option (A × Rest) → Option Rest

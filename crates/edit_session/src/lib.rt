@@ -1,4 +1,6 @@
 //! An editor session over a chip design kept as its LEF and DEF text.
 #![tactic(auto)]
 
-pub mod reading;
+pub mod cell_library;
+pub mod def_reader;
+pub mod lef_reader;

@@ -1,6 +1,6 @@
 //! What a DEF statement is.
 
-use crate::reading::component::ComponentParts;
+use crate::def_reader::component::ComponentParts;
 use design_model::mode::{Mode, Section};
 use lefdef_tokens::{Token, TokenRun};
 

@@ -6,7 +6,7 @@ ghost use Rattle.design_model.specs.Forms.{point_at, orient_of, placed_at, regio
 ghost use Rattle.lefdef_tokens.specs.Views.{rest_of};
 ghost use Rattle.edit_session.specs.ClauseViews.{point_with_rest, clause_with_rest};
 
-use crate::reading::number::int_at;
+use crate::def_reader::number::int_at;
 use design_model::geometry::{Orient, Status};
 use lefdef_tokens::{Cursor, Token, TokenRun, is_word};
 

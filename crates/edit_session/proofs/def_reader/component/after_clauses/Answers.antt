@@ -5,7 +5,7 @@ use Rattle.lefdef_tokens.specs.Views.{rest_of}
 use Rattle.edit_session.specs.ClauseViews.{clause_view}
 use Rattle.edit_session.specs.StatementViews.{behind}
 use Rattle.edit_session.proofs.ClauseLemmas.{another, misfit, no_more, all_read}
-use Rattle.edit_session.proofs.reading.component.after_clauses.Goals as goal
+use Rattle.edit_session.proofs.def_reader.component.after_clauses.Goals as goal
 
 pub loop-init : goal.loop-init
 loop-init c =

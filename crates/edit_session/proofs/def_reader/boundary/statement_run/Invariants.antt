@@ -4,7 +4,7 @@ use Rattle.design_model.specs.Boundaries.{Ending}
 use Rattle.lefdef_tokens.specs.Views.{piece_of}
 use Rattle.edit_session.specs.Endings.{ending_view}
 use Rattle.edit_session.proofs.StatementLemmas.{Going}
-use Rattle.edit_session.proofs.reading.boundary.statement_run.Given as goal
+use Rattle.edit_session.proofs.def_reader.boundary.statement_run.Given as goal
 
 abbrev pub invariant-loop-done : goal.invariant-loop-done
 invariant-loop-done l = record {

@@ -4,7 +4,7 @@ use Rattle.design_model.specs.declared.fault.FaultCode.TheVariants.{Number}
 use Rattle.design_model.specs.Reading.{fault_at}
 use Rattle.lefdef_tokens.specs.Views.{pieces_of, piece_of}
 use Rattle.edit_session.proofs.PieceLemmas.{left_found, left_past}
-use Rattle.edit_session.proofs.reading.read_statement.number_fault.Goals as goal
+use Rattle.edit_session.proofs.def_reader.read_statement.number_fault.Goals as goal
 
 pub returns-in-Some : goal.returns-in-Some
 returns-in-Some c =

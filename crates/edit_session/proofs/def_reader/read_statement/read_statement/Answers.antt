@@ -4,7 +4,7 @@ use Rattle.design_model.specs.declared.mode.Mode.{Mode}
 use Rattle.design_model.specs.Tokens.{left_from}
 use Rattle.design_model.specs.Reading.{read_at, nothing_left}
 use Rattle.edit_session.proofs.StatementLemmas.{read_nothing, read_fault, ends_early}
-use Rattle.edit_session.proofs.reading.read_statement.read_statement.Goals as goal
+use Rattle.edit_session.proofs.def_reader.read_statement.read_statement.Goals as goal
 
 pub returns-in_err-first : goal.returns-in_err-first
 returns-in_err-first c =

@@ -6,9 +6,9 @@ ghost use Rattle.design_model.specs.declared.fault.FaultCode.TheVariants.{Number
 ghost use Rattle.lefdef_tokens.specs.Views.{pieces_of};
 ghost use Rattle.edit_session.specs.StatementViews.{ReadsStatement};
 
-use crate::reading::boundary::{def_ending, statement_run};
-use crate::reading::form::{form_in, mode_after};
-use crate::reading::statement::Read;
+use crate::def_reader::boundary::{def_ending, statement_run};
+use crate::def_reader::form::{form_in, mode_after};
+use crate::def_reader::statement::Read;
 use design_model::fault::{Fault, FaultCode};
 use design_model::mode::Mode;
 use lefdef_tokens::{TokenRun, token_at};

@@ -5,7 +5,7 @@ use Rattle.design_model.specs.Boundaries.{Ending, is_alone, is_last}
 use Rattle.lefdef_tokens.specs.Views.{piece_of}
 use Rattle.edit_session.specs.Endings.{ending_view}
 use Rattle.edit_session.proofs.StatementLemmas.{Going, going_start, going_on, going_done, going_fault, going_ends}
-use Rattle.edit_session.proofs.reading.boundary.statement_run.Goals as goal
+use Rattle.edit_session.proofs.def_reader.boundary.statement_run.Goals as goal
 
 pub loop-done-init : goal.loop-done-init
 loop-done-init c =
@@ -26,8 +26,8 @@ loop-done-preserved c =
       within = s.1;
       few = omega (arith, s.0, i.few);
       going = λ e same.
-      let g = rw c.loop-done-test.true at i.going e same in
-      rw (c.is_last-done.ensures, sym same) (going_on e (left_from c.args.text.now c.args.pos) (left_from c.args.text.now c.args.second) (left_from c.args.text.now c.loop-done.at) (left_from c.args.text.now c.in-Some.after) (piece_of c.args.first.now) (piece_of c.in-Some.token) c.loop-done.later g s.2);
+          let g = rw c.loop-done-test.true at i.going e same in
+          rw (c.is_last-done.ensures, sym same) (going_on e (left_from c.args.text.now c.args.pos) (left_from c.args.text.now c.args.second) (left_from c.args.text.now c.loop-done.at) (left_from c.args.text.now c.in-Some.after) (piece_of c.args.first.now) (piece_of c.in-Some.token) c.loop-done.later g s.2);
     }
 
 pub returns-in-None-clause-runs : goal.returns-in-None-clause-runs

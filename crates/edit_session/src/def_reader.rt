@@ -2,8 +2,11 @@
 
 pub mod boundary;
 pub mod clause;
+pub mod clauses;
 pub mod component;
 pub mod form;
 pub mod number;
+pub mod read_def;
 pub mod read_statement;
 pub mod statement;
+pub mod statements;

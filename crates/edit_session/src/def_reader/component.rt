@@ -6,8 +6,8 @@ ghost use Rattle.design_model.specs.Forms.{clauses_at, clauses_upto, component_a
 ghost use Rattle.lefdef_tokens.specs.Views.{rest_of};
 ghost use Rattle.edit_session.specs.StatementViews.{behind, record_with_bad};
 
-use crate::reading::clause::{Clause, clause_at};
-use crate::reading::statement::Statement;
+use crate::def_reader::clause::{Clause, clause_at};
+use crate::def_reader::statement::Statement;
 use lefdef_tokens::{Cursor, Token, TokenRun};
 
 /// The parts of an entry of COMPONENTS: its name, its macro, the rest of its fixed part, and the tokens from its first

@@ -6,9 +6,9 @@ ghost use Rattle.design_model.specs.Forms.{units_at, header_at, end_at, section_
 ghost use Rattle.lefdef_tokens.specs.Views.{rest_of, words_of};
 ghost use Rattle.edit_session.specs.StatementViews.{record_view, record_with_bad};
 
-use crate::reading::component::component_at;
-use crate::reading::number::{count_at, scale_at};
-use crate::reading::statement::Statement;
+use crate::def_reader::component::component_at;
+use crate::def_reader::number::{count_at, scale_at};
+use crate::def_reader::statement::Statement;
 use design_model::mode::{Mode, Section};
 use lefdef_tokens::{Cursor, Token, TokenRun, is_quoted, is_word};
 

@@ -1,0 +1,8 @@
+use Rattle.std.proofs.Common.{◌≤◌, ◌-◌, length}
+use Rattle.edit_session.proofs.def_reader.read_def.check_def.Given as goal
+
+abbrev pub invariant-loop-seen : goal.invariant-loop-seen
+invariant-loop-seen g l = l.pos ≤ length l.text
+
+abbrev pub decreases-loop-seen : goal.decreases-loop-seen
+decreases-loop-seen g l = length l.text - l.pos
