@@ -4,3 +4,5 @@
 pub mod cell_library;
 pub mod def_reader;
 pub mod lef_reader;
+pub mod place_checks;
+pub mod report;

@@ -1,0 +1,4 @@
+//! Checks of how components are placed.
+
+pub mod boxes;
+pub mod overlap;

@@ -1,0 +1,51 @@
+//! Reports as lines.
+
+use crate::cell_library::library::Library;
+use crate::place_checks::boxes::boxes_of;
+use crate::place_checks::overlap::overlaps_of;
+use design_model::diagnostic::{Diag, DiagKind, DiagLine, DiagLines, sort_lines};
+use design_model::sequence::Sequence;
+use itoa::Buffer;
+use std::alloc::{AllocError, Allocator};
+use unit_numbers::print;
+
+/// The word that a line begins with.
+fn kind_word(kind: DiagKind) -> &'static [u8] {
+    match kind {
+        DiagKind::Overlap => b"overlap",
+    }
+}
+
+/// A report as a line: its kind, its words and its numbers, parted by spaces.
+fn line_of<A: Allocator + Copy>(alloc: A, diag: &Diag<'_, A>) -> Result<DiagLine<A>, AllocError> {
+    let mut text = Vec::from_slice(alloc, kind_word(diag.kind))?;
+    for word in diag.words.as_slice() {
+        text.push(b' ')?;
+        text.extend_from_slice(word)?;
+    }
+    let mut buffer = Buffer::new();
+    for number in diag.nums.as_slice() {
+        text.push(b' ')?;
+        text.extend_from_slice(print(*number, &mut buffer).as_bytes())?;
+    }
+    Ok(DiagLine {
+        kind: diag.kind,
+        text: Sequence::from_vec(text),
+    })
+}
+
+/// All diagnostics of a text, in the order of their bytes, repeats kept.
+pub fn report<A: Allocator + Copy>(
+    alloc: A,
+    library: &Library<'_, A>,
+    text: &[u8],
+) -> Result<DiagLines<A>, AllocError> {
+    let boxes = boxes_of(alloc, library, text)?;
+    let overlaps = overlaps_of(alloc, &boxes)?;
+    let mut lines = Vec::new(alloc);
+    for diag in &overlaps {
+        lines.push(line_of(alloc, diag)?)?;
+    }
+    sort_lines(&mut lines);
+    Ok(Sequence::from_vec(lines))
+}
