@@ -8,6 +8,7 @@ pub mod Known
 pub mod Library
 pub mod Order
 pub mod Reading
+pub mod Splices
 pub mod Tokens
 pub mod Units
 pub mod Views

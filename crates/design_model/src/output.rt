@@ -11,6 +11,9 @@ use std::io::Write;
 #[derive(Clone, Copy, Debug, PartialEq, Eq)]
 pub struct WriteFault;
 
+/// How often one call bears with a writer that answers Interrupted: the next time the writer has failed.
+pub const MAX_INTERRUPTIONS: u32 = 33554431;
+
 /// Writes all the bytes.
 pub fn write_whole<W: CountedWrite>(
     out: &mut W,

@@ -1,4 +1,5 @@
 pub mod ClauseLemmas
 pub mod ListSteps
 pub mod PieceLemmas
+pub mod SpliceLemmas
 pub mod StatementLemmas

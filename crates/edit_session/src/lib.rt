@@ -3,6 +3,8 @@
 
 pub mod cell_library;
 pub mod def_reader;
+pub mod def_splice;
 pub mod lef_reader;
 pub mod place_checks;
 pub mod report;
+pub mod session;

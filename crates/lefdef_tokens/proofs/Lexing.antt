@@ -5,8 +5,9 @@ use Rattle.std.proofs.lemmas.List.{drop_all}
 use Rattle.std.proofs.lemmas.List.Edits.{between_none, between_more}
 use Rattle.std.proofs.Math.Nat.{eq-or-lt_of_le}
 use Rattle.memchr.specs.Find.{IsFirst, Passes, Nowhere, is_byte}
+use Rattle.std.proofs.lemmas.Bool.Decides.{nat_tests}
 use Rattle.design_model.specs.Tokens.{Open, lex, at_end, before, only_fault, ended_by, next_open, is_white, is_refused, left_from}
-use Rattle.lefdef_tokens.specs.Runs.{begins, piece_at, IsLineEnd, GoesOn, Closes}
+use Rattle.lefdef_tokens.specs.Runs.{begins, stops, piece_at, IsLineEnd, GoesOn, Closes}
 use Rattle.design_model.specs.Tokens.Open.{between, comment, word, string}
 use Rattle.design_model.specs.declared.fault.FaultCode.TheVariants.{RefusedByte, OpenString}
 use Rattle.design_model.specs.declared.token_kind.TokenKind.TheVariants.{Word, Quoted}
@@ -41,8 +42,24 @@ all_not false false false h = (refl, refl, refl)
 begins_parts : (b : ℕ) → begins b ≡ true → (is_refused b ≡ false) × (is_white b ≡ false) × ((b == 35) ≡ false)
 begins_parts b h = all_not (is_refused b) (is_white b) (b == 35) h
 
-between_one : (text : List ℕ) (i : ℕ) → i < length text → slice_range text i (i + 1) ≡ get_or text i 0 ∷ []
+pub between_one : (text : List ℕ) (i : ℕ) → i < length text → slice_range text i (i + 1) ≡ get_or text i 0 ∷ []
 between_one text i lt = between_more text i i 0 (le_refl i) lt ∙ rw (between_none text i) refl
+
+-- a byte at which a word goes on
+pub goes_on : (b : ℕ) → stops 32 b ≡ false → (is_refused b ≡ false) × (is_white b ≡ false)
+goes_on b h = (grind (arith, nat_tests), grind (arith, nat_tests))
+
+-- white space is not refused
+pub white_accepted : (b : ℕ) → is_white b ≡ true → is_refused b ≡ false
+white_accepted b white = grind (arith, nat_tests)
+
+-- a byte at which a word stops
+pub stops_here : (b : ℕ) → stops 32 b ≡ true → is_white b ≡ false → is_refused b ≡ true
+stops_here b h black = grind (arith, nat_tests)
+
+-- a refused byte stops a comment
+pub refused_stops : (b : ℕ) → stops 31 b ≡ false → is_refused b ≡ false
+refused_stops b h = grind (arith, nat_tests)
 
 -- white space between two tokens
 pub white_step : (text : List ℕ) (i : ℕ) → i < length text → is_refused (get_or text i 0) ≡ false → is_white (get_or text i 0) ≡ true
@@ -68,6 +85,16 @@ word_ends text start i lt ok white = lex_step text i (word start (slice_range te
 pub word_ends_text : (text : List ℕ) (start : ℕ)
     → lex (length text) (word start (slice_range text start (length text))) (drop (length text) text) ≡ before (piece_at Word text start (length text) ∷ []) (lex (length text) between (drop (length text) text))
 word_ends_text text start = lex_end text (length text) _ (le_refl (length text)) ∙ ap (before (piece_at Word text start (length text) ∷ [])) (sym (lex_end text (length text) between (le_refl (length text))))
+
+-- a word goes on
+pub word_run : (text : List ℕ) (start n i j : ℕ) → i + n ≡ j → start ≤ i → j ≤ length text → Nowhere (Passes (stops 32) text) i j
+    → lex i (word start (slice_range text start i)) (drop i text) ≡ lex j (word start (slice_range text start j)) (drop j text)
+word_run text start zero i j e low le ok = let same : i ≡ j = omega arith in rw same refl
+word_run text start (suc n) i j e low le ok =
+    let goes = no_true (stops 32 (get_or text i 0)) (ok i (omega arith) (omega arith)) in
+    let sign = goes_on (get_or text i 0) goes in
+    word_grows text start i low (omega arith) sign.0 sign.1
+    ∙ word_run text start n (i + 1) j (omega arith) (omega arith) le (λ k a b. ok k (omega arith) b)
 
 -- a comment goes on
 pub comment_run : (text : List ℕ) (n i j : ℕ) → i + n ≡ j → j ≤ length text → Nowhere (Passes is_refused text) i j → Nowhere (Passes (is_byte 10) text) i j
@@ -112,6 +139,30 @@ string_ends text start i le lt quote plain =
     lex_step text i (string start (slice_range text start i) (get_or text (i - 1) 0)) lt (rw quote refl) ∙ rw (no, quote, between_more text start i 0 le lt, quote) refl
 
 -- what the code's answers say
+word_until : (text : List ℕ) (start p : ℕ) → start < length text → begins (get_or text start 0) ≡ true → (get_or text start 0 ≡ 34 → ⊥) → start + 1 ≤ p → p ≤ length text → Nowhere (Passes (stops 32) text) (start + 1) p
+    → lex start between (drop start text) ≡ lex p (word start (slice_range text start p)) (drop p text)
+word_until text start p lt opens plain low high goes =
+    word_opens text start lt opens plain ∙ word_run text start (p - (start + 1)) (start + 1) p (omega arith) (omega arith) high goes
+
+pub word_before_white : (text : List ℕ) (start p : ℕ) → start < length text → begins (get_or text start 0) ≡ true → (get_or text start 0 ≡ 34 → ⊥) → IsFirst (Passes (stops 32) text) (start + 1) (length text) (Some p) → is_white (get_or text p 0) ≡ true
+    → lex start between (drop start text) ≡ before (piece_at Word text start p ∷ []) (lex p between (drop p text))
+word_before_white text start p lt opens plain stop white =
+    let low = stop.0.low in
+    let high = stop.0.high in
+    word_until text start p lt opens plain low (omega arith) stop.0.before ∙ word_ends text start p high (white_accepted (get_or text p 0) white) white
+
+pub word_refused : (text : List ℕ) (start p : ℕ) → start < length text → begins (get_or text start 0) ≡ true → (get_or text start 0 ≡ 34 → ⊥) → IsFirst (Passes (stops 32) text) (start + 1) (length text) (Some p) → is_white (get_or text p 0) ≡ false
+    → lex start between (drop start text) ≡ only_fault (record { code = RefusedByte; pos = p })
+word_refused text start p lt opens plain stop black =
+    let low = stop.0.low in
+    let high = stop.0.high in
+    word_until text start p lt opens plain low (omega arith) stop.0.before ∙ lex_refused text p _ high (stops_here (get_or text p 0) stop.1 black)
+
+pub word_to_end : (text : List ℕ) (start : ℕ) → start < length text → begins (get_or text start 0) ≡ true → (get_or text start 0 ≡ 34 → ⊥) → IsFirst (Passes (stops 32) text) (start + 1) (length text) None
+    → lex start between (drop start text) ≡ before (piece_at Word text start (length text) ∷ []) (lex (length text) between (drop (length text) text))
+word_to_end text start lt opens plain goes =
+    word_until text start (length text) lt opens plain (omega arith) (le_refl (length text)) goes ∙ word_ends_text text start
+
 pub comment_bad : (text : List ℕ) (start end p : ℕ) → start < length text → get_or text start 0 ≡ 35 → IsLineEnd text (start + 1) end → IsFirst (Passes is_refused text) (start + 1) end (Some p)
     → lex start between (drop start text) ≡ only_fault (record { code = RefusedByte; pos = p })
 comment_bad text start end p lt sign line bad =

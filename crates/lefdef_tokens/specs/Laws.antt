@@ -1,5 +1,6 @@
 -- Laws of the tokens of a text.
-use Rattle.std.specs.Prelude.{◌≡◌, ℕ, ◌+◌, true, List, [], ◌∷◌, ◌++◌, length, Result, Ok, Err, map}
+use Rattle.std.specs.Prelude.{◌≡◌, ◌≤◌, ◌<◌, ℕ, ◌+◌, true, List, [], ◌∷◌, ◌++◌, length, Result, Ok, Err, map}
+use Rattle.std.specs.List.{slice_range}
 use Rattle.design_model.specs.Tokens.{Open, Piece, Lexed, lex, before, next_open, is_white, tokens}
 use Rattle.design_model.specs.declared.fault.Fault.{Fault}
 use Rattle.design_model.specs.Tokens.Open.{between, comment, word, string}
@@ -45,3 +46,17 @@ moved k l = record { pieces = map (moved_piece k) l.pieces; end = moved_end k l.
 -- What is read doesn't depend on where it stands, but for the places.
 abbrev pub TokensMove : Type 0
 TokensMove = (text : List ℕ) (k pos : ℕ) → lex (k + pos) between text ≡ moved k (lex pos between text)
+
+-- The tokens stand in the text one after the other, from a place on, and their bytes are what the text has there.
+abbrev pub StandIn : List ℕ → ℕ → List Piece → Type 0
+StandIn text from [] = Unit {0}
+StandIn text from (p ∷ ps) =
+    (from ≤ p.pos)
+    × (0 < length p.bytes)
+    × (p.pos + length p.bytes ≤ length text)
+    × (p.bytes ≡ slice_range text p.pos (p.pos + length p.bytes))
+    × StandIn text (p.pos + length p.bytes) ps
+
+-- Each token of a text is a slice of it, and begins no earlier than the one before it ends.
+abbrev pub TokensAreSlices : Type 0
+TokensAreSlices = (text : List ℕ) → StandIn text 0 (tokens text).pieces

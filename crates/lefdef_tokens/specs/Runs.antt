@@ -1,5 +1,6 @@
 -- How far white space, comments, words and strings go.
-use Rattle.std.specs.Prelude.{◌≡◌, ◌≢◌, ℕ, ◌+◌, ◌-◌, ◌≤◌, ◌<◌, false, slice_index, MatchOption, Bool, not, ◌&&◌, ◌==◌, List, length, Option, Result, MatchResult}
+use Rattle.std.specs.Prelude.{◌≡◌, ◌≢◌, ℕ, ◌+◌, ◌-◌, ◌≤◌, ◌<◌, ◌↔◌, false, true, slice_index, MatchOption, Bool, not, ◌&&◌, ◌||◌, ◌==◌, nat_le, List, length, Option, Result, MatchResult}
+use Rattle.std.specs.Int.{bit_at}
 use Rattle.std.specs.List.{slice_range}
 use Rattle.memchr.specs.Find.{Nowhere, Passes, is_byte}
 use Rattle.design_model.specs.Tokens.{Piece, is_white, is_refused, closes, before, left_from, only_fault}
@@ -44,3 +45,16 @@ begins b = not (is_refused b) && not (is_white b) && not (b == 35)
 -- the word, or the string, from start up to end
 abbrev pub piece_at : TokenKind → List ℕ → ℕ → ℕ → Piece
 piece_at kind text start end = record { kind = kind; bytes = slice_range text start end; pos = start }
+
+-- the byte is at most low, or delete: a word goes on at any other byte where low is 32, and a comment where it is 31
+abbrev pub stops : ℕ → ℕ → Bool
+stops low b = nat_le b low || b == 127
+
+-- v has 16 lanes, and lane k holds f k
+pub record HasLanes (v : List ℕ) (f : ℕ → ℕ) : Type 0 where
+  pub long : length v ≡ 16
+  pub each : (k : ℕ) → k < 16 → slice_index v k ≡ f k
+
+-- of the 16 bytes from a place on, a mark is set for each that stops
+abbrev pub Marks : ℕ → List ℕ → ℕ → ℕ → Type 0
+Marks low text at marks = (k : ℕ) → (bit_at marks k ≡ 1) ↔ ((k < 16) × (stops low (slice_index text (at + k)) ≡ true))

@@ -1,5 +1,5 @@
 -- Tokens and runs of them in the program, as pieces of a text and as words.
-use Rattle.std.specs.Prelude.{◌≡◌, ◌≤◌, ◌<◌, ℕ, List, [], ◌∷◌, length, take, map, Option, Some, None, Result, Ok, Err, MatchResult, MatchOption}
+use Rattle.std.specs.Prelude.{◌≡◌, ◌≤◌, ◌<◌, ◌+◌, ℕ, List, [], ◌∷◌, length, take, map, Option, Some, None, Result, Ok, Err, MatchResult, MatchOption}
 use Rattle.design_model.specs.Tokens.{Piece, before, left_from, only_fault}
 use Rattle.design_model.specs.Words.{Rest}
 use Rattle.design_model.specs.declared.fault.Fault.{Fault}
@@ -55,3 +55,14 @@ word_of x = (x.0.bytes.now, rest_of x.1)
 -- the words of a run, and what is left after it
 abbrev pub run_of : TokenRun × Cursor → List (List ℕ) × Rest
 run_of x = (words_of x.0, rest_of x.1)
+
+-- a token at or behind a place, and the place right after it
+pub record IsNext (from : ℕ) (t : Token) (after : ℕ) : Type 0 where
+  pub low : from ≤ t.pos
+  pub end : t.pos + length t.bytes.now ≡ after
+
+-- a cursor of the same text, no nearer to its start, with no more tokens left
+pub record IsLater (old new : Cursor) : Type 0 where
+  pub text : new.tokens.text.now ≡ old.tokens.text.now
+  pub further : old.tokens.pos ≤ new.tokens.pos
+  pub fewer : new.tokens.count ≤ old.tokens.count

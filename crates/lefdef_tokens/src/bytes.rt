@@ -14,11 +14,3 @@ pub fn is_refused(byte: u8) -> bool
 {
     (byte < 32 && !is_white(byte)) || byte == 127
 }
-
-/// Whether the byte is a printed sign of ASCII: most are, and one comparison finds it.
-pub fn is_sign(byte: u8) -> bool
-    ensures accepted { result ≡ true → is_refused byte ≡ false }
-    ensures black { result ≡ true → is_white byte ≡ false }
-{
-    matches!(byte, b'!'..=b'~')
-}

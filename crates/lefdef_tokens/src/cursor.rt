@@ -14,10 +14,10 @@ pub struct Cursor<'t> {
 }
 
 impl<'t> Cursor<'t> {
-    ghost use Rattle.std.specs.Prelude.{◌+◌, ◌∷◌, None, IfSome};
+    ghost use Rattle.std.specs.Prelude.{◌+◌, ◌<◌, ◌∷◌, None, IfSome};
     ghost use Rattle.std.specs.List.{slice_range};
     ghost use Rattle.design_model.specs.Words.{Gives, is_done, is_name, is_plain, is_place, is_plus, is_stop, is_word, key, name_at, next_passes, next_word, noted, rest_at, word_that};
-    ghost use Rattle.lefdef_tokens.specs.Views.{piece_of, pieces_of, words_of, rest_of, word_of, run_of};
+    ghost use Rattle.lefdef_tokens.specs.Views.{piece_of, pieces_of, words_of, rest_of, word_of, run_of, IsLater, IsNext};
 
     /// Before the first token of a run.
     pub fn start(run: TokenRun<'t>) -> Cursor<'t>
@@ -32,10 +32,12 @@ impl<'t> Cursor<'t> {
 
     /// The next token.
     pub fn next(self) -> Option<(Token<'t>, Cursor<'t>)>
+        ensures span { IfSome result (λ x. IsNext self.entry.tokens.pos x.0 x.1.tokens.pos) }
+        ensures fewer { IfSome result (λ x. x.1.tokens.count < self.entry.tokens.count) }
         ensures gives { Gives word_of result (next_word (rest_of self.entry)) }
         ensures first { IfSome result (λ x. pieces_of self.entry.tokens ≡ piece_of x.0 ∷ pieces_of x.1.tokens) }
         ensures slice { IfSome result (λ x. x.0.bytes.now ≡ slice_range self.entry.tokens.text.now x.0.pos (x.0.pos + length x.0.bytes.now)) }
-        ensures same { IfSome result (λ x. x.1.tokens.text.now ≡ self.entry.tokens.text.now) }
+        ensures later { IfSome result (λ x. IsLater self.entry x.1) }
     {
         let (token, tokens) = self.tokens.split_first()?;
         Some((token, self.at(tokens)))
@@ -58,7 +60,7 @@ impl<'t> Cursor<'t> {
     /// What comes after this very word.
     pub fn key(self, word: &[u8]) -> Option<Cursor<'t>>
         ensures gives { Gives rest_of result (key word.now (rest_of self.entry)) }
-        ensures same { IfSome result (λ x. x.tokens.text.now ≡ self.entry.tokens.text.now) }
+        ensures later { IfSome result (λ x. IsLater self.entry x) }
     {
         let (token, cursor) = self.next()?;
         if words::is_word(token.bytes, word) {
@@ -73,7 +75,7 @@ impl<'t> Cursor<'t> {
         ensures gives { Gives word_of result (name_at (rest_of self.entry)) }
         ensures first { IfSome result (λ x. pieces_of self.entry.tokens ≡ piece_of x.0 ∷ pieces_of x.1.tokens) }
         ensures slice { IfSome result (λ x. x.0.bytes.now ≡ slice_range self.entry.tokens.text.now x.0.pos (x.0.pos + length x.0.bytes.now)) }
-        ensures same { IfSome result (λ x. x.1.tokens.text.now ≡ self.entry.tokens.text.now) }
+        ensures later { IfSome result (λ x. IsLater self.entry x.1) }
     {
         let (token, cursor) = self.next()?;
         if words::is_name(token.bytes) {
@@ -88,7 +90,7 @@ impl<'t> Cursor<'t> {
         ensures gives { Gives word_of result (word_that is_plain (rest_of self.entry)) }
         ensures first { IfSome result (λ x. pieces_of self.entry.tokens ≡ piece_of x.0 ∷ pieces_of x.1.tokens) }
         ensures slice { IfSome result (λ x. x.0.bytes.now ≡ slice_range self.entry.tokens.text.now x.0.pos (x.0.pos + length x.0.bytes.now)) }
-        ensures same { IfSome result (λ x. x.1.tokens.text.now ≡ self.entry.tokens.text.now) }
+        ensures later { IfSome result (λ x. IsLater self.entry x.1) }
     {
         let (token, cursor) = self.next()?;
         if words::is_plain(token.bytes) {
@@ -103,7 +105,7 @@ impl<'t> Cursor<'t> {
         ensures gives { Gives word_of result (word_that is_place (rest_of self.entry)) }
         ensures first { IfSome result (λ x. pieces_of self.entry.tokens ≡ piece_of x.0 ∷ pieces_of x.1.tokens) }
         ensures slice { IfSome result (λ x. x.0.bytes.now ≡ slice_range self.entry.tokens.text.now x.0.pos (x.0.pos + length x.0.bytes.now)) }
-        ensures same { IfSome result (λ x. x.1.tokens.text.now ≡ self.entry.tokens.text.now) }
+        ensures later { IfSome result (λ x. IsLater self.entry x.1) }
     {
         let (token, cursor) = self.next()?;
         if words::is_place(token.bytes) {
@@ -172,7 +174,7 @@ impl<'t> Cursor<'t> {
     pub fn rest(self) -> (TokenRun<'t>, Cursor<'t>)
         ensures gives { run_of result ≡ rest_at (rest_of self.entry) }
         ensures same_run { result.0.text.now ≡ self.entry.tokens.text.now }
-        ensures same { result.1.tokens.text.now ≡ self.entry.tokens.text.now }
+        ensures later { IsLater self.entry result.1 }
     {
         let mut rest = self.tokens;
         let mut count = 0;

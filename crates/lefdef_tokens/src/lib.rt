@@ -7,12 +7,15 @@ mod laws;
 mod runs;
 mod scanner;
 mod step;
+mod stops;
+#[cfg(test)]
+mod tests;
 mod token;
 mod token_run;
 mod words;
 
 pub use cursor::Cursor;
-pub use laws::{tokens_join, tokens_move};
+pub use laws::{tokens_are_slices, tokens_join, tokens_move};
 pub use scanner::Scanner;
 pub use step::token_at;
 pub use token::Token;

@@ -8,6 +8,7 @@ ghost use Rattle.design_model.specs.declared.fault.FaultCode.TheVariants.{Refuse
 ghost use Rattle.design_model.specs.declared.token_kind.TokenKind.TheVariants.{Word, Quoted};
 
 use crate::bytes::{is_refused, is_white};
+use crate::stops::first_stop;
 use design_model::fault::{Fault, FaultCode};
 use memchr::memchr;
 
@@ -28,10 +29,12 @@ fn find_refused(text: &[u8], from: usize, end: usize) -> Option<usize>
     requires high { end ≤ length text.now }
     ensures { IsFirst (Passes is_refused text.now) from end result }
 {
-    for pos in from..end {
-        if is_refused(text[pos]) {
-            return Some(pos);
+    let mut pos = from;
+    while let Some(stop) = first_stop(text, pos, end, 31) {
+        if is_refused(text[stop]) {
+            return Some(stop);
         }
+        pos = stop + 1;
     }
     None
 }
@@ -79,13 +82,12 @@ pub fn token_start(text: &[u8], from: usize) -> Result<usize, Fault>
     let mut pos = from;
     while pos < text.len() {
         let byte = text[pos];
-        if is_refused(byte) {
-            return Err(refused(pos));
-        }
-        if byte == b'#' {
-            pos = comment_end(text, pos)?;
-        } else if is_white(byte) {
+        if is_white(byte) {
             pos += 1;
+        } else if byte == b'#' {
+            pos = comment_end(text, pos)?;
+        } else if is_refused(byte) {
+            return Err(refused(pos));
         } else {
             return Ok(pos);
         }
@@ -101,15 +103,16 @@ pub fn word_end(text: &[u8], start: usize) -> Result<usize, Fault>
     ensures goes { GoesTo text.now start (λ end. piece_at Word text.now start end ∷ []) result }
     ensures further { IfOk result (λ end. start < end) }
 {
-    for pos in start + 1..text.len() {
-        if is_refused(text[pos]) {
-            return Err(refused(pos));
+    match first_stop(text, start + 1, text.len(), b' ') {
+        Some(pos) => {
+            if is_white(text[pos]) {
+                Ok(pos)
+            } else {
+                Err(refused(pos))
+            }
         }
-        if is_white(text[pos]) {
-            return Ok(pos);
-        }
+        None => Ok(text.len()),
     }
-    Ok(text.len())
 }
 
 /// The quote that ends the string that begins at `start`.

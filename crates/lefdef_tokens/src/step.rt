@@ -2,7 +2,7 @@
 
 ghost use Rattle.std.specs.Prelude.{◌≡◌, ◌≤◌, ◌+◌, length, IfOk, IfSome};
 ghost use Rattle.std.specs.List.{slice_range};
-ghost use Rattle.lefdef_tokens.specs.Views.{Steps};
+ghost use Rattle.lefdef_tokens.specs.Views.{Steps, IsNext};
 
 use crate::runs::{string_end, token_start, word_end};
 use crate::token::Token;
@@ -14,6 +14,7 @@ pub fn token_at<'t>(text: &'t [u8], pos: usize) -> Result<Option<(Token<'t>, usi
     requires { pos ≤ length text.now }
     ensures steps { Steps text.now pos result }
     ensures slice { IfOk result (λ found. IfSome found (λ x. x.0.bytes.now ≡ slice_range text.now x.0.pos (x.0.pos + length x.0.bytes.now))) }
+    ensures span { IfOk result (λ found. IfSome found (λ x. IsNext pos x.0 x.1)) }
 {
     let start = token_start(text, pos)?;
     if start == text.len() {

@@ -5,6 +5,7 @@ ghost use Rattle.design_model.specs.Tokens.{left_from};
 
 use crate::step::token_at;
 use crate::token::Token;
+use design_model::fault::Fault;
 
 /// So many tokens of a text, from a place between two tokens on.
 #[derive(Clone, Copy)]
@@ -17,10 +18,30 @@ pub struct TokenRun<'t> {
 }
 
 impl<'t> TokenRun<'t> {
-    ghost use Rattle.std.specs.Prelude.{◌+◌, ◌<◌, ◌↔◌, [], take, IfSome, IsNone, IsTrue};
+    ghost use Rattle.std.specs.Prelude.{◌+◌, ◌<◌, ◌↔◌, [], take, Ok, Err, IfOk, MatchResult, IfSome, IsNone, IsTrue};
     ghost use Rattle.std.specs.List.{slice_range, slice_get};
+    ghost use Rattle.design_model.specs.Tokens.{tokens};
     ghost use Rattle.design_model.specs.Words.{Gives};
-    ghost use Rattle.lefdef_tokens.specs.Views.{piece_of, pieces_of, words_of, split_of, words_split_of, uncons};
+    ghost use Rattle.lefdef_tokens.specs.Views.{piece_of, pieces_of, words_of, split_of, words_split_of, uncons, IsNext};
+
+    /// All tokens of a text.
+    pub fn of_text(text: &'t [u8]) -> Result<TokenRun<'t>, Fault>
+        ensures end { MatchResult result (λ run. (tokens text.now).end ≡ Ok (length text.now)) (λ fault. (tokens text.now).end ≡ Err fault) }
+        ensures gives { IfOk result (λ run. pieces_of run ≡ (tokens text.now).pieces) }
+        ensures same { IfOk result (λ run. run.text.now ≡ text.now) }
+    {
+        let mut pos = 0;
+        let mut count = 0;
+        while let Some((_, end)) = token_at(text, pos)? {
+            count += 1;
+            pos = end;
+        }
+        Ok(TokenRun {
+            text,
+            pos: 0,
+            count,
+        })
+    }
 
     /// The first token, and the tokens after it.
     pub fn split_first(self) -> Option<(Token<'t>, TokenRun<'t>)>
@@ -29,6 +50,7 @@ impl<'t> TokenRun<'t> {
         ensures none { IsNone result ↔ (self.entry.count ≡ 0) }
         ensures slice { IfSome result (λ x. x.0.bytes.now ≡ slice_range self.entry.text.now x.0.pos (x.0.pos + length x.0.bytes.now)) }
         ensures same { IfSome result (λ x. x.1.text.now ≡ self.entry.text.now) }
+        ensures span { IfSome result (λ x. IsNext self.entry.pos x.0 x.1.pos) }
         ensures count { IfSome result (λ x. x.1.count + 1 ≡ self.entry.count) }
     {
         if self.count == 0 {

@@ -20,6 +20,7 @@ loop-token-preserved c =
       left = drop_on (words_of run) rest c.loop-token.count word later c.loop-token.invariant.left c.in-Some.ensures.words;
       split = stop_more (words_of run) rest c.loop-token.count word later c.loop-token.invariant.left c.in-Some.ensures.words (sym c.is_stop.ensures ∙ c.if-is_stop.false) c.loop-token.invariant.split;
       same = c.in-Some.ensures.same ∙ c.loop-token.invariant.same;
+      further = omega (arith, c.in-Some.ensures.span.low, c.in-Some.ensures.span.end, c.loop-token.invariant.further);
     }
 
 pub returns-clause-gives : goal.returns-clause-gives
@@ -27,3 +28,15 @@ returns-clause-gives c =
     let run = c.args.self.tokens in
     let e = stop_none (words_of run) (words_of c.loop-token.rest) c.loop-token.count c.loop-token.invariant.left c.in_default.ensures.words c.loop-token.invariant.split in
     rw (e, c.at-2.ensures.tokens, c.at-2.ensures.bad) refl
+
+pub returns-then-is_stop-clause-later : goal.returns-then-is_stop-clause-later
+returns-then-is_stop-clause-later c =
+    let i = c.loop-token.invariant in
+    let together = i.together in
+    rw (c.at.ensures.tokens) (record { text = i.same; further = i.further; fewer = omega arith })
+
+pub returns-clause-later : goal.returns-clause-later
+returns-clause-later c =
+    let i = c.loop-token.invariant in
+    let together = i.together in
+    rw (c.at-2.ensures.tokens) (record { text = i.same; further = i.further; fewer = omega arith })

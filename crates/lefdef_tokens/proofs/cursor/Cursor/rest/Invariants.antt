@@ -1,4 +1,4 @@
-use Rattle.std.proofs.Common.{◌≡◌, ◌+◌, take, drop}
+use Rattle.std.proofs.Common.{◌≡◌, ◌≤◌, ◌+◌, take, drop}
 use Rattle.design_model.specs.Words.{until_stop}
 use Rattle.lefdef_tokens.specs.Views.{words_of}
 use Rattle.lefdef_tokens.proofs.RunLemmas.{with_front}
@@ -10,6 +10,7 @@ invariant-loop-token l = record {
   left : drop l.count (words_of l.self.tokens) ≡ words_of l.rest;
   split : until_stop (words_of l.self.tokens) ≡ with_front (take l.count (words_of l.self.tokens)) (until_stop (words_of l.rest));
   same : l.rest.text.now ≡ l.self.tokens.text.now;
+  further : l.self.tokens.pos ≤ l.rest.pos;
 }
 
 abbrev pub decreases-loop-token : goal.decreases-loop-token
