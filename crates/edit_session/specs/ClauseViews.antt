@@ -6,6 +6,7 @@ use Rattle.lefdef_tokens.specs.Views.{rest_of, words_of}
 use Rattle.lefdef_tokens.specs.declared.cursor.Cursor.{Cursor}
 use Rattle.edit_session.specs.declared.def_reader.clause.Coordinates as code
 use Rattle.edit_session.specs.declared.def_reader.clause.Clause as code_clause
+use Rattle.edit_session.specs.declared.def_reader.clause.LocatedClause as code_located
 use Rattle.edit_session.specs.declared.def_reader.clause.Clause.TheVariants as variants
 
 abbrev pub point_view : code.Coordinates → Coordinates
@@ -22,3 +23,6 @@ point_with_rest x = (point_view x.0, rest_of x.1)
 
 abbrev pub clause_with_rest : code_clause.Clause × Cursor → Clause × Rest
 clause_with_rest x = (clause_view x.0, rest_of x.1)
+
+abbrev pub located_with_rest : code_located.LocatedClause × Cursor → Clause × Rest
+located_with_rest x = (clause_view x.0.clause, rest_of x.1)

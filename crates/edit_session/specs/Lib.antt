@@ -2,3 +2,4 @@ pub mod ClauseViews
 pub mod Endings
 pub mod LefViews
 pub mod StatementViews
+pub mod Targets

@@ -42,3 +42,12 @@ ReadsStatement mode text pos r =
     (λ found. MatchOption found (read_at mode (left_from text pos) ≡ Ok None)
     (λ x. (pos < x.end) × (x.end ≤ length text) × (read_at mode (left_from text pos) ≡ Ok (Some (record_view x.statement, x.mode, left_from text x.end)))))
     (λ f. read_at mode (left_from text pos) ≡ Err f)
+
+-- the clauses of a component are those of a text
+abbrev pub HasText : List ℕ → Statement → Type 0
+HasText text (variants.Units n) = Unit {0}
+HasText text (variants.Header s n) = Unit {0}
+HasText text (variants.Component parts) = parts.clauses.tokens.text.now ≡ text
+HasText text (variants.EndSection s) = Unit {0}
+HasText text variants.EndDesign = Unit {0}
+HasText text (variants.Kept run) = Unit {0}

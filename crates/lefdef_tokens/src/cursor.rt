@@ -87,6 +87,8 @@ impl<'t> Cursor<'t> {
 
     /// A word that begins no clause and ends no statement.
     pub fn plain_word(self) -> Option<(Token<'t>, Cursor<'t>)>
+        ensures span { IfSome result (λ x. IsNext self.entry.tokens.pos x.0 x.1.tokens.pos) }
+        ensures fewer { IfSome result (λ x. x.1.tokens.count < self.entry.tokens.count) }
         ensures gives { Gives word_of result (word_that is_plain (rest_of self.entry)) }
         ensures first { IfSome result (λ x. pieces_of self.entry.tokens ≡ piece_of x.0 ∷ pieces_of x.1.tokens) }
         ensures slice { IfSome result (λ x. x.0.bytes.now ≡ slice_range self.entry.tokens.text.now x.0.pos (x.0.pos + length x.0.bytes.now)) }

@@ -1,10 +1,10 @@
 //! Clauses of an entry of COMPONENTS (LEF/DEF 5.8 Language Reference, "Components").
 
-ghost use Rattle.std.specs.Prelude.{◌≡◌};
+ghost use Rattle.std.specs.Prelude.{◌≡◌, ◌≤◌, ◌<◌, IfSome};
 ghost use Rattle.design_model.specs.Words.{Gives};
 ghost use Rattle.design_model.specs.Forms.{point_at, orient_of, placed_at, region_at, clause_by, clause_at};
-ghost use Rattle.lefdef_tokens.specs.Views.{rest_of};
-ghost use Rattle.edit_session.specs.ClauseViews.{point_with_rest, clause_with_rest};
+ghost use Rattle.lefdef_tokens.specs.Views.{rest_of, IsLater};
+ghost use Rattle.edit_session.specs.ClauseViews.{point_with_rest, clause_with_rest, located_with_rest};
 
 use crate::def_reader::number::int_at;
 use design_model::geometry::{Orient, Status};
@@ -29,7 +29,8 @@ pub enum Clause<'t> {
 /// `( x y )`
 #[tactic(auto, unfolding(design_model::specs::Forms::point_at))]
 fn point_at<'t>(cursor: Cursor<'t>) -> Option<(Coordinates<'t>, Cursor<'t>)>
-    ensures { Gives point_with_rest result (point_at (rest_of cursor.entry)) }
+    ensures gives { Gives point_with_rest result (point_at (rest_of cursor.entry)) }
+    ensures later { IfSome result (λ x. IsLater cursor.entry x.1) }
 {
     let cursor = cursor.key(b"(")?;
     let (x, cursor) = int_at(cursor)?;
@@ -66,7 +67,8 @@ pub fn orient_of(word: &[u8]) -> Option<Orient>
 
 #[tactic(auto, unfolding(design_model::specs::Forms::placed_at))]
 fn placed_at<'t>(status: Status, cursor: Cursor<'t>) -> Option<(Clause<'t>, Cursor<'t>)>
-    ensures { Gives clause_with_rest result (placed_at status (rest_of cursor.entry)) }
+    ensures gives { Gives clause_with_rest result (placed_at status (rest_of cursor.entry)) }
+    ensures later { IfSome result (λ x. IsLater cursor.entry x.1) }
 {
     let (at, cursor) = point_at(cursor)?;
     let (token, cursor) = cursor.next()?;
@@ -79,7 +81,8 @@ fn placed_at<'t>(status: Status, cursor: Cursor<'t>) -> Option<(Clause<'t>, Curs
 
 #[tactic(auto, unfolding(design_model::specs::Forms::region_at))]
 fn region_at<'t>(cursor: Cursor<'t>) -> Option<(Clause<'t>, Cursor<'t>)>
-    ensures { Gives clause_with_rest result (region_at (rest_of cursor.entry)) }
+    ensures gives { Gives clause_with_rest result (region_at (rest_of cursor.entry)) }
+    ensures later { IfSome result (λ x. IsLater cursor.entry x.1) }
 {
     let (name, cursor) = cursor.name()?;
     if !cursor.next_is_stop() {
@@ -91,7 +94,8 @@ fn region_at<'t>(cursor: Cursor<'t>) -> Option<(Clause<'t>, Cursor<'t>)>
 /// A clause by its word, in the form of a listed one.
 #[tactic(auto, unfolding(design_model::specs::Forms::clause_by))]
 fn clause_by<'t>(word: Token<'t>, cursor: Cursor<'t>) -> Option<(Clause<'t>, Cursor<'t>)>
-    ensures { Gives clause_with_rest result (clause_by word.entry.bytes.now (rest_of cursor.entry)) }
+    ensures gives { Gives clause_with_rest result (clause_by word.entry.bytes.now (rest_of cursor.entry)) }
+    ensures later { IfSome result (λ x. IsLater cursor.entry x.1) }
 {
     if is_word(word.bytes, b"PLACED") {
         placed_at(Status::Placed, cursor)
@@ -110,12 +114,30 @@ fn clause_by<'t>(word: Token<'t>, cursor: Cursor<'t>) -> Option<(Clause<'t>, Cur
     }
 }
 
+/// A clause with its place: from its word, behind the `+`, up to the end of its last token.
+#[derive(Clone, Copy)]
+pub struct LocatedClause<'t> {
+    pub clause: Clause<'t>,
+    pub lo: usize,
+    pub hi: usize,
+}
+
 /// `+ word rest`
 #[tactic(auto, unfolding(design_model::specs::Forms::clause_at))]
-pub fn clause_at<'t>(cursor: Cursor<'t>) -> Option<(Clause<'t>, Cursor<'t>)>
-    ensures { Gives clause_with_rest result (clause_at (rest_of cursor.entry)) }
+pub fn clause_at<'t>(cursor: Cursor<'t>) -> Option<(LocatedClause<'t>, Cursor<'t>)>
+    ensures gives { Gives located_with_rest result (clause_at (rest_of cursor.entry)) }
+    ensures later { IfSome result (λ x. IsLater cursor.entry x.1) }
+    ensures fewer { IfSome result (λ x. x.1.tokens.count < cursor.entry.tokens.count) }
+    ensures order { IfSome result (λ x. x.0.lo ≤ x.0.hi) }
+    ensures end { IfSome result (λ x. x.0.hi ≡ x.1.tokens.pos) }
 {
-    let cursor = cursor.key(b"+")?;
-    let (word, cursor) = cursor.plain_word()?;
-    clause_by(word, cursor)
+    let behind = cursor.key(b"+")?;
+    let (word, rest) = behind.plain_word()?;
+    let (clause, later) = clause_by(word, rest)?;
+    let located = LocatedClause {
+        clause,
+        lo: word.pos,
+        hi: later.tokens.pos,
+    };
+    Some((located, later))
 }

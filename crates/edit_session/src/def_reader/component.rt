@@ -1,10 +1,10 @@
 //! Entries of COMPONENTS (LEF/DEF 5.8 Language Reference, "Components").
 
-ghost use Rattle.std.specs.Prelude.{◌≡◌, true, is_some, length};
+ghost use Rattle.std.specs.Prelude.{◌≡◌, IfSome};
 ghost use Rattle.design_model.specs.Words.{Gives};
-ghost use Rattle.design_model.specs.Forms.{clauses_at, clauses_upto, component_at};
-ghost use Rattle.lefdef_tokens.specs.Views.{rest_of};
-ghost use Rattle.edit_session.specs.StatementViews.{behind, record_with_bad};
+ghost use Rattle.design_model.specs.Forms.{clauses_at, component_at};
+ghost use Rattle.lefdef_tokens.specs.Views.{rest_of, IsLater};
+ghost use Rattle.edit_session.specs.StatementViews.{behind, record_with_bad, HasText};
 
 use crate::def_reader::clause::{Clause, clause_at};
 use crate::def_reader::statement::Statement;
@@ -22,7 +22,8 @@ pub struct ComponentParts<'t> {
 
 /// What comes after all clauses.
 fn after_clauses<'t>(cursor: Cursor<'t>) -> Option<Cursor<'t>>
-    ensures { Gives rest_of result (behind (clauses_at (rest_of cursor.entry))) }
+    ensures gives { Gives rest_of result (behind (clauses_at (rest_of cursor.entry))) }
+    ensures later { IfSome result (λ x. IsLater cursor.entry x) }
 {
     let count = cursor.len();
     let mut left = cursor;
@@ -39,7 +40,8 @@ fn after_clauses<'t>(cursor: Cursor<'t>) -> Option<Cursor<'t>>
 /// An entry behind its `-`.
 #[tactic(auto, unfolding(design_model::specs::Forms::component_at))]
 pub fn component_at<'t>(cursor: Cursor<'t>) -> Option<(Statement<'t>, Option<usize>)>
-    ensures { Gives record_with_bad result (component_at (rest_of cursor.entry)) }
+    ensures gives { Gives record_with_bad result (component_at (rest_of cursor.entry)) }
+    ensures text { IfSome result (λ x. HasText cursor.entry.tokens.text.now x.0) }
 {
     let (name, cursor) = cursor.name()?;
     let (cell, cursor) = cursor.name()?;

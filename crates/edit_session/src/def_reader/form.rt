@@ -1,10 +1,10 @@
 //! The forms of DEF statements, by their mode (LEF/DEF 5.8 Language Reference, "DEF Syntax").
 
-ghost use Rattle.std.specs.Prelude.{◌≡◌, ◌∷◌};
+ghost use Rattle.std.specs.Prelude.{◌≡◌, ◌∷◌, IfSome};
 ghost use Rattle.design_model.specs.Words.{Gives};
 ghost use Rattle.design_model.specs.Forms.{units_at, header_at, end_at, section_of, begins_none, section_form, header_or_kept, top_form, components_form, entry_form, form_in, mode_after};
 ghost use Rattle.lefdef_tokens.specs.Views.{rest_of, words_of};
-ghost use Rattle.edit_session.specs.StatementViews.{record_view, record_with_bad};
+ghost use Rattle.edit_session.specs.StatementViews.{record_view, record_with_bad, HasText};
 
 use crate::def_reader::component::component_at;
 use crate::def_reader::number::{count_at, scale_at};
@@ -15,7 +15,8 @@ use lefdef_tokens::{Cursor, Token, TokenRun, is_quoted, is_word};
 /// `UNITS DISTANCE MICRONS int ;`
 #[tactic(auto, unfolding(design_model::specs::Forms::units_at))]
 fn units_at<'t>(cursor: Cursor<'t>) -> Option<(Statement<'t>, Option<usize>)>
-    ensures { Gives record_with_bad result (units_at (rest_of cursor.entry)) }
+    ensures gives { Gives record_with_bad result (units_at (rest_of cursor.entry)) }
+    ensures text { IfSome result (λ x. HasText cursor.entry.tokens.text.now x.0) }
 {
     let cursor = cursor.key(b"DISTANCE")?;
     let cursor = cursor.key(b"MICRONS")?;
@@ -30,7 +31,8 @@ fn units_at<'t>(cursor: Cursor<'t>) -> Option<(Statement<'t>, Option<usize>)>
 /// A section's header behind its name.
 #[tactic(auto, unfolding(design_model::specs::Forms::header_at))]
 fn header_at<'t>(section: Section, cursor: Cursor<'t>) -> Option<(Statement<'t>, Option<usize>)>
-    ensures { Gives record_with_bad result (header_at section (rest_of cursor.entry)) }
+    ensures gives { Gives record_with_bad result (header_at section (rest_of cursor.entry)) }
+    ensures text { IfSome result (λ x. HasText cursor.entry.tokens.text.now x.0) }
 {
     let (number, cursor) = count_at(cursor)?;
     let cursor = cursor.key(b";")?;
@@ -47,7 +49,8 @@ fn end_at<'t>(
     statement: Statement<'t>,
     cursor: Cursor<'t>,
 ) -> Option<(Statement<'t>, Option<usize>)>
-    ensures { Gives record_with_bad result (end_at word.now (record_view statement.entry) (rest_of cursor.entry)) }
+    ensures gives { Gives record_with_bad result (end_at word.now (record_view statement.entry) (rest_of cursor.entry)) }
+    ensures same { IfSome result (λ x. x.0 ≡ statement.entry) }
 {
     let cursor = cursor.key(word)?;
     if !cursor.is_done() {
@@ -109,7 +112,8 @@ fn begins_none(word: &[u8]) -> bool
 
 /// A section's header, where sections of its kind are read.
 fn section_form<'t>(section: Section, later: TokenRun<'t>) -> Option<(Statement<'t>, Option<usize>)>
-    ensures { Gives record_with_bad result (section_form section (words_of later.entry)) }
+    ensures gives { Gives record_with_bad result (section_form section (words_of later.entry)) }
+    ensures text { IfSome result (λ x. HasText later.entry.text.now x.0) }
 {
     match section {
         Section::Components => header_at(Section::Components, Cursor::start(later)),
@@ -124,7 +128,8 @@ fn header_or_kept<'t>(
     later: TokenRun<'t>,
 ) -> Option<(Statement<'t>, Option<usize>)>
     requires { words_of all ≡ first.now.bytes.now ∷ words_of later }
-    ensures { Gives record_with_bad result (header_or_kept (section_of first.now.bytes.now) first.now.bytes.now (words_of later.entry)) }
+    ensures gives { Gives record_with_bad result (header_or_kept (section_of first.now.bytes.now) first.now.bytes.now (words_of later.entry)) }
+    ensures text { IfSome result (λ x. HasText later.entry.text.now x.0) }
 {
     match section_of(first.bytes) {
         Some(section) => section_form(section, later),
@@ -146,7 +151,8 @@ fn top_form<'t>(
     later: TokenRun<'t>,
 ) -> Option<(Statement<'t>, Option<usize>)>
     requires { words_of all ≡ first.now.bytes.now ∷ words_of later }
-    ensures { Gives record_with_bad result (top_form first.now.bytes.now (words_of later.entry)) }
+    ensures gives { Gives record_with_bad result (top_form first.now.bytes.now (words_of later.entry)) }
+    ensures text { IfSome result (λ x. HasText later.entry.text.now x.0) }
 {
     if is_word(first.bytes, b"UNITS") {
         units_at(Cursor::start(later))
@@ -163,7 +169,8 @@ fn components_form<'t>(
     first: &Token<'t>,
     later: TokenRun<'t>,
 ) -> Option<(Statement<'t>, Option<usize>)>
-    ensures { Gives record_with_bad result (components_form first.now.bytes.now (words_of later.entry)) }
+    ensures gives { Gives record_with_bad result (components_form first.now.bytes.now (words_of later.entry)) }
+    ensures text { IfSome result (λ x. HasText later.entry.text.now x.0) }
 {
     if is_word(first.bytes, b"END") {
         end_at(
@@ -184,7 +191,8 @@ fn entry_form<'t>(
     first: &Token<'t>,
     later: TokenRun<'t>,
 ) -> Option<(Statement<'t>, Option<usize>)>
-    ensures { Gives record_with_bad result (entry_form section first.now.bytes.now (words_of later.entry)) }
+    ensures gives { Gives record_with_bad result (entry_form section first.now.bytes.now (words_of later.entry)) }
+    ensures text { IfSome result (λ x. HasText later.entry.text.now x.0) }
 {
     match section {
         Section::Components => components_form(first, later),
@@ -201,7 +209,8 @@ pub fn form_in<'t>(
     later: TokenRun<'t>,
 ) -> Option<(Statement<'t>, Option<usize>)>
     requires { words_of all ≡ first.now.bytes.now ∷ words_of later }
-    ensures { Gives record_with_bad result (form_in mode first.now.bytes.now (words_of later.entry)) }
+    ensures gives { Gives record_with_bad result (form_in mode first.now.bytes.now (words_of later.entry)) }
+    ensures text { IfSome result (λ x. HasText later.entry.text.now x.0) }
 {
     match mode {
         Mode::Top => top_form(all, first, later),

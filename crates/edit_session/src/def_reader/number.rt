@@ -3,7 +3,7 @@
 ghost use Rattle.std.specs.Prelude.{◌≡◌, IfSome};
 ghost use Rattle.design_model.specs.Words.{Gives, number_at};
 ghost use Rattle.design_model.specs.Forms.{is_int, is_scale, is_count, int_of};
-ghost use Rattle.lefdef_tokens.specs.Views.{rest_of, word_of};
+ghost use Rattle.lefdef_tokens.specs.Views.{rest_of, word_of, IsLater};
 
 use lefdef_tokens::{Cursor, Token};
 use unit_numbers::whole;
@@ -49,7 +49,7 @@ pub fn int_of(word: &[u8]) -> i32
 #[tactic(auto, unfolding(design_model::specs::Words::number_at))]
 pub fn int_at<'t>(cursor: Cursor<'t>) -> Option<(Token<'t>, Cursor<'t>)>
     ensures gives { Gives word_of result (number_at is_int (rest_of cursor.entry)) }
-    ensures same { IfSome result (λ x. x.1.tokens.text.now ≡ cursor.entry.tokens.text.now) }
+    ensures later { IfSome result (λ x. IsLater cursor.entry x.1) }
 {
     let (token, later) = cursor.place()?;
     let good = is_int(token.bytes);
@@ -60,7 +60,7 @@ pub fn int_at<'t>(cursor: Cursor<'t>) -> Option<(Token<'t>, Cursor<'t>)>
 #[tactic(auto, unfolding(design_model::specs::Words::number_at))]
 pub fn scale_at<'t>(cursor: Cursor<'t>) -> Option<(Token<'t>, Cursor<'t>)>
     ensures gives { Gives word_of result (number_at is_scale (rest_of cursor.entry)) }
-    ensures same { IfSome result (λ x. x.1.tokens.text.now ≡ cursor.entry.tokens.text.now) }
+    ensures later { IfSome result (λ x. IsLater cursor.entry x.1) }
 {
     let (token, later) = cursor.place()?;
     let good = is_scale(token.bytes);
@@ -71,7 +71,7 @@ pub fn scale_at<'t>(cursor: Cursor<'t>) -> Option<(Token<'t>, Cursor<'t>)>
 #[tactic(auto, unfolding(design_model::specs::Words::number_at))]
 pub fn count_at<'t>(cursor: Cursor<'t>) -> Option<(Token<'t>, Cursor<'t>)>
     ensures gives { Gives word_of result (number_at is_count (rest_of cursor.entry)) }
-    ensures same { IfSome result (λ x. x.1.tokens.text.now ≡ cursor.entry.tokens.text.now) }
+    ensures later { IfSome result (λ x. IsLater cursor.entry x.1) }
 {
     let (token, later) = cursor.place()?;
     let good = is_count(token.bytes);

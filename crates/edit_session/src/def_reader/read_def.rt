@@ -1,7 +1,7 @@
 //! The faults of a whole DEF text.
 
 ghost use Rattle.edit_session.specs.declared.def_reader.read_def.ReadError.TheVariants.{Memory};
-ghost use Rattle.std.specs.Prelude.{◌≡◌};
+ghost use Rattle.std.specs.Prelude.{◌≡◌, ◌≤◌, length, OnOk};
 
 use crate::def_reader::read_statement::read_statement;
 use crate::def_reader::statement::{Read, Statement};
@@ -99,7 +99,9 @@ fn start_of(read: &Read<'_>) -> usize {
 }
 
 /// Reads a whole text for its fault: of its length, of its first statement that has one, or of a missing `UNITS`.
-pub fn check_def<A: Allocator + Copy>(alloc: A, text: &[u8]) -> Result<(), ReadError> {
+pub fn check_def<A: Allocator + Copy>(alloc: A, text: &[u8]) -> Result<(), ReadError>
+    ensures fits { OnOk result (length text.now ≤ MAX_TEXT) }
+{
     if text.len() > MAX_TEXT {
         return Err(ReadError::Fault(Fault {
             code: FaultCode::TooLong,

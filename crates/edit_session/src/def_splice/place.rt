@@ -1,6 +1,7 @@
 //! The splice that places a component.
 
 ghost use Rattle.std.specs.Prelude.{◌≤◌, length, IfOk};
+ghost use Rattle.edit_session.specs.Targets.{IsWithin};
 
 use crate::def_reader::clause::Clause;
 use crate::def_reader::clauses::Clauses;
@@ -8,7 +9,7 @@ use crate::def_reader::component::ComponentParts;
 use crate::def_splice::entry::component_named;
 use design_model::edit::{EditCode, EditRefusal, Splice};
 use design_model::geometry::{Orient, Status};
-use design_model::sequence::Sequence;
+use design_model::sequence::{Bytes, Sequence};
 use itoa::Buffer;
 use std::alloc::{AllocError, Allocator};
 use unit_numbers::print;
@@ -25,7 +26,9 @@ enum Target {
 }
 
 /// Where the placement of an entry goes: its first clause that gives one, or else its end.
-fn target_of(parts: &ComponentParts<'_>) -> Target {
+fn target_of(parts: &ComponentParts<'_>) -> Target
+    ensures { IsWithin parts.now.clauses.tokens.text.now result }
+{
     let mut clauses = Clauses::new(parts.clauses);
     let mut end = clauses.end();
     while let Some(located) = clauses.next() {
@@ -57,20 +60,27 @@ pub fn orient_word(orient: Orient) -> &'static [u8] {
     }
 }
 
-/// Puts `PLACED ( x y ) o` behind some bytes.
-fn push_placed<A: Allocator>(
-    put: &mut Vec<u8, A>,
+/// The bytes `PLACED ( x y ) o` behind a lead, with a space behind them where they would be glued to what follows.
+fn placed_text<A: Allocator>(
+    alloc: A,
+    lead: &[u8],
     x: i64,
     y: i64,
     orient: Orient,
-) -> Result<(), AllocError> {
+    glued: bool,
+) -> Result<Bytes<A>, AllocError> {
     let mut buffer = Buffer::new();
+    let mut put = Vec::from_slice(alloc, lead)?;
     put.extend_from_slice(b"PLACED ( ")?;
     put.extend_from_slice(print(x, &mut buffer).as_bytes())?;
     put.push(b' ')?;
     put.extend_from_slice(print(y, &mut buffer).as_bytes())?;
     put.extend_from_slice(b" ) ")?;
-    put.extend_from_slice(orient_word(orient))
+    put.extend_from_slice(orient_word(orient))?;
+    if glued {
+        put.push(b' ')?;
+    }
+    Ok(Sequence::from_vec(put))
 }
 
 /// Whether a token that ends at a place would be one with what follows it.
@@ -103,25 +113,25 @@ pub fn place_splice<A: Allocator + Copy>(
         return Err(EditRefusal::Refused(EditCode::UnknownName));
     };
     let target = target_of(&parts);
-    let mut put = Vec::new(alloc);
-    let (lo, hi) = match target {
-        Target::Held => return Err(EditRefusal::Refused(EditCode::Fixed)),
-        Target::Clause { lo, hi } => (lo, hi),
-        Target::End { at } => {
-            put.extend_from_slice(b" + ")?;
-            (at, at)
-        }
-    };
+    if matches!(target, Target::Held) {
+        return Err(EditRefusal::Refused(EditCode::Fixed));
+    }
     if !is_in_range(x) || !is_in_range(y) {
         return Err(EditRefusal::Refused(EditCode::Number));
     }
-    push_placed(&mut put, x, y, orient)?;
-    if is_glued(text, hi) {
-        put.push(b' ')?;
+    match target {
+        Target::Held => Err(EditRefusal::Refused(EditCode::Fixed)),
+        Target::Clause { lo, hi } => {
+            let put = placed_text(alloc, b"", x, y, orient, is_glued(text, hi))?;
+            Ok(Splice { lo, hi, put })
+        }
+        Target::End { at } => {
+            let put = placed_text(alloc, b" + ", x, y, orient, is_glued(text, at))?;
+            Ok(Splice {
+                lo: at,
+                hi: at,
+                put,
+            })
+        }
     }
-    Ok(Splice {
-        lo,
-        hi,
-        put: Sequence::from_vec(put),
-    })
 }

@@ -34,7 +34,8 @@ pub struct Placement {
 
 /// The placement of a component: that of its first clause that gives one, where it isn't `UNPLACED`.
 pub fn placement_of(parts: &ComponentParts<'_>) -> Option<Placement> {
-    for located in Clauses::new(parts.clauses) {
+    let mut clauses = Clauses::new(parts.clauses);
+    while let Some(located) = clauses.next() {
         match located.clause {
             Clause::Placed(status, at, orient) => return Some(Placement {
                 status,
@@ -67,7 +68,8 @@ fn scale_of_text(text: &[u8]) -> u32
     ensures some { 0 < result }
     ensures few { result ≤ 100000 }
 {
-    for read in Statements::new(text) {
+    let mut statements = Statements::new(text);
+    while let Some(read) = statements.next() {
         if let Statement::Units(number) = read.statement {
             return scale_of(number.bytes);
         }
@@ -152,7 +154,8 @@ pub fn boxes_of<'t, A: Allocator + Copy>(
 ) -> Result<Vec<PlacedBox<'t>, A>, AllocError> {
     let scale = scale_of_text(text);
     let mut boxes = Vec::new(alloc);
-    for read in Statements::new(text) {
+    let mut statements = Statements::new(text);
+    while let Some(read) = statements.next() {
         if let Statement::Component(parts) = read.statement
             && let Some(placed) = box_of(library, scale, &parts)
         {

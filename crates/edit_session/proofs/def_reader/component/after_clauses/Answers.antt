@@ -1,4 +1,4 @@
-use Rattle.std.proofs.Common.{◌≡◌, ℕ, ◌-◌, length, sym, ap, ◌∙◌}
+use Rattle.std.proofs.Common.{rules, ◌≡◌, ℕ, ◌-◌, length, sym, ap, ◌∙◌}
 use Rattle.std.proofs.Math.Nat.{sub-zero}
 use Rattle.design_model.specs.Forms.{clauses_upto, clauses_at}
 use Rattle.lefdef_tokens.specs.Views.{rest_of}
@@ -11,21 +11,24 @@ pub loop-init : goal.loop-init
 loop-init c =
     let start = rest_of c.args.cursor in
     let k : c.len-count.result - 0 ≡ length start.words = sub-zero c.len-count.result ∙ c.len-count.ensures in
-    ap (λ (n : ℕ). behind (clauses_upto n start)) k
+    record { read = ap (λ (n : ℕ). behind (clauses_upto n start)) k; later = search rules }
 
-pub returns-then-not-next_is_plus : goal.returns-then-not-next_is_plus
-returns-then-not-next_is_plus c =
-    no_more c.len-count.result c.loop.counter (rest_of c.loop.left) (behind (clauses_at (rest_of c.args.cursor))) (sym c.if-not-next_is_plus.ensures) c.loop.invariant
+pub returns-then-not-next_is_plus-clause-gives : goal.returns-then-not-next_is_plus-clause-gives
+returns-then-not-next_is_plus-clause-gives c =
+    no_more c.len-count.result c.loop.counter (rest_of c.loop.left) (behind (clauses_at (rest_of c.args.cursor))) (sym c.if-not-next_is_plus.ensures) c.loop.invariant.read
 
-pub returns-in_err-later : goal.returns-in_err-later
-returns-in_err-later c =
+pub returns-in_err-later-clause-gives : goal.returns-in_err-later-clause-gives
+returns-in_err-later-clause-gives c =
     rw c.from_residual.ensures
-    (misfit c.len-count.result c.loop.counter (rest_of c.loop.left) (behind (clauses_at (rest_of c.args.cursor))) c.loop-test.true (sym c.if-not-next_is_plus.ensures) c.in_err-later.ensures c.loop.invariant)
+    (misfit c.len-count.result c.loop.counter (rest_of c.loop.left) (behind (clauses_at (rest_of c.args.cursor))) c.loop-test.true (sym c.if-not-next_is_plus.ensures) c.in_err-later.ensures.gives c.loop.invariant.read)
 
 pub loop-preserved : goal.loop-preserved
 loop-preserved c =
-    another c.len-count.result c.loop.counter (rest_of c.loop.left) (rest_of c.in_ok-later.later) (clause_view c.in_ok-later.field-0-0) (behind (clauses_at (rest_of c.args.cursor)))
-    c.loop-test.true (sym c.if-not-next_is_plus.ensures) c.in_ok-later.ensures c.loop.invariant
+    record {
+      read = another c.len-count.result c.loop.counter (rest_of c.loop.left) (rest_of c.in_ok-later.later) (clause_view c.in_ok-later.field-0-0.clause) (behind (clauses_at (rest_of c.args.cursor)))
+      c.loop-test.true (sym c.if-not-next_is_plus.ensures) c.in_ok-later.ensures.gives c.loop.invariant.read;
+      later = search rules;
+    }
 
-pub returns : goal.returns
-returns c = all_read c.len-count.result c.loop.counter (rest_of c.loop.left) (behind (clauses_at (rest_of c.args.cursor))) c.loop-test.false c.loop.invariant
+pub returns-clause-gives : goal.returns-clause-gives
+returns-clause-gives c = all_read c.len-count.result c.loop.counter (rest_of c.loop.left) (behind (clauses_at (rest_of c.args.cursor))) c.loop-test.false c.loop.invariant.read
