@@ -1,10 +1,10 @@
 //! Reading to the end, within a number of turns and of bytes.
 ghost use Rattle.std.specs.Prelude.{◌≡◌, ◌++◌, ◌+◌, ◌^◌, ◌<◌, ◌≤◌, IfOk, IfErr, OnOk, OnErr, IfSome, IsErrOf, length, take, vec_len};
 ghost use Rattle.std.specs.Io.KnownBytes.{Consumes, IsAtEnd};
-ghost use Rattle.design_model.specs.Known.{Reads};
+ghost use Rattle.design_model.specs.Known.{Reads, ReadsUpTo};
 
 use crate::counted::{CountedRead, Failures};
-use std::alloc::{AllocError, Global};
+use std::alloc::{AllocError, Allocator};
 use std::io;
 use std::io::Read;
 
@@ -17,13 +17,13 @@ pub enum InputError {
     Endless,
 }
 
-/// Reads to the end.
-pub fn read_whole<R: CountedRead>(
-    alloc: Global,
+/// Reads to the end, in at most so many calls of `read`. One that answers Interrupted counts and is tried again.
+pub fn read_whole<A: Allocator, R: CountedRead>(
+    alloc: A,
     reader: &mut R,
     limit: usize,
     turns: u32,
-) -> Result<Vec<u8>, InputError>
+) -> Result<Vec<u8, A>, InputError>
     requires few { R.failed reader.old < 2 ^ 63 }
     requires limit { limit < 2 ^ 62 }
     ensures ok { IfOk result (λ v. Reads (R.remaining reader.old) (R.remaining reader.new) v.items) }
@@ -33,7 +33,7 @@ pub fn read_whole<R: CountedRead>(
     ensures few_more { R.failed reader.new ≤ R.failed reader.old + turns }
 {
     let mut all = Vec::new(alloc);
-    let mut buf = [0u8; 512];
+    let mut buf = [0u8; 4096];
     for _ in 0..turns {
         match reader.read_counted(&mut buf) {
             Ok(0) => return Ok(all),
@@ -43,6 +43,41 @@ pub fn read_whole<R: CountedRead>(
                 }
                 if all.len() > limit {
                     return Err(InputError::TooLong);
+                }
+            }
+            Err(e) => {
+                if e.kind() != io::ErrorKind::Interrupted {
+                    return Err(InputError::Read);
+                }
+            }
+        }
+    }
+    Err(InputError::Endless)
+}
+
+/// Reads to the end or to a number of bytes, in at most so many calls of `read`.
+pub fn read_up_to<A: Allocator, R: CountedRead>(
+    alloc: A,
+    reader: &mut R,
+    limit: usize,
+    turns: u32,
+) -> Result<Vec<u8, A>, InputError>
+    requires few { R.failed reader.old < 2 ^ 63 }
+    ensures ok { IfOk result (λ v. ReadsUpTo limit (R.remaining reader.old) (R.remaining reader.new) v.items) }
+    ensures failed { IsErrOf result InputError.Read → R.failed reader.old < R.failed reader.new }
+{
+    let mut all = Vec::new(alloc);
+    let mut buf = [0u8; 4096];
+    for _ in 0..turns {
+        let room = (limit - all.len()).min(4096);
+        if room == 0 {
+            return Ok(all);
+        }
+        match reader.read_counted(&mut buf[..room]) {
+            Ok(0) => return Ok(all),
+            Ok(n) => {
+                if all.extend_from_slice(&buf[..n]).is_err() {
+                    return Err(InputError::Memory);
                 }
             }
             Err(e) => {

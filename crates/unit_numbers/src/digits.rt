@@ -1,11 +1,11 @@
 //! Signs and digits.
 
-ghost use Rattle.std.specs.Prelude.{◌≡◌, ◌≤◌, ◌^◌, fold, if◌then◌else◌, Some, None, min};
+ghost use Rattle.std.specs.Prelude.{◌≡◌, ◌≤◌, fold, if◌then◌else◌, Some, None, min};
 ghost use Rattle.std.specs.List.{list_all};
 ghost use Rattle.std.specs.Char.{is_ascii_digit};
 ghost use Rattle.design_model.specs.Units.{unsigned, is_minus, one_more};
 
-/// Larger than each number that has a meaning here.
+/// Where the number that digits spell is capped: above the limits of both kinds of numbers.
 pub(crate) const CAP: u64 = 1000000000000000001;
 
 /// Whether the text begins with a minus, and the text without its sign.
@@ -23,7 +23,8 @@ pub(crate) fn split_sign(text: &[u8]) -> (bool, &[u8])
 /// The number that digits spell behind digits that spell `front`, capped.
 pub(crate) fn spelled(front: u64, text: &[u8]) -> Option<u64>
     requires { front ≤ CAP }
-    ensures { result ≡ (if list_all is_ascii_digit text.now then Some (min (fold one_more front text.now) CAP) else None) }
+    ensures { result ≡ (if list_all is_ascii_digit text.now
+        then Some (min (fold one_more front text.now) CAP) else None) }
 {
     let mut value = front;
     for byte in text {

@@ -1,0 +1,5 @@
+//! Running a script of edits and queries.
+
+pub mod answer;
+pub mod command;
+pub mod run;

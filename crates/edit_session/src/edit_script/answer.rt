@@ -1,0 +1,77 @@
+//! The answers to the lines of a script.
+
+ghost use Rattle.std.specs.Prelude.{◌≡◌, IfOk};
+
+use design_model::diagnostic::DiagLines;
+use design_model::edit::{Done, EditRefusal};
+use itoa::Buffer;
+use std::alloc::{AllocError, Allocator};
+use unit_numbers::print;
+
+/// Puts a number behind some bytes.
+fn push_number<A: Allocator>(text: &mut Vec<u8, A>, number: u64) -> Result<(), AllocError> {
+    let mut buffer = Buffer::new();
+    text.extend_from_slice(print(number, &mut buffer).as_bytes())
+}
+
+/// A word and the number of a line, and a line end.
+fn numbered<A: Allocator>(alloc: A, word: &[u8], line: u64) -> Result<Vec<u8, A>, AllocError> {
+    let mut text = Vec::from_slice(alloc, word)?;
+    text.push(b' ')?;
+    push_number(&mut text, line)?;
+    text.push(b'\n')?;
+    Ok(text)
+}
+
+/// The answer to an edit that was refused: its number, and for a text that would not read the fault.
+fn refusal_text<A: Allocator>(
+    alloc: A,
+    line: u64,
+    refusal: EditRefusal,
+) -> Result<Vec<u8, A>, AllocError> {
+    let mut text = Vec::from_slice(alloc, b"refused ")?;
+    push_number(&mut text, line)?;
+    text.extend_from_slice(b" E")?;
+    push_number(&mut text, refusal.number() as u64)?;
+    if let EditRefusal::Unreadable(fault) = refusal {
+        text.extend_from_slice(b" F")?;
+        push_number(&mut text, fault.code.number() as u64)?;
+        text.push(b' ')?;
+        push_number(&mut text, fault.pos as u64)?;
+    }
+    text.push(b'\n')?;
+    Ok(text)
+}
+
+/// The answer to an edit.
+pub fn reply_text<A: Allocator>(
+    alloc: A,
+    line: u64,
+    reply: Result<Done, EditRefusal>,
+) -> Result<Vec<u8, A>, AllocError> {
+    match reply {
+        Ok(_) => numbered(alloc, b"ok", line),
+        Err(refusal) => refusal_text(alloc, line, refusal),
+    }
+}
+
+/// The answer to a line that is none.
+pub fn bad_text<A: Allocator>(alloc: A, line: u64) -> Result<Vec<u8, A>, AllocError> {
+    numbered(alloc, b"bad", line)
+}
+
+/// The answer to `check`: each line of the report, and their number.
+pub fn check_text<A: Allocator + Copy>(
+    alloc: A,
+    lines: &DiagLines<A>,
+) -> Result<Vec<u8, A>, AllocError> {
+    let mut text = Vec::new(alloc);
+    for line in lines.as_slice() {
+        text.extend_from_slice(line.text.as_slice())?;
+        text.push(b'\n')?;
+    }
+    text.extend_from_slice(b"diagnostics ")?;
+    push_number(&mut text, lines.len() as u64)?;
+    text.push(b'\n')?;
+    Ok(text)
+}
