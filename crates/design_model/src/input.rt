@@ -38,7 +38,7 @@ pub fn read_whole<A: Allocator, R: CountedRead>(
         match reader.read_counted(&mut buf) {
             Ok(0) => return Ok(all),
             Ok(n) => {
-                if all.extend_from_slice(&buf[..n]).is_err() {
+                if let Err(_) = all.extend_from_slice(&buf[..n]) {
                     return Err(InputError::Memory);
                 }
                 if all.len() > limit {
@@ -55,29 +55,28 @@ pub fn read_whole<A: Allocator, R: CountedRead>(
     Err(InputError::Endless)
 }
 
-/// Reads to the end or to a number of bytes, in at most so many calls of `read`.
+/// Reads to the end, or until there are at least so many bytes, in at most so many calls of `read`.
 pub fn read_up_to<A: Allocator, R: CountedRead>(
     alloc: A,
     reader: &mut R,
-    limit: usize,
+    enough: usize,
     turns: u32,
 ) -> Result<Vec<u8, A>, InputError>
     requires few { R.failed reader.old < 2 ^ 63 }
-    ensures ok { IfOk result (λ v. ReadsUpTo limit (R.remaining reader.old) (R.remaining reader.new) v.items) }
+    ensures ok { IfOk result (λ v. ReadsUpTo enough (R.remaining reader.old) (R.remaining reader.new) v.items) }
     ensures failed { IsErrOf result InputError.Read → R.failed reader.old < R.failed reader.new }
 {
     let mut all = Vec::new(alloc);
     let mut buf = [0u8; 4096];
     for _ in 0..turns {
-        let room = (limit - all.len()).min(4096);
-        if room == 0 {
-            return Ok(all);
-        }
-        match reader.read_counted(&mut buf[..room]) {
+        match reader.read_counted(&mut buf) {
             Ok(0) => return Ok(all),
             Ok(n) => {
-                if all.extend_from_slice(&buf[..n]).is_err() {
+                if let Err(_) = all.extend_from_slice(&buf[..n]) {
                     return Err(InputError::Memory);
+                }
+                if all.len() >= enough {
+                    return Ok(all);
                 }
             }
             Err(e) => {
