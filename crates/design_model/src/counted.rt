@@ -29,6 +29,14 @@ impl<T> Counted<T> {
     {
         Counted { inner, failures: 0 }
     }
+
+    /// The device.
+    pub fn into_inner(self) -> T
+        ensures { result ≡ self.inner }
+    {
+        let Counted { inner, failures: _ } = self;
+        inner
+    }
 }
 
 impl<T> Failures for Counted<T> {

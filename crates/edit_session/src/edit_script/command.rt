@@ -6,7 +6,6 @@ use crate::def_reader::clause::orient_of;
 use design_model::edit::Edit;
 use unit_numbers::whole;
 
-
 /// What a line of a script asks.
 #[derive(Clone, Copy)]
 pub enum Command<'a> {
@@ -50,9 +49,9 @@ fn command_of<'a>(words: &[&'a [u8]]) -> Command<'a> {
     match words {
         [] => Command::Nothing,
         [name, rest @ ..] => {
-            if *name == b"place" {
+            if *name == b"place".as_slice() {
                 place(rest)
-            } else if *name == b"check" && rest.is_empty() {
+            } else if *name == b"check".as_slice() && rest.is_empty() {
                 Command::Check
             } else {
                 Command::Bad
@@ -74,17 +73,16 @@ const MOST_WORDS: usize = 6;
 
 /// The first words of a line.
 fn words_of(line: &[u8]) -> Words<'_> {
-    let mut words = Words {
-        first: [b"", b"", b"", b"", b"", b""],
-        count: 0,
-    };
+    let empty: &[u8] = b"";
+    let mut first = [empty; MOST_WORDS];
+    let mut count = 0;
     for word in line.split(|byte| *byte == b' ' || *byte == b'\t') {
-        if !word.is_empty() && words.count < MOST_WORDS {
-            words.first[words.count] = word;
-            words.count += 1;
+        if !word.is_empty() && count < MOST_WORDS {
+            first[count] = word;
+            count += 1;
         }
     }
-    words
+    Words { first, count }
 }
 
 /// Reads a line, without its end.

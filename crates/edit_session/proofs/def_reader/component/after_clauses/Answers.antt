@@ -26,7 +26,7 @@ pub loop-preserved : goal.loop-preserved
 loop-preserved c =
     record {
       read = another c.len-count.result c.loop.counter (rest_of c.loop.left) (rest_of c.in_ok-later.later) (clause_view c.in_ok-later.field-0-0.clause) (behind (clauses_at (rest_of c.args.cursor)))
-      c.loop-test.true (sym c.if-not-next_is_plus.ensures) c.in_ok-later.ensures.gives c.loop.invariant.read;
+          c.loop-test.true (sym c.if-not-next_is_plus.ensures) c.in_ok-later.ensures.gives c.loop.invariant.read;
       later = search rules;
     }
 
