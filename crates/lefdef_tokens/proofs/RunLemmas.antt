@@ -30,7 +30,7 @@ some_first {A} (y ∷ ys) p ps h =
     let later : ys ≡ ps = ap (λ (q : A × List A). q.1) same in
     cc
 
-none_first : {A : Type 0} (ys : List A) → uncons ys ≡ None → ys ≡ []
+pub none_first : {A : Type 0} (ys : List A) → uncons ys ≡ None → ys ≡ []
 none_first [] h = refl
 none_first (y ∷ ys) h = cc
 

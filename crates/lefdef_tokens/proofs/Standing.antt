@@ -2,11 +2,10 @@
 use Rattle.std.proofs.Common.{◌≡◌, ℕ, zero, suc, ◌+◌, ◌-◌, ◌<◌, ◌≤◌, Bool, true, false, ◌==◌, if◌then◌else◌, List, [], ◌∷◌, ◌++◌, length, get_or, drop, refl, subst, sym, ap, ◌∙◌, arith, ⊎_elim, ◌⊎◌, inl, inr, le_refl}
 use Rattle.std.specs.List.{slice_range}
 use Rattle.std.proofs.lemmas.List.Edits.{between_more, length-between}
-use Rattle.design_model.specs.Tokens.{Open, Piece, Lexed, lex, before, next_open, ended_by, at_end, is_white, is_refused, closes, tokens}
+use Rattle.design_model.specs.Tokens.{Open, Piece, Lexed, lex, before, next_open, ended_by, at_end, is_white, is_refused, closes}
 use Rattle.design_model.specs.Tokens.Open.{between, comment, word, string}
 use Rattle.design_model.specs.declared.token_kind.TokenKind.{TokenKind}
 use Rattle.design_model.specs.declared.token_kind.TokenKind.TheVariants.{Word, Quoted}
-use Rattle.lefdef_tokens.specs.Runs.{piece_at}
 use Rattle.lefdef_tokens.specs.Laws.{StandIn, TokensAreSlices}
 use Rattle.lefdef_tokens.proofs.Lexing.{lex_step, lex_refused, lex_end, between_one}
 

@@ -14,8 +14,9 @@ pub struct Cursor<'t> {
 }
 
 impl<'t> Cursor<'t> {
-    ghost use Rattle.std.specs.Prelude.{◌+◌, ◌<◌, ◌∷◌, None, IfSome};
+    ghost use Rattle.std.specs.Prelude.{◌+◌, ◌<◌, ◌∷◌, ◌++◌, None, IfSome};
     ghost use Rattle.std.specs.List.{slice_range};
+    ghost use Rattle.design_model.specs.Tokens.{without_first};
     ghost use Rattle.design_model.specs.Words.{Gives, is_done, is_name, is_plain, is_place, is_plus, is_stop, is_word, key, name_at, next_passes, next_word, noted, rest_at, word_that};
     ghost use Rattle.lefdef_tokens.specs.Views.{piece_of, pieces_of, words_of, rest_of, word_of, run_of, IsLater, IsNext};
 
@@ -60,6 +61,7 @@ impl<'t> Cursor<'t> {
     /// What comes after this very word.
     pub fn key(self, word: &[u8]) -> Option<Cursor<'t>>
         ensures gives { Gives rest_of result (key word.now (rest_of self.entry)) }
+        ensures behind { IfSome result (λ x. pieces_of x.tokens ≡ without_first (pieces_of self.entry.tokens)) }
         ensures later { IfSome result (λ x. IsLater self.entry x) }
     {
         let (token, cursor) = self.next()?;
@@ -175,6 +177,7 @@ impl<'t> Cursor<'t> {
     /// The tokens before the next `+` or `;`, and the cursor at that one.
     pub fn rest(self) -> (TokenRun<'t>, Cursor<'t>)
         ensures gives { run_of result ≡ rest_at (rest_of self.entry) }
+        ensures pieces { pieces_of self.entry.tokens ≡ pieces_of result.0 ++ pieces_of result.1.tokens }
         ensures same_run { result.0.text.now ≡ self.entry.tokens.text.now }
         ensures later { IsLater self.entry result.1 }
     {

@@ -19,9 +19,9 @@ fn add_fault(list: &mut Vec<u8>, alloc: Global, fault: Fault) -> Result<(), Allo
 fn listed(alloc: Global, text: &[u8]) -> Result<Vec<u8>, AllocError> {
     let mut list = Vec::new(alloc);
     let mut scanner = Scanner::new(text);
-    let mut ends = 0;
+    let mut has_ended = false;
     for _ in 0..100 {
-        match scanner.next() {
+        let is_end = match scanner.next() {
             Ok(Some(token)) => {
                 let kind = match token.kind {
                     TokenKind::Word => 'w',
@@ -31,19 +31,21 @@ fn listed(alloc: Global, text: &[u8]) -> Result<Vec<u8>, AllocError> {
                 list.extend_from_slice(front.as_bytes())?;
                 list.extend_from_slice(token.bytes)?;
                 list.push(b'\n')?;
+                false
             }
             Ok(None) => {
                 list.extend_from_slice(b"end\n")?;
-                ends += 1;
+                true
             }
             Err(fault) => {
                 add_fault(&mut list, alloc, fault)?;
-                ends += 1;
+                true
             }
-        }
-        if ends == 2 {
+        };
+        if is_end && has_ended {
             break;
         }
+        has_ended = is_end;
     }
     Ok(list)
 }

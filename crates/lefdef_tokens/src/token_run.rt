@@ -78,7 +78,7 @@ impl<'t> TokenRun<'t> {
     pub fn is_empty(self) -> bool
         ensures { IsTrue result ↔ (words_of self.entry ≡ []) }
     {
-        self.count == 0
+        self.len() == 0
     }
 
     /// The first `count` tokens.

@@ -1,6 +1,7 @@
-use Rattle.std.proofs.Common.{arith, sym, refl, ◌∙◌}
-use Rattle.lefdef_tokens.specs.Views.{words_of}
-use Rattle.lefdef_tokens.proofs.RunLemmas.{drop_on, stop_more, stop_here, stop_none}
+use Rattle.std.proofs.Common.{arith, sym, refl, ◌∙◌, take-append-drop}
+use Rattle.std.proofs.lemmas.List.{append-nil}
+use Rattle.lefdef_tokens.specs.Views.{piece_of, pieces_of, words_of}
+use Rattle.lefdef_tokens.proofs.RunLemmas.{drop_on, none_first, stop_more, stop_here, stop_none}
 use Rattle.lefdef_tokens.proofs.cursor.Cursor.rest.Goals as goal
 
 pub returns-then-is_stop-clause-gives : goal.returns-then-is_stop-clause-gives
@@ -19,6 +20,7 @@ loop-token-preserved c =
       together = omega (arith, c.in-Some.ensures.count);
       left = drop_on (words_of run) rest c.loop-token.count word later c.loop-token.invariant.left c.in-Some.ensures.words;
       split = stop_more (words_of run) rest c.loop-token.count word later c.loop-token.invariant.left c.in-Some.ensures.words (sym c.is_stop.ensures ∙ c.if-is_stop.false) c.loop-token.invariant.split;
+      behind = drop_on (pieces_of run) (pieces_of c.loop-token.rest) c.loop-token.count (piece_of c.in-Some.token) (pieces_of c.in-Some.after) c.loop-token.invariant.behind c.in-Some.ensures.gives;
       same = c.in-Some.ensures.same ∙ c.loop-token.invariant.same;
       further = omega (arith, c.in-Some.ensures.span.low, c.in-Some.ensures.span.end, c.loop-token.invariant.further);
     }
@@ -40,3 +42,11 @@ returns-clause-later c =
     let i = c.loop-token.invariant in
     let together = i.together in
     rw (c.at-2.ensures.tokens) (record { text = i.same; further = i.further; fewer = omega arith })
+
+pub returns-then-is_stop-clause-pieces : goal.returns-then-is_stop-clause-pieces
+returns-then-is_stop-clause-pieces c =
+    rw (c.at.ensures.tokens, c.front.ensures.gives, ← c.loop-token.invariant.behind) (sym (take-append-drop c.loop-token.count (pieces_of c.args.self.tokens)))
+
+pub returns-clause-pieces : goal.returns-clause-pieces
+returns-clause-pieces c =
+    rw (c.at-2.ensures.tokens, none_first (pieces_of c.loop-token.rest) c.in_default.ensures.gives) (sym (append-nil (pieces_of c.args.self.tokens)))

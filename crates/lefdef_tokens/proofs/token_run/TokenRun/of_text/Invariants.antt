@@ -1,4 +1,4 @@
-use Rattle.std.proofs.Common.{◌≡◌, ◌≤◌, ◌+◌, ◌-◌, length, drop}
+use Rattle.std.proofs.Common.{◌≡◌, ◌≤◌, ◌+◌, ◌-◌, length}
 use Rattle.design_model.specs.Tokens.{left_from, tokens}
 use Rattle.lefdef_tokens.proofs.token_run.TokenRun.of_text.Given as goal
 
