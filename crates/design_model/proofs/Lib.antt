@@ -1,3 +1,4 @@
+pub mod EditRows
 pub mod KnownSteps
 pub mod Rows
 pub mod Sorting

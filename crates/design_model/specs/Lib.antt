@@ -1,12 +1,15 @@
 pub mod Boundaries
 pub mod Codes
 pub mod Counting
+pub mod Diagnostics
+pub mod Edits
 pub mod Folds
 pub mod Forms
 pub mod Geometry
 pub mod Known
 pub mod Library
 pub mod Order
+pub mod PlaceDiagnostics
 pub mod Reading
 pub mod Splices
 pub mod Tokens

@@ -1,6 +1,6 @@
 -- Whole numbers and distances, as they are written, and distances in database units
 -- (LEF/DEF 5.8 Language Reference, "Units"; the limits are own).
-use Rattle.std.specs.Prelude.{◌≡◌, ℕ, ◌+◌, ◌-◌, ◌*◌, ◌^◌, ◌≤◌, Bool, true, false, not, ◌&&◌, ◌==◌, nat_lt, nat_le, List, [], ◌∷◌, ◌++◌, length, take, drop, Result, Ok, Err, fold, take_while, if◌then◌else◌, ℤ, pos, neg_ℤ, ◌*ℤ◌, ◌-ℤ◌, nat_abs}
+use Rattle.std.specs.Prelude.{◌≡◌, ℕ, ◌+◌, ◌-◌, ◌*◌, ◌/◌, ◌^◌, ◌≤◌, Bool, true, false, not, ◌&&◌, ◌==◌, nat_lt, nat_le, List, [], ◌∷◌, ◌++◌, length, take, drop, Result, Ok, Err, fold, take_while, if◌then◌else◌, ℤ, pos, neg_ℤ, ◌*ℤ◌, ◌-ℤ◌, nat_abs, int_lt}
 use Rattle.std.specs.List.{list_all}
 use Rattle.std.specs.Char.{is_ascii_digit}
 use Rattle.design_model.specs.declared.number.NumFault.{NumFault}
@@ -71,3 +71,10 @@ pub record IsNearest (n : ℤ) (k u : ℕ) (v : ℤ) : Type 0 where
 -- v is n / 10 ^ k at u units exactly
 abbrev pub IsExact : ℤ → ℕ → ℕ → ℤ → Type 0
 IsExact n k u v = v *ℤ pos (10 ^ k) ≡ n *ℤ pos u
+
+-- the whole number nearest to a distance at u units: the only one that is (a law says so)
+abbrev pub nearest_size : ℕ → ℕ → ℕ → ℕ
+nearest_size n k u = (2 * (n * u) + 10 ^ k) / (2 * 10 ^ k)
+
+abbrev pub nearest : Distance → ℕ → ℤ
+nearest d u = signed (int_lt d.value (pos 0)) (nearest_size (nat_abs d.value) d.places u)
