@@ -9,8 +9,10 @@ pub mod Geometry
 pub mod Known
 pub mod Library
 pub mod Order
+pub mod Output
 pub mod PlaceDiagnostics
 pub mod Reading
+pub mod Runs
 pub mod Splices
 pub mod Tokens
 pub mod Units
