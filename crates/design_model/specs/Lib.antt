@@ -7,6 +7,7 @@ pub mod Folds
 pub mod Forms
 pub mod Geometry
 pub mod Known
+pub mod Lines
 pub mod Library
 pub mod Order
 pub mod Output

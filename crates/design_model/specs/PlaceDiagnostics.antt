@@ -6,6 +6,8 @@ use Rattle.design_model.specs.declared.geometry.Orient.{Orient}
 use Rattle.design_model.specs.declared.geometry.Status.{Status}
 use Rattle.design_model.specs.declared.geometry.Status.TheVariants.{Placed, Fixed, Cover}
 use Rattle.design_model.specs.declared.number.NumFault.{NumFault}
+use Rattle.design_model.specs.declared.diagnostic.DiagKind.TheVariants.{Overlap}
+use Rattle.design_model.specs.Lines.{line_text}
 use Rattle.design_model.specs.Words.{◌>>=◌, is_word}
 use Rattle.design_model.specs.Units.{Distance, distance, nearest}
 use Rattle.design_model.specs.Geometry.{Rectangle, placed_box, overlap}
@@ -93,8 +95,15 @@ greater a b = if is_lt (byte_cmp b a) then a else b
 
 -- `overlap a b`, a before b
 abbrev pub overlap_line : Boxed × Boxed → List ℕ
-overlap_line p = ((codes "overlap " ++ lesser p.0.name p.1.name) ++ 32 ∷ []) ++ greater p.0.name p.1.name
+overlap_line p = line_text Overlap (lesser p.0.name p.1.name ∷ greater p.0.name p.1.name ∷ []) []
+
+abbrev pub boxes_overlap : Boxed × Boxed → Bool
+boxes_overlap p = overlap p.0.box p.1.box
+
+-- a line for each pair that overlaps
+abbrev pub overlapping : List (Boxed × Boxed) → List (List ℕ)
+overlapping ps = map overlap_line (filter boxes_overlap ps)
 
 -- a line for each pair of components that take part and overlap
 abbrev pub overlap_lines : List Macro → List Record → List (List ℕ)
-overlap_lines library design = map overlap_line (filter (λ p. overlap p.0.box p.1.box) (pairs (boxes library design)))
+overlap_lines library design = overlapping (pairs (boxes library design))

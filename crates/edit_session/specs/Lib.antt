@@ -1,3 +1,4 @@
+pub mod BoxViews
 pub mod ClauseViews
 pub mod Endings
 pub mod LefViews

@@ -1,5 +1,8 @@
 //! Reports as lines.
 
+ghost use Rattle.std.specs.Prelude.{◌≡◌, IfOk};
+ghost use Rattle.design_model.specs.Lines.{kind_word, diag_text};
+
 use crate::cell_library::library::Library;
 use crate::place_checks::boxes::boxes_of;
 use crate::place_checks::overlap::overlaps_of;
@@ -10,14 +13,18 @@ use std::alloc::{AllocError, Allocator};
 use unit_numbers::print;
 
 /// The word that a line begins with.
-fn kind_word(kind: DiagKind) -> &'static [u8] {
+fn kind_word(kind: DiagKind) -> &'static [u8]
+    ensures { result.now ≡ kind_word kind }
+{
     match kind {
         DiagKind::Overlap => b"overlap",
     }
 }
 
 /// A report as a line: its kind, its words and its numbers, parted by spaces.
-fn line_of<A: Allocator + Copy>(alloc: A, diag: &Diag<'_, A>) -> Result<DiagLine<A>, AllocError> {
+fn line_of<A: Allocator + Copy>(alloc: A, diag: &Diag<'_, A>) -> Result<DiagLine<A>, AllocError>
+    ensures { IfOk result (λ l. l.text ≡ diag_text diag.now) }
+{
     let mut text = Vec::from_slice(alloc, kind_word(diag.kind))?;
     for word in diag.words.as_slice() {
         text.push(b' ')?;

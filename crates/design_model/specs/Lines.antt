@@ -1,0 +1,18 @@
+-- Diagnostics as lines (own).
+use Rattle.std.specs.Prelude.{ℕ, List, [], ◌∷◌, ◌++◌, map, flat_map, ℤ, codes}
+use Rattle.std.specs.Fmt.{signed_decimal}
+use Rattle.design_model.specs.declared.diagnostic.Diag.{Diag}
+use Rattle.design_model.specs.declared.diagnostic.DiagKind.{DiagKind}
+use Rattle.design_model.specs.declared.diagnostic.DiagKind.TheVariants.{Overlap}
+
+-- the word that a line begins with
+abbrev pub kind_word : DiagKind → List ℕ
+kind_word Overlap = codes "overlap"
+
+-- a line: its kind, its words and its numbers, parted by spaces
+abbrev pub line_text : DiagKind → List (List ℕ) → List ℤ → List ℕ
+line_text kind words nums = (kind_word kind ++ flat_map (λ w. 32 ∷ w) words) ++ flat_map (λ n. 32 ∷ signed_decimal n) nums
+
+-- the line of a report
+abbrev pub diag_text : {A : Type 0} → Diag A → List ℕ
+diag_text d = line_text d.kind (map (λ w. w.now) d.words) d.nums
