@@ -13,6 +13,7 @@ use Rattle.design_model.specs.Units.{whole, distance}
 use Rattle.design_model.specs.Forms.{Record, point_at, orient_of, placed_at, region_at, clause_by, clause_at, clauses_upto, component_at, units_at, header_at, end_at, section_of, top_form, components_form, form_in}
 use Rattle.design_model.specs.Reading.{read_text}
 use Rattle.design_model.specs.Edits.{Change, Cut, place, clause_runs, cuts_of, with_cuts, applied}
+use Rattle.design_model.specs.Runs.{design_edit, text_outcome}
 use Rattle.design_model.specs.Output.{Order, nothing, make, check, bad, order_of, script_lines}
 
 -- a design of one component with these clauses
@@ -58,6 +59,6 @@ reads_edited = refl
 
 -- lines of a script: blanks, a comment, a carriage return before a line feed and one at the end
 orders : map order_of (script_lines (codes " \t\n#x\n #x\ncheck\r\nplace u 1 x N\nplace u 1 2 Q\ncheck\r"))
-    ≡ nothing ∷ nothing ∷ bad ∷ check ∷ make (place (codes "u") (pos 1) (pos 2147483648) N) ∷ bad ∷ bad ∷ []
+    ≡ nothing ∷ nothing ∷ bad ∷ check ∷ make (design_edit (place (codes "u") (pos 1) (pos 2147483648) N)) ∷ bad ∷ bad ∷ []
 unfolding orient_of whole
 orders = refl

@@ -4,7 +4,7 @@ use Rattle.design_model.specs.declared.fault.FaultCode.{FaultCode}
 use Rattle.design_model.specs.declared.fault.FaultCode.TheVariants.{RefusedByte, OpenString, TooLong, NoForm, Unfinished, Number, NameTaken, Repeated, NoUnits}
 use Rattle.design_model.specs.declared.edit.EditCode.{EditCode}
 use Rattle.design_model.specs.declared.edit.EditCode.TheVariants as edits
-use Rattle.design_model.specs.declared.edit.EditCode.TheVariants.{UnknownName, Fixed, Memory}
+use Rattle.design_model.specs.declared.edit.EditCode.TheVariants.{UnknownName, Fixed, Range, Memory}
 use Rattle.design_model.specs.declared.edit.EditRefusal.{EditRefusal}
 use Rattle.design_model.specs.declared.edit.EditRefusal.TheVariants.{Refused, Unreadable}
 
@@ -25,6 +25,7 @@ abbrev pub edit_number : EditCode → ℕ
 edit_number UnknownName = 1
 edit_number Fixed = 2
 edit_number edits.Number = 5
+edit_number Range = 9
 edit_number edits.TooLong = 11
 edit_number Memory = 14
 

@@ -1,5 +1,6 @@
 pub mod Boundaries
 pub mod Codes
+pub mod CountDiagnostics
 pub mod Counting
 pub mod Diagnostics
 pub mod Edits

@@ -3,10 +3,11 @@ use Rattle.std.specs.Prelude.{ℕ, List, [], ◌∷◌, ◌++◌, map, flat_map,
 use Rattle.std.specs.Fmt.{signed_decimal}
 use Rattle.design_model.specs.declared.diagnostic.Diag.{Diag}
 use Rattle.design_model.specs.declared.diagnostic.DiagKind.{DiagKind}
-use Rattle.design_model.specs.declared.diagnostic.DiagKind.TheVariants.{Overlap}
+use Rattle.design_model.specs.declared.diagnostic.DiagKind.TheVariants.{Count, Overlap}
 
 -- the word that a line begins with
 abbrev pub kind_word : DiagKind → List ℕ
+kind_word Count = codes "count"
 kind_word Overlap = codes "overlap"
 
 -- a line: its kind, its words and its numbers, parted by spaces

@@ -14,8 +14,8 @@ use Rattle.design_model.specs.Forms.{Record, orient_of}
 use Rattle.design_model.specs.Library.{Macro}
 use Rattle.design_model.specs.Reading.{read_text}
 use Rattle.design_model.specs.Diagnostics.{diagnostics}
-use Rattle.design_model.specs.Edits.{Change, place}
-use Rattle.design_model.specs.Runs.{Answers}
+use Rattle.design_model.specs.Edits.{place}
+use Rattle.design_model.specs.Runs.{Step, design_edit, text_edit, Answers}
 
 -- a line without the carriage return before its line feed
 abbrev pub ends_in_return : List ℕ → Bool
@@ -51,7 +51,7 @@ line_words line = filter is_some_word (slice_split (λ b. b == 32 || b == 9) lin
 -- what a line of a script asks
 pub data Order : Type 0 where
   nothing : Order
-  make : Change → Order
+  make : Step → Order
   check : Order
   bad : Order
 
@@ -62,7 +62,7 @@ number_or_out (Err e) = pos 2147483648
 
 abbrev pub place_or_bad : List ℕ → List ℕ → List ℕ → Option Orient → Order
 place_or_bad c x y None = bad
-place_or_bad c x y (Some o) = make (place c (number_or_out (whole x)) (number_or_out (whole y)) o)
+place_or_bad c x y (Some o) = make (design_edit (place c (number_or_out (whole x)) (number_or_out (whole y)) o))
 
 -- `place c x y o` behind its first word
 abbrev pub place_order : List (List ℕ) → Order
@@ -115,7 +115,7 @@ counted (Err refusal) t = record t { refused = t.refused + 1 }
 -- line n, at a text and counts, may give these bytes, and leave this text and these counts
 abbrev pub Gives : List Macro → ℕ → Order → List ℕ → Counts → List ℕ → List ℕ → Counts → Type 0
 Gives library n nothing old t bytes new u = (bytes ≡ []) × (new ≡ old) × (u ≡ t)
-Gives library n (make change) old t bytes new u = (reply : Result Done EditRefusal) × Answers old change reply new × (bytes ≡ reply_line n reply) × (u ≡ counted reply t)
+Gives library n (make step) old t bytes new u = (reply : Result Done EditRefusal) × Answers old step reply new × (bytes ≡ reply_line n reply) × (u ≡ counted reply t)
 Gives library n check old t bytes new u = (design : List Record) × (read_text old ≡ Ok design) × (bytes ≡ report_lines (diagnostics library design)) × (new ≡ old) × (u ≡ t)
 Gives library n bad old t bytes new u = (bytes ≡ bad_line n) × (new ≡ old) × (u ≡ record t { bad = t.bad + 1 })
 

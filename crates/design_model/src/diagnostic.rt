@@ -9,6 +9,8 @@ use std::alloc::{Allocator, Global};
 /// What a line reports.
 #[derive(Clone, Copy, Debug, PartialEq, Eq)]
 pub enum DiagKind {
+    /// The number in a section's header isn't that of its entries.
+    Count,
     /// Two components lie on one another.
     Overlap,
 }

@@ -31,6 +31,8 @@ pub enum EditCode {
     Fixed,
     /// A number outside its range.
     Number,
+    /// A range that isn't one of the text.
+    Range,
     /// A new text of more than `MAX_TEXT` bytes.
     TooLong,
     /// Memory was refused.
@@ -46,6 +48,7 @@ impl EditCode {
             EditCode::UnknownName => 1,
             EditCode::Fixed => 2,
             EditCode::Number => 5,
+            EditCode::Range => 9,
             EditCode::TooLong => 11,
             EditCode::Memory => 14,
         }

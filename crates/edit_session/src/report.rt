@@ -17,6 +17,7 @@ fn kind_word(kind: DiagKind) -> &'static [u8]
     ensures { result.now ≡ kind_word kind }
 {
     match kind {
+        DiagKind::Count => b"count",
         DiagKind::Overlap => b"overlap",
     }
 }
