@@ -35,3 +35,6 @@ impl Outcome {
         }
     }
 }
+
+#[cfg(test)]
+mod tests;

@@ -1,5 +1,15 @@
 pub mod EditRows
+pub mod Folds
+pub mod Forms
 pub mod KnownSteps
+pub mod Reading
 pub mod Rows
-pub mod Sorting
 pub mod SortUnique
+pub mod Sorting
+pub mod Spelled
+pub mod StatementEnds
+pub mod StatementParts
+pub mod Statements
+pub mod Tests
+pub mod WordEnds
+pub mod WordLaws

@@ -8,10 +8,13 @@ pub mod fault;
 pub mod geometry;
 pub mod identifier;
 pub mod input;
+pub mod laws;
 pub mod mode;
 pub mod number;
 pub mod output;
 pub mod sequence;
+#[cfg(test)]
+mod tests;
 pub mod token_kind;
 
 /// How long a text may be, in bytes.

@@ -1,5 +1,9 @@
+pub mod CheckLemmas
 pub mod ClauseLemmas
+pub mod LefLemmas
 pub mod ListSteps
+pub mod NameLemmas
 pub mod PieceLemmas
 pub mod SpliceLemmas
 pub mod StatementLemmas
+pub mod TextLemmas

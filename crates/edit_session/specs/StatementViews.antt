@@ -1,12 +1,13 @@
 -- Statements of the program as records.
-use Rattle.std.specs.Prelude.{◌≡◌, ◌≤◌, ◌<◌, ℕ, List, [], length, Option, Some, None, Result, Ok, Err, MatchResult, MatchOption}
+use Rattle.std.specs.Prelude.{◌≡◌, ◌≤◌, ◌<◌, ℕ, List, [], length, Option, Some, None, Result, Ok, Err, IfOk, MatchResult, MatchOption}
 use Rattle.design_model.specs.declared.fault.Fault.{Fault}
 use Rattle.design_model.specs.declared.mode.Mode.{Mode}
 use Rattle.design_model.specs.Tokens.{left_from}
 use Rattle.design_model.specs.Words.{◌>>=◌, Rest}
+use Rattle.design_model.specs.Boundaries.{def_ending, statement_at}
 use Rattle.design_model.specs.Forms.{Clause, Component, Record, clauses_at, units, header, component, end_section, end_design, kept}
 use Rattle.design_model.specs.Reading.{read_at}
-use Rattle.lefdef_tokens.specs.Views.{rest_of, words_of}
+use Rattle.lefdef_tokens.specs.Views.{pieces_of, rest_of, words_of}
 use Rattle.edit_session.specs.declared.def_reader.component.ComponentParts.{ComponentParts}
 use Rattle.edit_session.specs.declared.def_reader.statement.Statement.{Statement}
 use Rattle.edit_session.specs.declared.def_reader.statement.Statement.TheVariants as variants
@@ -42,6 +43,13 @@ ReadsStatement mode text pos r =
     (λ found. MatchOption found (read_at mode (left_from text pos) ≡ Ok None)
     (λ x. (pos < x.end) × (x.end ≤ length text) × (read_at mode (left_from text pos) ≡ Ok (Some (record_view x.statement, x.mode, left_from text x.end)))))
     (λ f. read_at mode (left_from text pos) ≡ Err f)
+
+-- its tokens are those of the first statement, or there is none
+abbrev pub CutsStatement : List ℕ → ℕ → Result (Option Read) Fault → Type 0
+CutsStatement text pos r =
+    IfOk r
+    (λ found. MatchOption found (left_from text pos ≡ record { pieces = []; end = Ok (length text) })
+    (λ x. statement_at def_ending (left_from text pos) ≡ Ok (Some (pieces_of x.tokens, left_from text x.end))))
 
 -- the clauses of a component are those of a text
 abbrev pub HasText : List ℕ → Statement → Type 0

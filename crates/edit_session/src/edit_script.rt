@@ -3,3 +3,5 @@
 pub mod answer;
 pub mod command;
 pub mod run;
+#[cfg(test)]
+mod tests;

@@ -1,7 +1,12 @@
 //! The faults of a whole DEF text.
 
-ghost use Rattle.edit_session.specs.declared.def_reader.read_def.ReadError.TheVariants.{Memory};
-ghost use Rattle.std.specs.Prelude.{◌≡◌, ◌≤◌, length, OnOk};
+ghost use Rattle.edit_session.specs.declared.def_reader.read_def.ReadError.TheVariants.{Fault as OfFault, Memory};
+ghost use Rattle.std.specs.Prelude.{◌≡◌, ◌≤◌, length, true, false, OnOk, IfErr};
+ghost use Rattle.design_model.specs.Reading.{is_diearea, pos_of};
+ghost use Rattle.design_model.specs.declared.fault.FaultCode.TheVariants.{Repeated};
+ghost use Rattle.lefdef_tokens.specs.Views.{pieces_of, words_of};
+ghost use Rattle.edit_session.specs.StatementViews.{record_view};
+ghost use Rattle.edit_session.specs.TextViews.{Notes, ChecksText};
 
 use crate::def_reader::read_statement::read_statement;
 use crate::def_reader::statement::{Read, Statement};
@@ -29,6 +34,8 @@ impl<T: Drop> From<AllocFailed<T>> for ReadError {
 }
 
 impl From<Fault> for ReadError {
+    ghost from_gives = { λ fault e. e ≡ OfFault fault };
+
     fn from(fault: Fault) -> ReadError {
         ReadError::Fault(fault)
     }
@@ -44,7 +51,9 @@ struct Seen<'t, A: Allocator> {
 }
 
 /// Whether a kept statement is a `DIEAREA`.
-fn is_diearea(tokens: TokenRun<'_>) -> bool {
+fn is_diearea(tokens: TokenRun<'_>) -> bool
+    ensures { result ≡ is_diearea (words_of tokens.entry) }
+{
     match tokens.split_first() {
         Some((first, _)) => is_word(first.bytes, b"DIEAREA"),
         None => false,
@@ -52,7 +61,10 @@ fn is_diearea(tokens: TokenRun<'_>) -> bool {
 }
 
 /// The first time of what a text has once.
-fn once(seen: &mut bool) -> Result<(), FaultCode> {
+fn once(seen: &mut bool) -> Result<(), FaultCode>
+    ensures first { OnOk result ((seen.old ≡ false) × (seen.new ≡ true)) }
+    ensures again { IfErr result (λ code. (seen.old ≡ true) × (code ≡ Repeated)) }
+{
     if *seen {
         return Err(FaultCode::Repeated);
     }
@@ -64,7 +76,9 @@ fn once(seen: &mut bool) -> Result<(), FaultCode> {
 fn note<'t, A: Allocator + Copy>(
     seen: &mut Seen<'t, A>,
     statement: &Statement<'t>,
-) -> Result<Result<(), FaultCode>, ReadError> {
+) -> Result<Result<(), FaultCode>, ReadError>
+    ensures { Notes seen.old (record_view statement.now) seen.new result }
+{
     match statement {
         Statement::Units(_) => Ok(once(&mut seen.units)),
         Statement::Header(_, _) => {
@@ -91,16 +105,19 @@ fn note<'t, A: Allocator + Copy>(
 }
 
 /// Where the first token of a statement begins.
-fn start_of(read: &Read<'_>) -> usize {
+fn start_of(read: &Read<'_>) -> usize
+    ensures { result ≡ pos_of (pieces_of read.now.tokens) }
+{
     match read.tokens.split_first() {
         Some((first, _)) => first.pos,
-        None => read.tokens.pos,
+        None => 0,
     }
 }
 
 /// Reads a whole text for its fault: of its length, of its first statement that has one, or of a missing `UNITS`.
 pub fn check_def<A: Allocator + Copy>(alloc: A, text: &[u8]) -> Result<(), ReadError>
     ensures fits { OnOk result (length text.now ≤ MAX_TEXT) }
+    ensures checks { ChecksText text.now result }
 {
     if text.len() > MAX_TEXT {
         return Err(ReadError::Fault(Fault {

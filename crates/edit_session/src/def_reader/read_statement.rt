@@ -4,7 +4,7 @@ ghost use Rattle.std.specs.Prelude.{◌≡◌, ◌≤◌, length, IfOk, IfSome};
 ghost use Rattle.design_model.specs.Reading.{fault_at, pos_with_left};
 ghost use Rattle.design_model.specs.declared.fault.FaultCode.TheVariants.{Number};
 ghost use Rattle.lefdef_tokens.specs.Views.{pieces_of};
-ghost use Rattle.edit_session.specs.StatementViews.{ReadsStatement, HasText};
+ghost use Rattle.edit_session.specs.StatementViews.{ReadsStatement, CutsStatement, HasText};
 
 use crate::def_reader::boundary::{def_ending, statement_run};
 use crate::def_reader::form::{form_in, mode_after};
@@ -32,6 +32,7 @@ pub fn number_fault(tokens: TokenRun<'_>, left: usize) -> Fault
 pub fn read_statement<'t>(mode: Mode, text: &'t [u8], pos: usize) -> Result<Option<Read<'t>>, Fault>
     requires { pos ≤ length text.now }
     ensures reads { ReadsStatement mode text.now pos result }
+    ensures cuts { CutsStatement text.now pos result }
     ensures lent { IfOk result (λ found. IfSome found (λ x. HasText text.now x.statement × (x.tokens.text.now ≡ text.now))) }
 {
     let Some((first, second)) = token_at(text, pos)? else {

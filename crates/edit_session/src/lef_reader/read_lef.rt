@@ -1,6 +1,8 @@
 //! One statement of a LEF text.
 
-ghost use Rattle.std.specs.Prelude.{◌≤◌, ◌<◌, length, IfOk, IfSome};
+ghost use Rattle.std.specs.Prelude.{◌≤◌, length};
+ghost use Rattle.edit_session.specs.LefViews.{block_view};
+ghost use Rattle.edit_session.specs.LefReading.{ReadsLef};
 
 use crate::def_reader::boundary::statement_run;
 use crate::def_reader::read_statement::number_fault;
@@ -18,14 +20,14 @@ pub struct LefRead<'l> {
 }
 
 /// The first statement from a place between two statements on, in a block.
+#[tactic(auto, unfolding(crate::specs::LefReading::lef_read_at))]
 pub fn read_lef_statement<'l>(
     block: Block<'l>,
     text: &'l [u8],
     pos: usize,
 ) -> Result<Option<LefRead<'l>>, Fault>
     requires { pos ≤ length text.now }
-    ensures further { IfOk result (λ found. IfSome found (λ x. pos < x.end)) }
-    ensures within { IfOk result (λ found. IfSome found (λ x. x.end ≤ length text.now)) }
+    ensures { ReadsLef (block_view block.entry) text.now pos result }
 {
     let Some((first, second)) = token_at(text, pos)? else {
         return match block {
