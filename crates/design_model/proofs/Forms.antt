@@ -11,7 +11,7 @@ use Rattle.design_model.specs.Words.{Rest, is_word, is_plain, is_name, is_stop, 
 use Rattle.design_model.specs.Forms.{Coordinates, Clause, placed, unplaced, region, other, Component, Record, units, header, component, end_section, end_design, kept, is_int, is_scale, is_count, point_at, orient_of, at_stop, placed_at, region_at, clause_by, clause_at, clauses_upto, start, ends, component_at, units_at, header_at, end_at, section_of, begins_none, section_form, header_or_kept, top_form, components_form, entry_form, form_in}
 use Rattle.design_model.specs.Spelling.{orient_word, status_word, section_word, spelled_point, spelled_body, spelled_clauses, spelled}
 use Rattle.design_model.specs.FormLaws.{FormsAreSpelled}
-use Rattle.design_model.proofs.Tests.{cases, some_same}
+use Rattle.design_model.proofs.CaseLemmas.{cases, some_same}
 use Rattle.design_model.proofs.WordLaws.{same_word, both_read, read_if, next_is, word_stands, key_stands, number_stands, until_stop_is_all}
 
 -- where a word chooses between two readings

@@ -10,6 +10,6 @@ pub mod Spelled
 pub mod StatementEnds
 pub mod StatementParts
 pub mod Statements
-pub mod Tests
+pub mod CaseLemmas
 pub mod WordEnds
 pub mod WordLaws

@@ -15,7 +15,7 @@ use Rattle.design_model.specs.Forms.{Record, end_design, end_section, start, for
 use Rattle.design_model.specs.Folds.{◌>>◌, all_from}
 use Rattle.design_model.specs.Reading.{Seen, formed, read_form, read_one, read_from, start_state, read_text}
 use Rattle.design_model.specs.BoundaryLaws.{EndApart, StatementsEndApart}
-use Rattle.design_model.proofs.Tests.{cases}
+use Rattle.design_model.proofs.CaseLemmas.{cases}
 use Rattle.design_model.proofs.WordLaws.{same_word}
 use Rattle.design_model.proofs.Forms.{end_spelled}
 use Rattle.design_model.proofs.WordEnds.{WordEndsApart, words_end_apart}

@@ -4,7 +4,7 @@ use Rattle.std.specs.List.{All}
 use Rattle.std.proofs.lemmas.List.Elements.{All-nil, All-cons, All-append, All-head, All-tail}
 use Rattle.design_model.specs.Tokens.{Piece}
 use Rattle.design_model.specs.Boundaries.{Ending, is_alone, is_last, last_of, is_whole, statements}
-use Rattle.design_model.proofs.Tests.{cases}
+use Rattle.design_model.proofs.CaseLemmas.{cases}
 
 module _ (ending : List ℕ → Ending) where
   -- tokens with none at their end that ends them before the last

@@ -3,7 +3,7 @@ use Rattle.std.proofs.Common.{List, [], ◌∷◌, ◌++◌, refl, ap, ⊎_elim}
 use Rattle.design_model.specs.Tokens.{Piece}
 use Rattle.design_model.specs.Boundaries.{statements, cut, is_whole}
 use Rattle.design_model.specs.StatementLaws.{StatementsJoin, FirstOfAll}
-use Rattle.design_model.proofs.Tests.{cases, some_same}
+use Rattle.design_model.proofs.CaseLemmas.{cases, some_same}
 
 pub statements_join : StatementsJoin
 unfolding statements

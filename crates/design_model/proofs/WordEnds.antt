@@ -8,7 +8,7 @@ use Rattle.design_model.specs.Tokens.Open.{between, comment, word, string}
 use Rattle.design_model.specs.declared.token_kind.TokenKind.TheVariants.{Word, Quoted}
 use Rattle.design_model.specs.Words.{is_quoted}
 use Rattle.design_model.specs.BoundaryLaws.{BeginsApart}
-use Rattle.design_model.proofs.Tests.{cases}
+use Rattle.design_model.proofs.CaseLemmas.{cases}
 
 -- a token that is no string ends before white space or where the text does
 abbrev pub WordEndsApart : List ℕ → Piece → Type 0

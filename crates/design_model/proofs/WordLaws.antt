@@ -2,7 +2,7 @@
 use Rattle.std.proofs.Common.{◌≡◌, ℕ, Bool, true, false, List, [], ◌∷◌, ◌++◌, length, Option, Some, None, refl, sym, ap, ◌∙◌, ⊎_elim, if◌then◌else◌}
 use Rattle.std.proofs.lemmas.Slice.Eq.{bytes_eq-Decides}
 use Rattle.design_model.specs.Words.{◌>>=◌, Rest, is_word, is_stop, next_word, word_that, key, number_at, noted, until_stop, is_place}
-use Rattle.design_model.proofs.Tests.{cases, some_same}
+use Rattle.design_model.proofs.CaseLemmas.{cases, some_same}
 
 -- a word that is this very word
 pub same_word : (word w : List ℕ) → is_word word w ≡ true → word ≡ w
