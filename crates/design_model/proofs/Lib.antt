@@ -1,7 +1,9 @@
+pub mod CaseLemmas
 pub mod EditRows
 pub mod Folds
 pub mod Forms
 pub mod KnownSteps
+pub mod ReadRecords
 pub mod Reading
 pub mod Rows
 pub mod SortUnique
@@ -10,6 +12,5 @@ pub mod Spelled
 pub mod StatementEnds
 pub mod StatementParts
 pub mod Statements
-pub mod CaseLemmas
 pub mod WordEnds
 pub mod WordLaws

@@ -93,10 +93,10 @@ control_byte : IsRefused (take 5 two ++ 127 ∷ drop 6 two) RefusedByte 5
 unfolding read_text statements lex all_from
 control_byte = refl
 
--- a second component of a name
-name_taken : IsRefused (front ++ codes "- u1 INV + PLACED ( 920 0 ) N ;\nEND COMPONENTS\nEND DESIGN\n") NameTaken 194
+-- a component of a name that stands right before, and of one that stands further before
+name_taken : IsRefused (front ++ codes "- u1 INV + PLACED ( 920 0 ) N ;\nEND COMPONENTS\nEND DESIGN\n") NameTaken 194 × IsRefused (front ++ codes "- u2 INV ;\n- u1 INV ;\nEND COMPONENTS\nEND DESIGN\n") NameTaken 205
 unfolding read_text statements lex all_from form_in top_form components_form end_at last_of section_of units_at header_at component_at clauses_upto clause_at clause_by placed_at point_at orient_of number_at until_stop whole
-name_taken = refl
+name_taken = (refl, refl)
 
 -- a second statement of which a text has one
 repeated : IsRefused (units_line ++ units_line ++ codes "END DESIGN\n") Repeated 30 × IsRefused (units_line ++ diearea_line ++ diearea_line ++ codes "END DESIGN\n") Repeated 62
@@ -107,6 +107,11 @@ repeated = (refl, refl)
 bad_number : IsRefused (codes "UNITS DISTANCE MICRONS x ;") Number 23 × IsRefused (codes "UNITS DISTANCE MICRONS 0 ;") Number 23
 unfolding read_text statements lex all_from form_in top_form last_of units_at number_at whole
 bad_number = (refl, refl)
+
+-- a - does not stand for a number
+no_number : IsRefused (codes "UNITS DISTANCE MICRONS - ;") NoForm 0
+unfolding read_text statements lex all_from form_in top_form last_of units_at number_at whole
+no_number = refl
 
 -- a statement that a string cuts off, and one that has no form; and which fault of two comes first: that of a whole
 -- statement, where white space ends it, and that of the byte, where it stands in the statement's last word

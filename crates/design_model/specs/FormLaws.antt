@@ -12,3 +12,7 @@ FormsAreSpelled = (m : Mode) (w : List ℕ) (ws : List (List ℕ)) (rec : Record
 -- What a record of its mode is written with reads as that record.
 abbrev pub SpelledIsRead : Type 0
 SpelledIsRead = (m : Mode) (rec : Record) (w : List ℕ) (ws : List (List ℕ)) → IsRecord m rec → spelled rec ≡ w ∷ ws → form_in m w ws ≡ Some (rec, None)
+
+-- What reads with good numbers is a record of its mode.
+abbrev pub ReadIsRecord : Type 0
+ReadIsRecord = (m : Mode) (w : List ℕ) (ws : List (List ℕ)) (rec : Record) → form_in m w ws ≡ Some (rec, None) → IsRecord m rec

@@ -1,7 +1,7 @@
 //! Laws of the statements of a text and of reading them.
 
 ghost use Rattle.design_model.specs.BoundaryLaws.{StatementsEndApart};
-ghost use Rattle.design_model.specs.FormLaws.{FormsAreSpelled, SpelledIsRead};
+ghost use Rattle.design_model.specs.FormLaws.{FormsAreSpelled, ReadIsRecord, SpelledIsRead};
 ghost use Rattle.design_model.specs.ReadingLaws.{ReadingJoins, RecordsJoin};
 ghost use Rattle.design_model.specs.StatementLaws.{FirstOfAll, StatementsJoin};
 
@@ -39,4 +39,9 @@ pub fn spelled_is_read()
 /// In a text that reads, each statement ends before white space or where the text does.
 pub fn statements_end_apart()
     ensures { StatementsEndApart }
+{}
+
+/// What reads with good numbers is a record of its mode.
+pub fn read_is_record()
+    ensures { ReadIsRecord }
 {}

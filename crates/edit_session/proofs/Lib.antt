@@ -1,9 +1,12 @@
+pub mod AddLemmas
 pub mod CheckLemmas
 pub mod ClauseLemmas
 pub mod LefLemmas
+pub mod LibraryLemmas
 pub mod ListSteps
 pub mod NameLemmas
 pub mod PieceLemmas
+pub mod ReadLemmas
 pub mod SpliceLemmas
 pub mod StatementLemmas
 pub mod TextLemmas

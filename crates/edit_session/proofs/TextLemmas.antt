@@ -10,7 +10,7 @@ use Rattle.design_model.specs.Tokens.{Piece, Lexed}
 use Rattle.design_model.specs.Boundaries.{Ending, def_ending, is_whole, cut, statements, statement_at, statement_from, unfinished}
 use Rattle.design_model.specs.Forms.{Record}
 use Rattle.design_model.specs.Folds.{◌>>◌, all_from}
-use Rattle.design_model.specs.Reading.{Seen, seen_with, repeats, read_form, read_one, read_at, read_found, read_from, at_last, or_fault, nothing_left, with_left, unless_repeated, fault_at, pos_of}
+use Rattle.design_model.specs.Reading.{Seen, seen_with, repeats, read_form, read_one, read_at, read_found, read_from, at_last, or_fault, nothing_left, with_left, fault_at, pos_of}
 
 -- the fault of what was read
 abbrev pub fault_of : {A F : Type 0} → Result A F → Option F
@@ -25,15 +25,19 @@ pub the_fault : {A F : Type 0} (r : Result A F) (f : F) → fault_of r ≡ Some 
 the_fault (Ok a) f h = cc
 the_fault (Err g) f h = cc
 
-cases : (b : Bool) → (b ≡ true) ⊎ (b ≡ false)
+pub cases : (b : Bool) → (b ≡ true) ⊎ (b ≡ false)
 cases true = inl refl
 cases false = inr refl
 
-some_same : {A : Type 0} (x y : A) → Some x ≡ Some y → x ≡ y
+pub some_same : {A : Type 0} (x y : A) → Some x ≡ Some y → x ≡ y
 some_same x y e = cc
 
 pub found_same : {A F : Type 0} (x y : A) (r : Result (Option A) F) → r ≡ Ok (Some x) → r ≡ Ok (Some y) → x ≡ y
 found_same x y r e h = cc
+
+pub append_more : (before : List Piece) (p : Piece) (ps : List Piece) → (before ++ p ∷ []) ++ ps ≡ before ++ p ∷ ps
+append_more [] p ps = refl
+append_more (b ∷ bs) p ps = ap (λ z. b ∷ z) (append_more bs p ps)
 
 module _ (e : List ℕ → Ending) where
   first_of_all : (ps before s later : List Piece) → cut e before ps ≡ Some (s, later) → statements e before ps ≡ (s ∷ (statements e [] later).0, (statements e [] later).1)
@@ -56,10 +60,6 @@ module _ (e : List ℕ → Ending) where
       (λ whole. let k = rw whole at h in cc)
       (λ more. let k = rw more at h in rw more (none_whole ps (before ++ p ∷ []) k ∙ ap (λ (z : List Piece). ([], z)) (append_more before p ps)))
       (cases (is_whole e (before ++ p ∷ [])))
-    where
-      append_more : (before : List Piece) (p : Piece) (ps : List Piece) → (before ++ p ∷ []) ++ ps ≡ before ++ p ∷ ps
-      append_more [] p ps = refl
-      append_more (b ∷ bs) p ps = ap (λ z. b ∷ z) (append_more bs p ps)
 
   -- a statement that is cut is the first, and what is left comes after it
   abbrev Splits : Lexed → List Piece → Lexed → Type 0

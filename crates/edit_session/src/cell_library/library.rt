@@ -1,6 +1,8 @@
 //! The library that LEF texts define.
 
-ghost use Rattle.std.specs.Prelude.{◌≡◌};
+ghost use Rattle.std.specs.Prelude.{◌≡◌, Some, OnOk, IfErr, IfOk};
+ghost use Rattle.edit_session.specs.LefViews.{lef_view};
+ghost use Rattle.edit_session.specs.LibraryViews.{open_view, open_with};
 ghost use Rattle.edit_session.specs.declared.cell_library.library.LibraryError.TheVariants.{Memory};
 
 use crate::cell_library::lef_texts::LefTexts;
@@ -12,6 +14,7 @@ use design_model::fault::{Fault, FaultCode};
 use indexmap::IndexMap;
 use std::alloc::{AllocFailed, Allocator, Global};
 use std::hash::{BuildHasherDefault, FoldHasher};
+use std::marker::Model;
 
 /// Width and height of a macro, in microns as written.
 #[derive(Clone, Copy)]
@@ -48,6 +51,16 @@ pub struct Library<'l, A: Allocator = Global> {
     macros: IndexMap<&'l [u8], Macro<'l>, BuildHasherDefault<FoldHasher>, A>,
 }
 
+impl<'l, A: Allocator> Model for Library<'l, A> {
+    ghost use Rattle.std.specs.Prelude.{List, map};
+    ghost use Rattle.design_model.specs.Library.{Macro as MacroRecord};
+    ghost use Rattle.edit_session.specs.LibraryViews.{entry_view};
+
+    ghost Value = { List MacroRecord };
+
+    ghost view = { λ t. map entry_view t.macros.entries };
+}
+
 /// The present block's macro, with what it says so far.
 #[derive(Clone, Copy)]
 struct OpenMacro<'l> {
@@ -56,35 +69,54 @@ struct OpenMacro<'l> {
 }
 
 /// What is open after a statement of a macro.
-fn with_statement<'l>(open: OpenMacro<'l>, statement: &LefStatement<'l>) -> OpenMacro<'l> {
-    let mut body = open.body;
+fn with_statement<'l>(opened: OpenMacro<'l>, statement: &LefStatement<'l>) -> OpenMacro<'l>
+    ensures { open_view (Some result) ≡ open_with (lef_view statement.now) (open_view (Some opened.entry)) }
+{
+    let mut body = opened.body;
     match statement {
-        LefStatement::Class(word) if body.class.is_none() => body.class = Some(word.bytes),
-        LefStatement::Size(width, height) if body.size.is_none() => {
-            body.size = Some(Extent {
-                width: width.bytes,
-                height: height.bytes,
-            });
+        LefStatement::Class(word) => {
+            if body.class.is_none() {
+                body.class = Some(word.bytes);
+            }
         }
-        _ => {}
+        LefStatement::Size(width, height) => {
+            if body.size.is_none() {
+                body.size = Some(Extent {
+                    width: width.bytes,
+                    height: height.bytes,
+                });
+            }
+        }
+        LefStatement::OpensSite(_)
+        | LefStatement::OpensMacro(_)
+        | LefStatement::Closes
+        | LefStatement::EndLibrary
+        | LefStatement::Kept => {}
     }
     OpenMacro {
-        name: open.name,
+        name: opened.name,
         body,
     }
 }
 
 impl<'l, A: Allocator + Copy> Library<'l, A> {
+    ghost use Rattle.design_model.specs.Library.{macro_named};
+    ghost use Rattle.edit_session.specs.LibraryViews.{AddsText, ReadsLibrary, closed, found_view, noted};
+    ghost use Rattle.edit_session.specs.declared.cell_library.library.TextError.TheVariants.{Memory as NoMemory};
+
     /// Reads the texts in their order.
     pub fn read<B: Allocator + Copy>(
         alloc: A,
         texts: &'l LefTexts<B>,
-    ) -> Result<Library<'l, A>, LibraryError> {
+    ) -> Result<Library<'l, A>, LibraryError>
+        ensures { ReadsLibrary texts.now result }
+    {
         let mut library = Library {
             macros: IndexMap::with_hasher(alloc, BuildHasherDefault::new()),
         };
-        for (number, text) in texts.as_slice().iter().enumerate() {
-            match library.add_text(text.as_slice()) {
+        let texts = texts.as_slice();
+        for number in 0..texts.len() {
+            match library.add_text(texts[number].as_slice()) {
                 Ok(()) => {}
                 Err(TextError::Fault(fault)) => return Err(LibraryError::Fault {
                     file: number + 1,
@@ -97,7 +129,9 @@ impl<'l, A: Allocator + Copy> Library<'l, A> {
     }
 
     /// The macro of a name.
-    pub fn macro_of(&self, name: &[u8]) -> Option<Macro<'l>> {
+    pub fn macro_of(&self, name: &[u8]) -> Option<Macro<'l>>
+        ensures { found_view name.now result ≡ macro_named self.now name.now }
+    {
         match self.macros.get(name) {
             Some(found) => Some(*found),
             None => None,
@@ -105,7 +139,9 @@ impl<'l, A: Allocator + Copy> Library<'l, A> {
     }
 
     /// Adds the macros of a text behind those before.
-    fn add_text(&mut self, text: &'l [u8]) -> Result<(), TextError> {
+    fn add_text(&mut self, text: &'l [u8]) -> Result<(), TextError>
+        ensures { AddsText text.now self.old self.new result }
+    {
         if text.len() > MAX_TEXT {
             return Err(TextError::Fault(Fault {
                 code: FaultCode::TooLong,
@@ -113,39 +149,60 @@ impl<'l, A: Allocator + Copy> Library<'l, A> {
             }));
         }
         let mut block = Block::Outermost;
-        let mut open = None;
+        let mut opened = None;
         let mut pos = 0;
         while let Some(read) = read_lef_statement(block, text, pos)? {
-            open = match read.statement {
-                LefStatement::OpensMacro(name) => Some(OpenMacro {
-                    name: name.bytes,
-                    body: Macro {
-                        class: None,
-                        size: None,
-                    },
-                }),
-                LefStatement::Closes => {
-                    self.close(open)?;
-                    None
-                }
-                _ => match open {
-                    Some(before) => Some(with_statement(before, &read.statement)),
-                    None => None,
-                },
-            };
+            opened = self.note(opened, &read.statement)?;
             block = read.block;
             pos = read.end;
         }
         Ok(())
     }
 
-    /// Adds the macro whose block closes, unless its name is taken.
-    fn close(&mut self, open: Option<OpenMacro<'l>>) -> Result<(), TextError> {
-        if let Some(closed) = open
-            && !self.macros.contains_key(closed.name)
-        {
-            self.macros.insert(closed.name, closed.body)?;
+    /// Notes a statement, and gives the macro that is open after it.
+    fn note(
+        &mut self,
+        opened: Option<OpenMacro<'l>>,
+        statement: &LefStatement<'l>,
+    ) -> Result<Option<OpenMacro<'l>>, TextError>
+        ensures ok { IfOk result (λ later. (self.new, open_view later) ≡ noted (lef_view statement.now) (self.old, open_view opened.entry)) }
+        ensures err { IfErr result (λ e. e ≡ NoMemory) }
+    {
+        match statement {
+            LefStatement::OpensMacro(name) => Ok(Some(OpenMacro {
+                name: name.bytes,
+                body: Macro {
+                    class: None,
+                    size: None,
+                },
+            })),
+            LefStatement::Closes => {
+                self.close(opened)?;
+                Ok(None)
+            }
+            LefStatement::OpensSite(_)
+            | LefStatement::EndLibrary
+            | LefStatement::Class(_)
+            | LefStatement::Size(_, _)
+            | LefStatement::Kept => match opened {
+                Some(before) => Ok(Some(with_statement(before, statement))),
+                None => Ok(None),
+            },
         }
+    }
+
+    /// Adds the macro whose block closes, unless its name is taken.
+    fn close(&mut self, opened: Option<OpenMacro<'l>>) -> Result<(), TextError>
+        ensures ok { OnOk result (self.new ≡ closed self.old (open_view opened.entry)) }
+        ensures err { IfErr result (λ e. e ≡ NoMemory) }
+    {
+        let Some(done) = opened else {
+            return Ok(());
+        };
+        if self.macros.contains_key(done.name) {
+            return Ok(());
+        }
+        self.macros.insert(done.name, done.body)?;
         Ok(())
     }
 }
@@ -158,12 +215,20 @@ enum TextError {
 }
 
 impl From<Fault> for TextError {
+    ghost use Rattle.edit_session.specs.declared.cell_library.library.TextError.TheVariants.{Fault as OfFault};
+
+    ghost from_gives = { λ fault e. e ≡ OfFault fault };
+
     fn from(fault: Fault) -> TextError {
         TextError::Fault(fault)
     }
 }
 
 impl<T: Drop> From<AllocFailed<T>> for TextError {
+    ghost use Rattle.edit_session.specs.declared.cell_library.library.TextError.TheVariants.{Memory};
+
+    ghost from_gives = { λ _ e. e ≡ Memory };
+
     fn from(_error: AllocFailed<T>) -> TextError {
         TextError::Memory
     }

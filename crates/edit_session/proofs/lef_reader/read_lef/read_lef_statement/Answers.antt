@@ -1,4 +1,4 @@
-use Rattle.std.proofs.Common.{◌≡◌, length, ap, ◌∙◌, Ok}
+use Rattle.std.proofs.Common.{length, ap, ◌∙◌, Ok}
 use Rattle.std.proofs.lemmas.Result.{err_from_is_err_and}
 use Rattle.design_model.specs.Tokens.{left_from}
 use Rattle.edit_session.specs.declared.lef_reader.block.Block as code_block
