@@ -3,7 +3,7 @@
 use design_model::MAX_TEXT;
 use design_model::counted::Counted;
 use design_model::input::{InputError, read_up_to};
-use edit_session::edit_script::run::MAX_TURNS;
+use edit_script::run::MAX_TURNS;
 use std::alloc::Global;
 use std::fs;
 use std::rt::Files;

@@ -11,6 +11,7 @@ pub mod Forms
 pub mod Geometry
 pub mod Known
 pub mod Library
+pub mod Located
 pub mod Lines
 pub mod Order
 pub mod Output

@@ -3,9 +3,9 @@
 ghost use Rattle.std.specs.Prelude.{◌≡◌, IfOk};
 ghost use Rattle.design_model.specs.Lines.{kind_word, diag_text};
 
-use crate::cell_library::library::Library;
-use crate::place_checks::boxes::boxes_of;
-use crate::place_checks::overlap::overlaps_of;
+use cell_library::library::Library;
+use place_checks::boxes::boxes_of;
+use place_checks::overlap::overlaps_of;
 use design_model::diagnostic::{Diag, DiagKind, DiagLine, DiagLines, sort_lines};
 use design_model::sequence::Sequence;
 use itoa::Buffer;

@@ -5,10 +5,10 @@ ghost use Rattle.std.specs.Io.KnownBytes.{Appends};
 ghost use Rattle.design_model.specs.Known.{WritesPart};
 ghost use Rattle.edit_session.specs.declared.session.OpenError.TheVariants.{Memory};
 
-use crate::cell_library::library::Library;
-use crate::def_reader::read_def::{ReadError, check_def};
-use crate::def_splice::place::place_splice;
-use crate::def_splice::spliced::spliced;
+use cell_library::library::Library;
+use def_reader::read_def::{ReadError, check_def};
+use def_splice::place::place_splice;
+use def_splice::spliced::spliced;
 use crate::report::report;
 use design_model::MAX_TEXT;
 use design_model::counted::{CountedWrite, Failures};

@@ -1,0 +1,5 @@
+pub mod AddLemmas
+pub mod CaseLemmas
+pub mod LefTextLemmas
+pub mod LibraryLemmas
+pub mod ReadLemmas

@@ -1,0 +1,7 @@
+pub mod CheckLemmas
+pub mod ClauseLemmas
+pub mod ListSteps
+pub mod NameLemmas
+pub mod PieceLemmas
+pub mod StatementLemmas
+pub mod TextLemmas

@@ -1,0 +1,4 @@
+pub mod ClauseViews
+pub mod Endings
+pub mod StatementViews
+pub mod TextViews

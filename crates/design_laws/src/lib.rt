@@ -1,0 +1,4 @@
+//! Laws of the definitions over whole texts.
+#![tactic(auto)]
+
+pub mod laws;

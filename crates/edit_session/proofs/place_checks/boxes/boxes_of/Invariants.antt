@@ -1,8 +1,0 @@
-use Rattle.std.proofs.Common.{◌≡◌, ◌-◌, length}
-use Rattle.edit_session.proofs.place_checks.boxes.boxes_of.Given as goal
-
-abbrev pub invariant-loop-read : goal.invariant-loop-read
-invariant-loop-read g l = l.statements.text.now ≡ l.text
-
-abbrev pub decreases-loop-read : goal.decreases-loop-read
-decreases-loop-read g l = length l.text - l.statements.pos

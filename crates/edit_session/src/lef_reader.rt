@@ -1,5 +1,0 @@
-//! Reading LEF statements (LEF/DEF 5.8 Language Reference, "LEF Syntax").
-
-pub mod block;
-pub mod lef_form;
-pub mod read_lef;

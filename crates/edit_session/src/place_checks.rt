@@ -1,4 +1,0 @@
-//! Checks of how components are placed.
-
-pub mod boxes;
-pub mod overlap;

@@ -1,0 +1,2 @@
+pub mod LefReading
+pub mod LefViews
