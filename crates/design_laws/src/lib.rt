@@ -1,4 +1,6 @@
-//! Laws of the definitions over whole texts.
+//! Laws of the definitions over whole texts and edits of them.
 #![tactic(auto)]
 
-pub mod laws;
+pub mod editing;
+pub mod placing;
+pub mod splicing;

@@ -1,8 +1,12 @@
 //! The session: a library and the present text of a design.
 
-ghost use Rattle.std.specs.Prelude.{◌≡◌, ◌≤◌, ◌<◌, ◌^◌, OnErr, OnOk, IfOk, length};
+ghost use Rattle.std.specs.Prelude.{◌≡◌, ◌≤◌, ◌<◌, ◌^◌, OnErr, OnOk, IfOk, IsOk, length};
 ghost use Rattle.std.specs.Io.KnownBytes.{Appends};
+ghost use Rattle.design_model.specs.Edits.{seen};
 ghost use Rattle.design_model.specs.Known.{WritesPart};
+ghost use Rattle.design_model.specs.Reading.{read_text};
+ghost use Rattle.design_model.specs.Runs.{Answers, design_edit, text_edit};
+ghost use Rattle.edit_session.specs.Sessions.{MakesText, OpensAs, ReplacesText, Reports};
 ghost use Rattle.edit_session.specs.declared.session.OpenError.TheVariants.{Memory};
 
 use cell_library::library::Library;
@@ -35,14 +39,16 @@ pub struct Session<'s, 'l, A: Allocator = Global> {
 }
 
 impl<'s, 'l, A: Allocator> Model for Session<'s, 'l, A> {
-    ghost use Rattle.std.specs.Prelude.{List, ℕ, ◌≤◌, length};
+    ghost use Rattle.std.specs.Prelude.{◌≤◌, length, IsOk};
     ghost use Rattle.design_model.specs.declared.TheConstants.{MAX_TEXT};
+    ghost use Rattle.design_model.specs.Reading.{read_text};
+    ghost use Rattle.edit_session.specs.Contents.{Content};
 
-    ghost Value = { List ℕ };
+    ghost Value = { Content };
 
-    ghost view = { λ s. s.text.items };
+    ghost view = { λ s. record { library = s.library.now; text = s.text.items } };
 
-    ghost invariant = { λ s. length s.text.items ≤ MAX_TEXT };
+    ghost invariant = { λ s. (length s.text.items ≤ MAX_TEXT) × IsOk (read_text s.text.items) };
 }
 
 impl<'s, 'l, A: Allocator + Copy> Session<'s, 'l, A> {
@@ -52,7 +58,9 @@ impl<'s, 'l, A: Allocator + Copy> Session<'s, 'l, A> {
         library: &'s Library<'l, A>,
         text: &[u8],
     ) -> Result<Session<'s, 'l, A>, OpenError>
-        ensures { IfOk result (λ s. s ≡ text.now) }
+        ensures opens { OpensAs text.now result }
+        ensures text { IfOk result (λ s. s.text ≡ text.now) }
+        ensures library { IfOk result (λ s. s.library ≡ library.now) }
     {
         match check_def(alloc, text) {
             Ok(()) => {}
@@ -67,21 +75,36 @@ impl<'s, 'l, A: Allocator + Copy> Session<'s, 'l, A> {
 
     /// Makes an edit, or refuses it and leaves the text as it was.
     pub fn edit(&mut self, edit: &Edit<'_>) -> Result<Done, EditRefusal>
-        ensures { OnErr result (self.new ≡ self.old) }
+        ensures answer { Answers self.old.text (design_edit (seen edit.now)) result self.new.text }
+        ensures library { self.new.library ≡ self.old.library }
+        ensures reads { IsOk (read_text self.new.text) }
     {
-        let new = next_text(*self.text.allocator(), &self.text, edit)?;
+        let new = edited_text(*self.text.allocator(), &self.text, edit)?;
+        self.text = new;
+        Ok(Done { reads: 0, tests: 0 })
+    }
+
+    /// Puts bytes in the place of those from `a` up to `b`, or refuses it and leaves the text as it was.
+    pub fn text_edit(&mut self, a: usize, b: usize, new: &[u8]) -> Result<Done, EditRefusal>
+        ensures answer { Answers self.old.text (text_edit a b new.now) result self.new.text }
+        ensures library { self.new.library ≡ self.old.library }
+        ensures reads { IsOk (read_text self.new.text) }
+    {
+        let new = replaced_text(*self.text.allocator(), &self.text, a, b, new)?;
         self.text = new;
         Ok(Done { reads: 0, tests: 0 })
     }
 
     /// All diagnostics of the present text, in the order of their bytes, repeats kept.
-    pub fn diagnostics(&self) -> Result<DiagLines<A>, AllocError> {
+    pub fn diagnostics(&self) -> Result<DiagLines<A>, AllocError>
+        ensures { IfOk result (λ lines. Reports self.now.library self.now.text lines) }
+    {
         report(*self.text.allocator(), self.library, &self.text)
     }
 
     /// How many bytes the present text has.
     pub fn text_len(&self) -> usize
-        ensures { result ≡ length self.now }
+        ensures { result ≡ length self.now.text }
     {
         self.text.len()
     }
@@ -89,8 +112,8 @@ impl<'s, 'l, A: Allocator + Copy> Session<'s, 'l, A> {
     /// Writes the present text.
     pub fn write_to<W: CountedWrite>(&self, out: &mut W) -> Result<(), WriteFault>
         requires { W.failed out.old < 2 ^ 62 }
-        ensures ok { OnOk result (Appends (W.contents out.old) (W.contents out.new) self.now) }
-        ensures err { OnErr result (WritesPart (W.contents out.old) (W.contents out.new) self.now) }
+        ensures ok { OnOk result (Appends (W.contents out.old) (W.contents out.new) self.now.text) }
+        ensures err { OnErr result (WritesPart (W.contents out.old) (W.contents out.new) self.now.text) }
         ensures failed { OnErr result (W.failed out.old < W.failed out.new) }
     {
         let mut patience = MAX_INTERRUPTIONS;
@@ -98,14 +121,17 @@ impl<'s, 'l, A: Allocator + Copy> Session<'s, 'l, A> {
     }
 }
 
-/// The text after an edit.
-fn next_text<A: Allocator + Copy>(
+/// The text after an edit of a text that reads.
+fn edited_text<A: Allocator + Copy>(
     alloc: A,
     text: &[u8],
     edit: &Edit<'_>,
 ) -> Result<Vec<u8, A>, EditRefusal>
-    requires { length text.now ≤ MAX_TEXT }
-    ensures { IfOk result (λ v. length v.items ≤ MAX_TEXT) }
+    requires fits { length text.now ≤ MAX_TEXT }
+    requires reads { IsOk (read_text text.now) }
+    ensures makes { MakesText (λ v. v.items) text.now (seen edit.now) result }
+    ensures fits { IfOk result (λ v. length v.items ≤ MAX_TEXT) }
+    ensures reads { IfOk result (λ v. IsOk (read_text v.items)) }
 {
     let splice = match edit {
         Edit::Place {
@@ -115,12 +141,38 @@ fn next_text<A: Allocator + Copy>(
             orient,
         } => place_splice(alloc, text, component, *x, *y, *orient)?,
     };
-    let kept = text.len() - (splice.hi - splice.lo);
-    if splice.put.len() > MAX_TEXT - kept {
-        return Err(EditRefusal::Refused(EditCode::TooLong));
-    }
     let mut splices = Vec::new(alloc);
     splices.push(splice)?;
     let new = spliced(alloc, text, &splices)?;
     Ok(new)
+}
+
+/// The text after bytes took the place of those from `a` up to `b`.
+fn replaced_text<A: Allocator + Copy>(
+    alloc: A,
+    text: &[u8],
+    a: usize,
+    b: usize,
+    new: &[u8],
+) -> Result<Vec<u8, A>, EditRefusal>
+    requires { length text.now ≤ MAX_TEXT }
+    ensures makes { ReplacesText (λ v. v.items) text.now a b new.now result }
+    ensures fits { IfOk result (λ v. length v.items ≤ MAX_TEXT) }
+    ensures reads { IfOk result (λ v. IsOk (read_text v.items)) }
+{
+    if a > b || b > text.len() {
+        return Err(EditRefusal::Refused(EditCode::Range));
+    }
+    let kept = text.len() - (b - a);
+    if new.len() > MAX_TEXT - kept {
+        return Err(EditRefusal::Refused(EditCode::TooLong));
+    }
+    let mut all = Vec::from_slice(alloc, &text[..a])?;
+    all.extend_from_slice(new)?;
+    all.extend_from_slice(&text[b..])?;
+    match check_def(alloc, &all) {
+        Ok(()) => Ok(all),
+        Err(ReadError::Fault(fault)) => Err(EditRefusal::Unreadable(fault)),
+        Err(ReadError::Memory) => Err(EditRefusal::Refused(EditCode::Memory)),
+    }
 }
