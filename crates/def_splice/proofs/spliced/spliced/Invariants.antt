@@ -1,9 +1,10 @@
-use Rattle.std.proofs.Common.{◌≡◌, ◌++◌, length, drop}
-use Rattle.design_model.specs.Splices.{made_from, AreInOrder}
+use Rattle.std.proofs.Common.{◌≡◌, ◌++◌, length, drop, map}
+use Rattle.design_model.specs.Edits.{cut_from}
+use Rattle.design_model.specs.Splices.{cut_view, AreInOrder}
 use Rattle.def_splice.proofs.spliced.spliced.Given as goal
 
 abbrev pub invariant-loop-splice : goal.invariant-loop-splice
 invariant-loop-splice g l = record {
-  so_far : l.out.items ++ made_from l.at (drop l.splice-index l.splices) l.text ≡ made_from 0 l.splices l.text;
+  so_far : l.out.items ++ cut_from l.at (map cut_view (drop l.splice-index l.splices)) l.text ≡ cut_from 0 (map cut_view l.splices) l.text;
   in_order : AreInOrder l.at (drop l.splice-index l.splices) (length l.text);
 }
