@@ -1,1 +1,2 @@
 pub mod EditedTexts
+pub mod Formed

@@ -1,6 +1,6 @@
 //! Laws of edits.
 
-ghost use Rattle.design_laws.specs.EditLaws.{AllAreFormed, EditsAreApplied};
+ghost use Rattle.design_laws.specs.EditLaws.{AllAreFormed, EditsAreApplied, RecordsAreRead};
 
 use crate::placing::{
     entries_are_placed, entries_are_replaced, placed_are_read, placements_are_tokens,
@@ -22,4 +22,9 @@ pub fn edits_are_applied()
 /// In a text that reads, all statements have records: those of its design.
 pub fn all_are_formed()
     ensures { AllAreFormed }
+{}
+
+/// The records of a text that reads are its design.
+pub fn records_are_read()
+    ensures { RecordsAreRead }
 {}

@@ -1,5 +1,5 @@
 -- What the calls of a session say.
-use Rattle.std.specs.Prelude.{◌≡◌, ◌≤◌, ℕ, false, List, map, length, Result, Ok, Err, IsOk}
+use Rattle.std.specs.Prelude.{◌≡◌, ◌≤◌, ℕ, false, List, length, Result, Ok, Err, IsOk}
 use Rattle.design_model.specs.declared.diagnostic.DiagLine.{DiagLine}
 use Rattle.design_model.specs.declared.edit.EditCode.TheVariants as codes_of
 use Rattle.design_model.specs.declared.edit.EditRefusal.{EditRefusal}
@@ -7,6 +7,7 @@ use Rattle.design_model.specs.declared.edit.EditRefusal.TheVariants.{Refused, Un
 use Rattle.design_model.specs.Edits.{Change, Cut, with_cuts, is_long}
 use Rattle.design_model.specs.Forms.{Record}
 use Rattle.design_model.specs.Library.{Macro}
+use Rattle.design_model.specs.Order.{texts}
 use Rattle.design_model.specs.Reading.{read_text}
 use Rattle.design_model.specs.Diagnostics.{diagnostics}
 use Rattle.design_model.specs.Runs.{Gives, new_text, text_outcome}
@@ -18,10 +19,6 @@ abbrev pub OpensAs : {S : Type 0} → List ℕ → Result S OpenError → Type 0
 OpensAs text (Ok s) = IsOk (read_text text)
 OpensAs text (Err (Fault f)) = read_text text ≡ Err f
 OpensAs text (Err Memory) = Unit {0}
-
--- the bytes of lines
-abbrev pub texts : {A : Type 0} → List (DiagLine A) → List (List ℕ)
-texts lines = map (λ l. l.text) lines
 
 -- the lines are all diagnostics of what a text reads as
 abbrev pub Reports : {A : Type 0} → List Macro → List ℕ → List (DiagLine A) → Type 0

@@ -1,7 +1,8 @@
 //! Reports as lines.
 
-ghost use Rattle.std.specs.Prelude.{◌≡◌, IfOk};
+ghost use Rattle.std.specs.Prelude.{◌≡◌, ◌++◌, IfOk, OnOk, map};
 ghost use Rattle.design_model.specs.Lines.{kind_word, diag_text};
+ghost use Rattle.design_model.specs.Order.{texts};
 
 use cell_library::library::Library;
 use place_checks::boxes::boxes_of;
@@ -42,6 +43,20 @@ fn line_of<A: Allocator + Copy>(alloc: A, diag: &Diag<'_, A>) -> Result<DiagLine
     })
 }
 
+/// Puts the lines of reports behind others.
+fn push_lines<A: Allocator + Copy>(
+    lines: &mut Vec<DiagLine<A>, A>,
+    reports: &[Diag<'_, A>],
+) -> Result<(), AllocError>
+    ensures { OnOk result (texts lines.new.items ≡ texts lines.old.items ++ map diag_text reports.now) }
+{
+    let alloc = *lines.allocator();
+    for diag in reports {
+        lines.push(line_of(alloc, diag)?)?;
+    }
+    Ok(())
+}
+
 /// All diagnostics of a text, in the order of their bytes, repeats kept.
 pub fn report<A: Allocator + Copy>(
     alloc: A,
@@ -49,11 +64,8 @@ pub fn report<A: Allocator + Copy>(
     text: &[u8],
 ) -> Result<DiagLines<A>, AllocError> {
     let boxes = boxes_of(alloc, library, text)?;
-    let overlaps = overlaps_of(alloc, &boxes)?;
     let mut lines = Vec::new(alloc);
-    for diag in &overlaps {
-        lines.push(line_of(alloc, diag)?)?;
-    }
+    push_lines(&mut lines, &overlaps_of(alloc, &boxes)?)?;
     sort_lines(&mut lines);
     Ok(Sequence::from_vec(lines))
 }
