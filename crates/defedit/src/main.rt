@@ -1,12 +1,7 @@
 //! `defedit`: runs a script of edits and queries over a DEF text and its LEF texts.
 #![tactic(auto)]
 
-mod command_line;
-mod files;
-mod outcome;
-mod program;
-
-use crate::program::end_of;
+use defedit_program::program::end_of;
 use std::process::ExitCode;
 
 fn main(rt: HostRuntime) -> ExitCode {

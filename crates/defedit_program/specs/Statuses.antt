@@ -1,0 +1,34 @@
+-- How the program ends, and its exit statuses.
+use Rattle.std.specs.Prelude.{ℕ}
+use Rattle.edit_script.specs.declared.run.RunFault.{RunFault}
+use Rattle.edit_script.specs.declared.run.RunFault.TheVariants as faults
+use Rattle.defedit_program.specs.declared.outcome.Outcome.{Outcome}
+use Rattle.defedit_program.specs.declared.outcome.Outcome.TheVariants.{Done, Refused, Usage, Fault, Device, Memory}
+use Rattle.defedit_program.specs.declared.outcome.Stop.{Stop}
+use Rattle.defedit_program.specs.declared.outcome.Stop.TheVariants as stops
+
+abbrev pub status_of : Outcome → ℕ
+status_of Done = 0
+status_of Refused = 1
+status_of Usage = 2
+status_of Fault = 3
+status_of Device = 4
+status_of Memory = 5
+
+-- how a run that stopped ends the program
+abbrev pub run_ends : RunFault → Outcome
+run_ends (faults.Lef file fault) = Fault
+run_ends (faults.Def fault) = Fault
+run_ends faults.Memory = Memory
+run_ends faults.Read = Device
+run_ends faults.Write = Device
+run_ends faults.TooLong = Device
+run_ends faults.Endless = Device
+
+abbrev pub ends : Stop → Outcome
+ends stops.NoText = Usage
+ends (stops.CannotRead path) = Device
+ends (stops.CannotWrite path) = Device
+ends stops.WriteFailed = Device
+ends stops.Memory = Memory
+ends (stops.Run fault) = run_ends fault
