@@ -1,2 +1,4 @@
 pub mod EditedTexts
 pub mod Formed
+pub mod PrintedNumbers
+pub mod PutTokens
