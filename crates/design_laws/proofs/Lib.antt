@@ -2,3 +2,8 @@ pub mod EditedTexts
 pub mod Formed
 pub mod PrintedNumbers
 pub mod PutTokens
+pub mod SplicingEnds
+pub mod SplicingParts
+pub mod SplicingPlaces
+pub mod SplicingTexts
+pub mod SplicingWords
