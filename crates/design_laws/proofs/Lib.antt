@@ -1,4 +1,9 @@
 pub mod EditedTexts
+pub mod EntryClauses
+pub mod EntryPlaced
+pub mod EntryRead
+pub mod EntryWhole
+pub mod EntryWords
 pub mod Formed
 pub mod PrintedNumbers
 pub mod PutTokens

@@ -1,0 +1,43 @@
+-- An entry is one whole statement.
+use Rattle.std.proofs.Common.{◌≡◌, ℕ, false, List, [], ◌∷◌, ◌++◌, refl, ap, ◌∙◌, append_assoc, codes}
+use Rattle.std.specs.List.{All}
+use Rattle.std.proofs.lemmas.List.Elements.{All-head, All-tail}
+use Rattle.design_model.specs.Tokens.{Piece}
+use Rattle.design_model.specs.Words.{is_semicolon}
+use Rattle.design_model.specs.Boundaries.{words, def_ending, is_alone, is_last, last_of, is_whole, statements}
+
+-- a word that ends no entry
+abbrev pub EndsNone : List ℕ → Type 0
+EndsNone w = is_semicolon w ≡ false
+
+last_is : (p q : Piece) (ps : List Piece) → last_of p (ps ++ q ∷ []) ≡ q
+unfolding last_of
+last_is p q [] = refl
+last_is p q (r ∷ ps) = last_is r q ps
+
+-- behind a - the first ; ends a statement
+whole_at : (first q : Piece) (ps : List Piece) → first.bytes ≡ codes "-" → is_whole def_ending (first ∷ (ps ++ q ∷ [])) ≡ is_semicolon q.bytes
+unfolding last_of
+whole_at first q [] minus = ap (λ (w : List ℕ). is_last (def_ending w) q.bytes) minus
+whole_at first q (p ∷ ps) minus = ap (λ (w : List ℕ). is_last (def_ending w) (last_of p (ps ++ q ∷ [])).bytes) minus ∙ ap (λ (r : Piece). is_semicolon r.bytes) (last_is p q ps)
+
+goes_to_end : (first : Piece) (before ps : List Piece) (ws : List (List ℕ)) → first.bytes ≡ codes "-" → words ps ≡ ws ++ codes ";" ∷ [] → All EndsNone ws
+    → statements def_ending (first ∷ before) ps ≡ ((first ∷ (before ++ ps)) ∷ [], [])
+unfolding statements
+goes_to_end first before [] [] minus e none = absurd (cc)
+goes_to_end first before (q ∷ []) [] minus e none =
+    let same : q.bytes ≡ codes ";" = cc in
+    rw (whole_at first q before minus ∙ ap is_semicolon same) refl
+goes_to_end first before (q ∷ r ∷ ps) [] minus e none = absurd (cc)
+goes_to_end first before [] (w ∷ ws) minus e none = absurd (cc)
+goes_to_end first before (q ∷ ps) (w ∷ ws) minus e none =
+    let same : q.bytes ≡ w = cc in
+    let later : words ps ≡ ws ++ codes ";" ∷ [] = cc in
+    rw (whole_at first q before minus ∙ ap is_semicolon same ∙ All-head EndsNone w ws none)
+    (goes_to_end first (before ++ q ∷ []) ps ws minus later (All-tail EndsNone w ws none) ∙ ap (λ (qs : List Piece). ((first ∷ qs) ∷ [], [])) (append_assoc before (q ∷ []) ps))
+
+-- a - and words that are no ; before one are one statement
+pub one_statement : (first : Piece) (ps : List Piece) (ws : List (List ℕ)) → first.bytes ≡ codes "-" → words ps ≡ ws ++ codes ";" ∷ [] → All EndsNone ws
+    → statements def_ending [] (first ∷ ps) ≡ ((first ∷ ps) ∷ [], [])
+unfolding statements
+one_statement first ps ws minus e none = rw (ap (λ (w : List ℕ). is_alone (def_ending w)) minus) (goes_to_end first [] ps ws minus e none)
