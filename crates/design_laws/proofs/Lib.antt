@@ -7,6 +7,10 @@ pub mod EntryWords
 pub mod Formed
 pub mod PrintedNumbers
 pub mod PutTokens
+pub mod Replaced
+pub mod ReplacedCuts
+pub mod ReplacedFound
+pub mod ReplacedWords
 pub mod SplicingEnds
 pub mod SplicingParts
 pub mod SplicingPlaces
