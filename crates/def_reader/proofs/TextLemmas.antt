@@ -39,8 +39,15 @@ pub append_more : (before : List Piece) (p : Piece) (ps : List Piece) → (befor
 append_more [] p ps = refl
 append_more (b ∷ bs) p ps = ap (λ z. b ∷ z) (append_more bs p ps)
 
+-- the form of a statement that has a fault
+pub form_fault : (m : Mode) (ps : List Piece) (left : Lexed) (f : Fault) → with_left left (read_form m ps) ≡ Err f → read_form m ps ≡ Err f
+form_fault m ps left f h = of_form (read_form m ps) h where
+  of_form : (x : Result (Record × Mode) Fault) → with_left left x ≡ Err f → x ≡ Err f
+  of_form (Ok y) k = cc
+  of_form (Err g) k = cc
+
 module _ (e : List ℕ → Ending) where
-  first_of_all : (ps before s later : List Piece) → cut e before ps ≡ Some (s, later) → statements e before ps ≡ (s ∷ (statements e [] later).0, (statements e [] later).1)
+  pub first_of_all : (ps before s later : List Piece) → cut e before ps ≡ Some (s, later) → statements e before ps ≡ (s ∷ (statements e [] later).0, (statements e [] later).1)
   unfolding statements cut
   first_of_all [] before s later h = cc
   first_of_all (p ∷ ps) before s later h = ⊎_elim
@@ -53,7 +60,7 @@ module _ (e : List ℕ → Ending) where
       (λ more. let k = rw more at h in rw more (first_of_all ps (before ++ p ∷ []) s later k))
       (cases (is_whole e (before ++ p ∷ [])))
 
-  none_whole : (ps before : List Piece) → cut e before ps ≡ None → statements e before ps ≡ ([], before ++ ps)
+  pub none_whole : (ps before : List Piece) → cut e before ps ≡ None → statements e before ps ≡ ([], before ++ ps)
   unfolding statements cut
   none_whole [] before h = ap (λ (z : List Piece). ([], z)) (sym (append-nil before))
   none_whole (p ∷ ps) before h = ⊎_elim
@@ -62,7 +69,7 @@ module _ (e : List ℕ → Ending) where
       (cases (is_whole e (before ++ p ∷ [])))
 
   -- a statement that is cut is the first, and what is left comes after it
-  abbrev Splits : Lexed → List Piece → Lexed → Type 0
+  abbrev pub Splits : Lexed → List Piece → Lexed → Type 0
   Splits l ps left = (statements e [] l.pieces ≡ (ps ∷ (statements e [] left.pieces).0, (statements e [] left.pieces).1)) × (left.end ≡ l.end)
 
   split_found : (l left : Lexed) (ps : List Piece) (found : Option (List Piece × List Piece)) → cut e [] l.pieces ≡ found → statement_from found l ≡ Ok (Some (ps, left)) → Splits l ps left
@@ -79,12 +86,12 @@ module _ (e : List ℕ → Ending) where
     none_found [] (Ok n) k = cc
     none_found (q ∷ qs) (Ok n) k = cc
 
-  splits : (l left : Lexed) (ps : List Piece) → statement_at e l ≡ Ok (Some (ps, left)) → Splits l ps left
+  pub splits : (l left : Lexed) (ps : List Piece) → statement_at e l ≡ Ok (Some (ps, left)) → Splits l ps left
   unfolding statement_at
   splits l left ps h = split_found l left ps (cut e [] l.pieces) refl h
 
 -- the form of a statement that was read
-form_read : (m after : Mode) (l left : Lexed) (ps : List Piece) (rec : Record) → statement_at def_ending l ≡ Ok (Some (ps, left)) → read_at m l ≡ Ok (Some (rec, after, left)) → read_form m ps ≡ Ok (rec, after)
+pub form_read : (m after : Mode) (l left : Lexed) (ps : List Piece) (rec : Record) → statement_at def_ending l ≡ Ok (Some (ps, left)) → read_at m l ≡ Ok (Some (rec, after, left)) → read_form m ps ≡ Ok (rec, after)
 unfolding read_at
 form_read m after l left ps rec h r = of_form (read_form m ps) (sym (ap (read_found m l) h) ∙ r) where
   of_form : (x : Result (Record × Mode) Fault) → with_left left x ≡ Ok (Some (rec, after, left)) → x ≡ Ok (rec, after)
@@ -144,10 +151,7 @@ module _ (m : Mode) (s : Seen) where
     of_mode Props h = cc
 
   one_fault : (ps : List Piece) (left : Lexed) (f : Fault) → with_left left (read_form m ps) ≡ Err f → read_one (m, s) ps ≡ Err f
-  one_fault ps left f h = rw (of_form (read_form m ps) h) refl where
-    of_form : (x : Result (Record × Mode) Fault) → with_left left x ≡ Err f → x ≡ Err f
-    of_form (Ok y) k = cc
-    of_form (Err g) k = cc
+  one_fault ps left f h = rw (form_fault m ps left f h) refl
 
   found_fault : (l : Lexed) (f : Fault) (found : Option (List Piece × List Piece)) → cut def_ending [] l.pieces ≡ found → read_found m l (statement_from found l) ≡ Err f → fault_of (read_from (m, s) l) ≡ Some f
   unfolding all_from

@@ -4,7 +4,7 @@ ghost use Rattle.std.specs.Prelude.{◌≡◌, ◌∷◌, IfSome};
 ghost use Rattle.design_model.specs.Words.{Gives};
 ghost use Rattle.design_model.specs.Forms.{units_at, header_at, end_at, section_of, begins_none, section_form, header_or_kept, top_form, components_form, entry_form, form_in, mode_after};
 ghost use Rattle.lefdef_tokens.specs.Views.{rest_of, words_of};
-ghost use Rattle.def_reader.specs.StatementViews.{record_view, record_with_bad, HasText};
+ghost use Rattle.def_reader.specs.StatementViews.{record_view, record_with_bad, HasText, HasPlacing};
 
 use crate::component::component_at;
 use crate::number::{count_at, scale_at};
@@ -17,6 +17,7 @@ use lefdef_tokens::{Cursor, Token, TokenRun, is_quoted, is_word};
 fn units_at<'t>(cursor: Cursor<'t>) -> Option<(Statement<'t>, Option<usize>)>
     ensures gives { Gives record_with_bad result (units_at (rest_of cursor.entry)) }
     ensures text { IfSome result (λ x. HasText cursor.entry.tokens.text.now x.0) }
+    ensures placing { IfSome result (λ x. HasPlacing x.0) }
 {
     let cursor = cursor.key(b"DISTANCE")?;
     let cursor = cursor.key(b"MICRONS")?;
@@ -33,6 +34,7 @@ fn units_at<'t>(cursor: Cursor<'t>) -> Option<(Statement<'t>, Option<usize>)>
 fn header_at<'t>(section: Section, cursor: Cursor<'t>) -> Option<(Statement<'t>, Option<usize>)>
     ensures gives { Gives record_with_bad result (header_at section (rest_of cursor.entry)) }
     ensures text { IfSome result (λ x. HasText cursor.entry.tokens.text.now x.0) }
+    ensures placing { IfSome result (λ x. HasPlacing x.0) }
 {
     let (number, cursor) = count_at(cursor)?;
     let cursor = cursor.key(b";")?;
@@ -114,6 +116,7 @@ fn begins_none(word: &[u8]) -> bool
 fn section_form<'t>(section: Section, later: TokenRun<'t>) -> Option<(Statement<'t>, Option<usize>)>
     ensures gives { Gives record_with_bad result (section_form section (words_of later.entry)) }
     ensures text { IfSome result (λ x. HasText later.entry.text.now x.0) }
+    ensures placing { IfSome result (λ x. HasPlacing x.0) }
 {
     match section {
         Section::Components => header_at(Section::Components, Cursor::start(later)),
@@ -130,6 +133,7 @@ fn header_or_kept<'t>(
     requires { words_of all ≡ first.now.bytes.now ∷ words_of later }
     ensures gives { Gives record_with_bad result (header_or_kept (section_of first.now.bytes.now) first.now.bytes.now (words_of later.entry)) }
     ensures text { IfSome result (λ x. HasText later.entry.text.now x.0) }
+    ensures placing { IfSome result (λ x. HasPlacing x.0) }
 {
     match section_of(first.bytes) {
         Some(section) => section_form(section, later),
@@ -153,6 +157,7 @@ fn top_form<'t>(
     requires { words_of all ≡ first.now.bytes.now ∷ words_of later }
     ensures gives { Gives record_with_bad result (top_form first.now.bytes.now (words_of later.entry)) }
     ensures text { IfSome result (λ x. HasText later.entry.text.now x.0) }
+    ensures placing { IfSome result (λ x. HasPlacing x.0) }
 {
     if is_word(first.bytes, b"UNITS") {
         units_at(Cursor::start(later))
@@ -171,6 +176,7 @@ fn components_form<'t>(
 ) -> Option<(Statement<'t>, Option<usize>)>
     ensures gives { Gives record_with_bad result (components_form first.now.bytes.now (words_of later.entry)) }
     ensures text { IfSome result (λ x. HasText later.entry.text.now x.0) }
+    ensures placing { IfSome result (λ x. HasPlacing x.0) }
 {
     if is_word(first.bytes, b"END") {
         end_at(
@@ -193,6 +199,7 @@ fn entry_form<'t>(
 ) -> Option<(Statement<'t>, Option<usize>)>
     ensures gives { Gives record_with_bad result (entry_form section first.now.bytes.now (words_of later.entry)) }
     ensures text { IfSome result (λ x. HasText later.entry.text.now x.0) }
+    ensures placing { IfSome result (λ x. HasPlacing x.0) }
 {
     match section {
         Section::Components => components_form(first, later),
@@ -211,6 +218,7 @@ pub fn form_in<'t>(
     requires { words_of all ≡ first.now.bytes.now ∷ words_of later }
     ensures gives { Gives record_with_bad result (form_in mode first.now.bytes.now (words_of later.entry)) }
     ensures text { IfSome result (λ x. HasText later.entry.text.now x.0) }
+    ensures placing { IfSome result (λ x. HasPlacing x.0) }
 {
     match mode {
         Mode::Top => top_form(all, first, later),

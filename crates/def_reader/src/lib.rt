@@ -3,7 +3,6 @@
 
 pub mod boundary;
 pub mod clause;
-pub mod clauses;
 pub mod component;
 pub mod form;
 pub mod number;

@@ -4,7 +4,7 @@ ghost use Rattle.std.specs.Prelude.{◌≡◌, ◌≤◌, length, IfOk, IfSome};
 ghost use Rattle.design_model.specs.Reading.{fault_at, pos_with_left};
 ghost use Rattle.design_model.specs.declared.fault.FaultCode.TheVariants.{Number};
 ghost use Rattle.lefdef_tokens.specs.Views.{pieces_of};
-ghost use Rattle.def_reader.specs.StatementViews.{ReadsStatement, CutsStatement, HasText};
+ghost use Rattle.def_reader.specs.StatementViews.{ReadsStatement, CutsStatement, HasText, HasPlacing};
 
 use crate::boundary::{def_ending, statement_run};
 use crate::form::{form_in, mode_after};
@@ -34,6 +34,7 @@ pub fn read_statement<'t>(mode: Mode, text: &'t [u8], pos: usize) -> Result<Opti
     ensures reads { ReadsStatement mode text.now pos result }
     ensures cuts { CutsStatement text.now pos result }
     ensures lent { IfOk result (λ found. IfSome found (λ x. HasText text.now x.statement × (x.tokens.text.now ≡ text.now))) }
+    ensures placing { IfOk result (λ found. IfSome found (λ x. HasPlacing x.statement)) }
 {
     let Some((first, second)) = token_at(text, pos)? else {
         return match mode {

@@ -17,11 +17,14 @@ pub struct Statements<'t> {
 
 impl<'t> Statements<'t> {
     ghost use Rattle.std.specs.Prelude.{◌≡◌, ◌<◌, IfSome};
-    ghost use Rattle.def_reader.specs.StatementViews.{HasText};
+    ghost use Rattle.design_model.specs.declared.mode.Mode.TheVariants.{Top};
+    ghost use Rattle.def_reader.specs.StatementViews.{HasText, HasPlacing, GivesNext};
 
     /// Before the first statement.
     pub fn new(text: &'t [u8]) -> Statements<'t>
         ensures text { result.text.now ≡ text.now }
+        ensures mode { result.mode ≡ Top }
+        ensures pos { result.pos ≡ 0 }
     {
         Statements {
             text,
@@ -34,15 +37,17 @@ impl<'t> Statements<'t> {
     pub fn next(&mut self) -> Option<Read<'t>>
         ensures same { self.new.text.now ≡ self.old.text.now }
         ensures further { IfSome result (λ x. self.old.pos < self.new.pos) }
+        ensures gives { GivesNext self.old.mode self.old.text.now self.old.pos result self.new.mode self.new.pos }
         ensures lent { IfSome result (λ x. HasText self.old.text.now x.statement) }
+        ensures placing { IfSome result (λ x. HasPlacing x.statement) }
+        ensures tokens { IfSome result (λ x. x.tokens.text.now ≡ self.old.text.now) }
     {
-        match read_statement(self.mode, self.text, self.pos) {
-            Ok(Some(read)) => {
-                self.mode = read.mode;
-                self.pos = read.end;
-                Some(read)
-            }
-            _ => None,
-        }
+        let Ok(found) = read_statement(self.mode, self.text, self.pos) else {
+            return None;
+        };
+        let read = found?;
+        self.mode = read.mode;
+        self.pos = read.end;
+        Some(read)
     }
 }
