@@ -3,4 +3,6 @@
 
 pub mod entry;
 pub mod place;
+mod put;
+mod runs;
 pub mod spliced;

@@ -1,103 +1,69 @@
 //! The splice that places a component.
 
-ghost use Rattle.std.specs.Prelude.{◌≤◌, length, IfOk};
-ghost use Rattle.def_splice.specs.Targets.{IsWithin};
+ghost use Rattle.std.specs.Prelude.{◌≡◌, ◌≤◌, [], ◌∷◌, length, IfOk, IfSome};
+ghost use Rattle.design_model.specs.Edits.{entry_of, is_long, is_out, place_by, place_cuts, placed_text, with_cuts};
+ghost use Rattle.design_model.specs.Located.{formed_at};
+ghost use Rattle.design_model.specs.Splices.{cut_view};
+ghost use Rattle.design_model.specs.declared.TheConstants.{MAX_TEXT};
+ghost use Rattle.design_model.specs.declared.mode.Mode.TheVariants.{Top};
+ghost use Rattle.lefdef_tokens.specs.Views.{pieces_of};
+ghost use Rattle.def_splice.specs.SpliceViews.{run_seen, SplicesAs};
 
-use def_reader::clause::Clause;
-use def_reader::clauses::Clauses;
-use def_reader::component::ComponentParts;
 use crate::entry::component_named;
+use crate::put::{placed_text, put_at};
+use crate::runs::{bytes_of, entry_end, is_held, placing_run};
+use design_model::MAX_TEXT;
 use design_model::edit::{EditCode, EditRefusal, Splice};
-use design_model::geometry::{Orient, Status};
-use design_model::sequence::{Bytes, Sequence};
-use itoa::Buffer;
+use design_model::geometry::Orient;
+use lefdef_tokens::TokenRun;
 use std::alloc::{AllocError, Allocator};
-use unit_numbers::print;
 
-/// Where the placement of an entry goes.
-#[derive(Clone, Copy)]
-enum Target {
-    /// In the place of these bytes, a clause from its word on.
-    Clause { lo: usize, hi: usize },
-    /// At the entry's end, as a clause of its own.
-    End { at: usize },
-    /// The component is held where it is.
-    Held,
-}
-
-/// Where the placement of an entry goes: its first clause that gives one, or else its end.
-fn target_of(parts: &ComponentParts<'_>) -> Target
-    ensures { IsWithin parts.now.clauses.tokens.text.now result }
+/// The splice that puts a clause in the place of the one that places a component, or at the end of its entry.
+fn place_by<A: Allocator>(
+    alloc: A,
+    text: &[u8],
+    entry: TokenRun<'_>,
+    run: Option<TokenRun<'_>>,
+    put: &[u8],
+) -> Result<Splice<A>, AllocError>
+    requires entry { entry.text.now ≡ text.now }
+    requires run { IfSome run (λ r. r.text.now ≡ text.now) }
+    ensures gives { IfOk result (λ s. cut_view s ≡ place_by text.now (pieces_of entry.entry) (run_seen run.entry) put.now) }
+    ensures order { IfOk result (λ s. s.lo ≤ s.hi) }
+    ensures within { IfOk result (λ s. s.hi ≤ length text.now) }
 {
-    let mut clauses = Clauses::new(parts.clauses);
-    let mut end = clauses.end();
-    while let Some(located) = clauses.next() {
-        match located.clause {
-            Clause::Placed(Status::Placed, _, _) | Clause::Unplaced(_) => {
-                return Target::Clause {
-                    lo: located.lo,
-                    hi: located.hi,
-                };
-            }
-            Clause::Placed(_, _, _) => return Target::Held,
-            Clause::Region(_) | Clause::Other(_, _) => end = located.hi,
+    match run {
+        None => {
+            let end = entry_end(entry);
+            put_at(alloc, text, end, end, b" + ", put)
+        }
+        Some(run) => {
+            let (lo, hi) = bytes_of(run);
+            put_at(alloc, text, lo, hi, b"", put)
         }
     }
-    Target::End { at: end }
 }
 
-/// The name of an orientation.
-pub fn orient_word(orient: Orient) -> &'static [u8] {
-    match orient {
-        Orient::N => b"N",
-        Orient::W => b"W",
-        Orient::S => b"S",
-        Orient::E => b"E",
-        Orient::FN => b"FN",
-        Orient::FS => b"FS",
-        Orient::FW => b"FW",
-        Orient::FE => b"FE",
-    }
+/// Whether a number is one that no DEF text may hold.
+fn is_out(number: i64) -> bool
+    ensures { result ≡ is_out number }
+{
+    number < -2147483647 || 2147483647 < number
 }
 
-/// The bytes `PLACED ( x y ) o` behind a lead, with a space behind them where they would be glued to what follows.
-fn placed_text<A: Allocator>(
-    alloc: A,
-    lead: &[u8],
-    x: i64,
-    y: i64,
-    orient: Orient,
-    glued: bool,
-) -> Result<Bytes<A>, AllocError> {
-    let mut buffer = Buffer::new();
-    let mut put = Vec::from_slice(alloc, lead)?;
-    put.extend_from_slice(b"PLACED ( ")?;
-    put.extend_from_slice(print(x, &mut buffer).as_bytes())?;
-    put.push(b' ')?;
-    put.extend_from_slice(print(y, &mut buffer).as_bytes())?;
-    put.extend_from_slice(b" ) ")?;
-    put.extend_from_slice(orient_word(orient))?;
-    if glued {
-        put.push(b' ')?;
-    }
-    Ok(Sequence::from_vec(put))
+/// Whether a text is too long with a splice made.
+fn is_long<A: Allocator>(text: &[u8], splice: &Splice<A>) -> bool
+    requires fits { length text.now ≤ MAX_TEXT }
+    requires order { splice.now.lo ≤ splice.now.hi }
+    requires within { splice.now.hi ≤ length text.now }
+    ensures { result ≡ is_long (with_cuts (cut_view splice.now ∷ []) text.now) }
+{
+    let kept = splice.lo + (text.len() - splice.hi);
+    splice.put.len() > MAX_TEXT - kept
 }
 
-/// Whether a token that ends at a place would be one with what follows it.
-fn is_glued(text: &[u8], at: usize) -> bool {
-    match text.get(at) {
-        Some(byte) => !matches!(*byte, b' ' | b'\t' | b'\r' | b'\n'),
-        None => false,
-    }
-}
-
-/// Whether a number is one that a DEF text may hold.
-fn is_in_range(number: i64) -> bool {
-    -2147483647 <= number && number <= 2147483647
-}
-
-/// The splice that places a component: a clause `PLACED ( x y ) o` in the place of the one that places it, or at the
-/// entry's end.
+/// The splice that places a component: a clause `PLACED ( x y ) orient` in the place of the one that places it, or at
+/// the end of its entry.
 pub fn place_splice<A: Allocator + Copy>(
     alloc: A,
     text: &[u8],
@@ -106,32 +72,25 @@ pub fn place_splice<A: Allocator + Copy>(
     y: i64,
     orient: Orient,
 ) -> Result<Splice<A>, EditRefusal>
+    requires { length text.now ≤ MAX_TEXT }
+    ensures gives { SplicesAs (place_cuts text.now (entry_of component.now (formed_at Top text.now 0)) x y orient) result }
     ensures order { IfOk result (λ s. s.lo ≤ s.hi) }
     ensures within { IfOk result (λ s. s.hi ≤ length text.now) }
 {
-    let Some(parts) = component_named(text, component) else {
+    let Some(entry) = component_named(text, component) else {
         return Err(EditRefusal::Refused(EditCode::UnknownName));
     };
-    let target = target_of(&parts);
-    if matches!(target, Target::Held) {
+    let run = placing_run(entry);
+    if is_held(run) {
         return Err(EditRefusal::Refused(EditCode::Fixed));
     }
-    if !is_in_range(x) || !is_in_range(y) {
+    if is_out(x) || is_out(y) {
         return Err(EditRefusal::Refused(EditCode::Number));
     }
-    match target {
-        Target::Held => Err(EditRefusal::Refused(EditCode::Fixed)),
-        Target::Clause { lo, hi } => {
-            let put = placed_text(alloc, b"", x, y, orient, is_glued(text, hi))?;
-            Ok(Splice { lo, hi, put })
-        }
-        Target::End { at } => {
-            let put = placed_text(alloc, b" + ", x, y, orient, is_glued(text, at))?;
-            Ok(Splice {
-                lo: at,
-                hi: at,
-                put,
-            })
-        }
+    let put = placed_text(alloc, x, y, orient)?;
+    let splice = place_by(alloc, text, entry, run, &put)?;
+    if is_long(text, &splice) {
+        return Err(EditRefusal::Refused(EditCode::TooLong));
     }
+    Ok(splice)
 }

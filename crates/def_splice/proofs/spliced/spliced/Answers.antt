@@ -1,4 +1,4 @@
-use Rattle.std.proofs.Common.{rules, ◌≤◌}
+use Rattle.std.proofs.Common.{rules}
 use Rattle.def_splice.proofs.SpliceLemmas.{in_order-step}
 use Rattle.def_splice.proofs.spliced.spliced.Goals as goal
 
