@@ -3,10 +3,10 @@
 use crate::command_line::{Request, read_request};
 use crate::files::read_text;
 use crate::outcome::{Outcome, Stop};
+use cell_library::lef_texts::LefTexts;
 use clap::error::ErrorKind;
 use design_model::counted::Counted;
 use design_model::input::InputError;
-use cell_library::lef_texts::LefTexts;
 use edit_script::run::{Tally, run};
 use std::alloc::Global;
 use std::io::Write;
@@ -31,11 +31,7 @@ fn counted(tally: Tally) -> Outcome {
 }
 
 /// Reads the LEF files in their order.
-fn read_lefs<'a, R: Files>(
-    alloc: Global,
-    rt: &R,
-    paths: &[&'a str],
-) -> Result<LefTexts, Stop<'a>> {
+fn read_lefs<'a, R: Files>(alloc: Global, rt: &R, paths: &[&'a str]) -> Result<LefTexts, Stop<'a>> {
     let mut lefs = LefTexts::new(alloc);
     for path in paths {
         let text = match read_text(alloc, rt, path) {

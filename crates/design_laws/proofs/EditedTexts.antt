@@ -109,7 +109,6 @@ end_before : (before : List Piece) (p last : Piece) → end_of_all (without_last
 end_before before p last = ap end_of_all (all_but_last (before ++ p ∷ []) last) ∙ end_of_last before p
 
 module _ (replaced : TokensAreReplaced) (inserted : TokensAreInserted) (placed_so : EntriesArePlaced) (read_so : PlacedAreRead) (put_so : PlacementsAreTokens) (stands_so : EntriesAreReplaced) where
-
   module _ (text : List ℕ) (design : List Record) (name : List ℕ) (x y : ℤ) (o : Orient) (entry : List Piece) (n : ℕ) (lexed : (tokens text).end ≡ Ok n) (s : EntryStands (tokens text) design name entry) (x_in : is_out x ≡ false) (y_in : is_out y ≡ false) where
     -- a text with the words of the placed entry in the place of those of the entry reads as the edited design
     reads_new : (new : List ℕ) → HasWords new (words s.before ++ (spelled (component (placed_component x y o s.said)) ++ words s.after)) → is_long new ≡ false → read_text new ≡ Ok (applied (place name x y o) design)
@@ -137,12 +136,12 @@ module _ (replaced : TokensAreReplaced) (inserted : TokensAreInserted) (placed_s
     at_end before p last parts all short =
         let put = (put_so x y o).1 in
         let here : tokens text ≡ record { pieces = ((s.before ++ before) ++ p ∷ []) ++ (last ∷ s.after); end = Ok n } =
-          parts_of (tokens text) n s.before (before ++ p ∷ []) [] (last ∷ []) s.after entry lexed s.pieces parts
-          ∙ ap (λ (b : List Piece). record { pieces = b ++ (last ∷ s.after); end = Ok n }) (sym (append_assoc s.before before (p ∷ []))) in
+        parts_of (tokens text) n s.before (before ++ p ∷ []) [] (last ∷ []) s.after entry lexed s.pieces parts
+        ∙ ap (λ (b : List Piece). record { pieces = b ++ (last ∷ s.after); end = Ok n }) (sym (append_assoc s.before before (p ∷ []))) in
         let has = inserted text (codes " + " ++ placed_text x y o) (s.before ++ before) (last ∷ s.after) put.0 p n here put.1 refl in
         let same =
-          ap (λ (b : List Piece). words b ++ (words put.0 ++ words (last ∷ s.after))) (append_assoc s.before before (p ∷ []))
-          ∙ new_words s.before (before ++ p ∷ []) put.0 (last ∷ []) s.after (codes "+" ∷ spelled_body (placement x y o)) (spelled (component (placed_component x y o s.said))) put.2 all in
+        ap (λ (b : List Piece). words b ++ (words put.0 ++ words (last ∷ s.after))) (append_assoc s.before before (p ∷ []))
+        ∙ new_words s.before (before ++ p ∷ []) put.0 (last ∷ []) s.after (codes "+" ∷ spelled_body (placement x y o)) (spelled (component (placed_component x y o s.said))) put.2 all in
         let new : ℕ → List ℕ = λ k. with_cuts (put_at text k k (codes " + " ++ placed_text x y o) ∷ []) text in
         let k : end_of_all (without_last entry) ≡ end_of p = ap (λ (e : List Piece). end_of_all (without_last e)) parts ∙ end_before before p last in
         let reads = reads_new (new (end_of p)) (record { words = has.words ∙ same; end = has.end }) (sym (ap (λ (j : ℕ). is_long (new j)) k) ∙ short) in

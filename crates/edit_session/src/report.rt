@@ -5,11 +5,11 @@ ghost use Rattle.design_model.specs.Lines.{kind_word, diag_text};
 ghost use Rattle.design_model.specs.Order.{texts};
 
 use cell_library::library::Library;
-use place_checks::boxes::boxes_of;
-use place_checks::overlap::overlaps_of;
 use design_model::diagnostic::{Diag, DiagKind, DiagLine, DiagLines, sort_lines};
 use design_model::sequence::Sequence;
 use itoa::Buffer;
+use place_checks::boxes::boxes_of;
+use place_checks::overlap::overlaps_of;
 use std::alloc::{AllocError, Allocator};
 use unit_numbers::print;
 

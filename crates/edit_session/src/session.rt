@@ -2,23 +2,25 @@
 
 ghost use Rattle.std.specs.Prelude.{◌≡◌, ◌≤◌, ◌<◌, ◌^◌, OnErr, OnOk, IfOk, IsOk, length};
 ghost use Rattle.std.specs.Io.KnownBytes.{Appends};
-ghost use Rattle.design_model.specs.Edits.{seen};
+ghost use Rattle.design_model.specs.Edits.{place, seen};
 ghost use Rattle.design_model.specs.Known.{WritesPart};
 ghost use Rattle.design_model.specs.Reading.{read_text};
 ghost use Rattle.design_model.specs.Runs.{Answers, design_edit, text_edit};
 ghost use Rattle.edit_session.specs.Sessions.{MakesText, OpensAs, ReplacesText, Reports};
 ghost use Rattle.edit_session.specs.declared.session.OpenError.TheVariants.{Memory};
 
+use crate::report::report;
 use cell_library::library::Library;
 use def_reader::read_def::{ReadError, check_def};
 use def_splice::place::place_splice;
 use def_splice::spliced::spliced;
-use crate::report::report;
+use design_laws::editing::{all_are_formed, edits_are_applied};
 use design_model::MAX_TEXT;
 use design_model::counted::{CountedWrite, Failures};
 use design_model::diagnostic::DiagLines;
 use design_model::edit::{Done, Edit, EditCode, EditRefusal};
 use design_model::fault::Fault;
+use design_model::geometry::Orient;
 use design_model::output::{MAX_INTERRUPTIONS, WriteFault, write_whole};
 use std::alloc::{AllocError, Allocator, Global};
 use std::io::Write;
@@ -133,13 +135,36 @@ fn edited_text<A: Allocator + Copy>(
     ensures fits { IfOk result (λ v. length v.items ≤ MAX_TEXT) }
     ensures reads { IfOk result (λ v. IsOk (read_text v.items)) }
 {
-    let splice = match edit {
+    match edit {
         Edit::Place {
             component,
             x,
             y,
             orient,
-        } => place_splice(alloc, text, component, *x, *y, *orient)?,
+        } => placed_text(alloc, text, component, *x, *y, *orient),
+    }
+}
+
+/// The text after a component of a text that reads is placed.
+fn placed_text<A: Allocator + Copy>(
+    alloc: A,
+    text: &[u8],
+    component: &[u8],
+    x: i64,
+    y: i64,
+    orient: Orient,
+) -> Result<Vec<u8, A>, EditRefusal>
+    requires fits { length text.now ≤ MAX_TEXT }
+    requires reads { IsOk (read_text text.now) }
+    ensures makes { MakesText (λ v. v.items) text.now (place component.now x y orient) result }
+    ensures fits { IfOk result (λ v. length v.items ≤ MAX_TEXT) }
+    ensures reads { IfOk result (λ v. IsOk (read_text v.items)) }
+{
+    all_are_formed();
+    edits_are_applied();
+    let splice = match place_splice(alloc, text, component, x, y, orient) {
+        Ok(splice) => splice,
+        Err(refusal) => return Err(refusal),
     };
     let mut splices = Vec::new(alloc);
     splices.push(splice)?;

@@ -6,7 +6,6 @@ ghost use Rattle.design_model.specs.Views.{rectangle_of};
 
 use cell_library::library::{Library, Macro};
 use def_reader::clause::Clause;
-use def_reader::clauses::Clauses;
 use def_reader::component::ComponentParts;
 use def_reader::number::int_of;
 use def_reader::statement::Statement;
@@ -34,20 +33,15 @@ pub struct Placement {
 
 /// The placement of a component: that of its first clause that gives one, where it isn't `UNPLACED`.
 pub fn placement_of(parts: &ComponentParts<'_>) -> Option<Placement> {
-    let mut clauses = Clauses::new(parts.clauses);
-    while let Some(located) = clauses.next() {
-        match located.clause {
-            Clause::Placed(status, at, orient) => return Some(Placement {
-                status,
-                x: int_of(at.x.bytes),
-                y: int_of(at.y.bytes),
-                orient,
-            }),
-            Clause::Unplaced(_) => return None,
-            Clause::Region(_) | Clause::Other(_, _) => {}
-        }
+    match parts.placing? {
+        Clause::Placed(status, at, orient) => Some(Placement {
+            status,
+            x: int_of(at.x.bytes),
+            y: int_of(at.y.bytes),
+            orient,
+        }),
+        _ => None,
     }
-    None
 }
 
 /// The number of database units per micron that a word is, and 1 where it is none.
