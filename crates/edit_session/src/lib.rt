@@ -3,3 +3,5 @@
 
 pub mod report;
 pub mod session;
+#[cfg(test)]
+mod tests;
