@@ -1,3 +1,4 @@
+pub mod BetweenTokens
 pub mod EditedTexts
 pub mod EntryClauses
 pub mod EntryPlaced
@@ -5,12 +6,15 @@ pub mod EntryRead
 pub mod EntryWhole
 pub mod EntryWords
 pub mod Formed
+pub mod JoinedTexts
+pub mod LefStatements
 pub mod PrintedNumbers
 pub mod PutTokens
 pub mod Replaced
 pub mod ReplacedCuts
 pub mod ReplacedFound
 pub mod ReplacedWords
+pub mod SpelledLef
 pub mod SplicingEnds
 pub mod SplicingParts
 pub mod SplicingPlaces

@@ -1,3 +1,6 @@
+pub mod BlankLaws
 pub mod EditLaws
+pub mod JoiningLaws
+pub mod LefFormLaws
 pub mod PlacingLaws
 pub mod SplicingLaws

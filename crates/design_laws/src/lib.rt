@@ -1,6 +1,9 @@
 //! Laws of the definitions over whole texts and edits of them.
 #![tactic(auto)]
 
+pub mod blanks;
 pub mod editing;
+pub mod joining;
+pub mod lef_forms;
 pub mod placing;
 pub mod splicing;
