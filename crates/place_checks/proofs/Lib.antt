@@ -1,0 +1,3 @@
+pub mod BoxLemmas
+pub mod RecordLemmas
+pub mod UnitLemmas
