@@ -1,4 +1,5 @@
 pub mod BetweenTokens
+pub mod EditRuns
 pub mod EditedTexts
 pub mod EntryClauses
 pub mod EntryPlaced

@@ -3,4 +3,5 @@ pub mod EditLaws
 pub mod JoiningLaws
 pub mod LefFormLaws
 pub mod PlacingLaws
+pub mod RunningLaws
 pub mod SplicingLaws

@@ -6,4 +6,5 @@ pub mod editing;
 pub mod joining;
 pub mod lef_forms;
 pub mod placing;
+pub mod running;
 pub mod splicing;
