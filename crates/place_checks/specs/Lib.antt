@@ -1,1 +1,2 @@
 pub mod BoxViews
+pub mod CountViews

@@ -2,4 +2,5 @@
 #![tactic(auto)]
 
 pub mod boxes;
+pub mod count;
 pub mod overlap;
