@@ -6,3 +6,5 @@ pub mod place;
 mod put;
 mod runs;
 pub mod spliced;
+#[cfg(test)]
+mod tests;
