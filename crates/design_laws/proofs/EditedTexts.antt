@@ -26,7 +26,7 @@ pub short_reads : (text : List ℕ) (r : Result (List Record) Fault) → is_long
 unfolding read_text
 short_reads text r short reads = rw short reads
 
-reads_short : (text : List ℕ) (design : List Record) → read_text text ≡ Ok design → read_from start_state (tokens text) ≡ Ok design
+pub reads_short : (text : List ℕ) (design : List Record) → read_text text ≡ Ok design → read_from start_state (tokens text) ≡ Ok design
 unfolding read_text
 reads_short text design reads = ⊎_elim
     (λ (long : is_long text ≡ true). let e = rw long at reads in absurd (cc))
@@ -38,7 +38,7 @@ no_records : (r : Result (List Record × (Mode × Seen)) Fault) (f : Fault) (des
 no_records (Ok x) f design e = cc
 no_records (Err g) f design e = cc
 
-ends : (l : Lexed) (design : List Record) → read_from start_state l ≡ Ok design → (n : ℕ) × (l.end ≡ Ok n)
+pub ends : (l : Lexed) (design : List Record) → read_from start_state l ≡ Ok design → (n : ℕ) × (l.end ≡ Ok n)
 ends l design reads = of_end l.end refl where
   of_end : (end : Result ℕ Fault) → l.end ≡ end → (n : ℕ) × (l.end ≡ Ok n)
   of_end (Ok n) is = (n, is)
@@ -52,7 +52,7 @@ pub record Passes (held out : Bool) (long : Bool) : Type 0 where
   pub within : out ≡ false
   pub short : long ≡ false
 
-accepted : (held out long : Bool) (made cuts : List Cut)
+pub accepted : (held out long : Bool) (made cuts : List Cut)
     → unless (lowest ((held, codes_of.Fixed) ∷ (out, codes_of.Number) ∷ (long, codes_of.TooLong) ∷ [])) made ≡ Ok cuts
     → Passes held out long × (made ≡ cuts)
 accepted true out long made cuts e = absurd (cc)
@@ -105,7 +105,7 @@ end_of_last [] p = refl
 end_of_last (q ∷ []) p = refl
 end_of_last (q ∷ r ∷ rs) p = end_of_last (r ∷ rs) p
 
-end_before : (before : List Piece) (p last : Piece) → end_of_all (without_last ((before ++ p ∷ []) ++ last ∷ [])) ≡ end_of p
+pub end_before : (before : List Piece) (p last : Piece) → end_of_all (without_last ((before ++ p ∷ []) ++ last ∷ [])) ≡ end_of p
 end_before before p last = ap end_of_all (all_but_last (before ++ p ∷ []) last) ∙ end_of_last before p
 
 module _ (replaced : TokensAreReplaced) (inserted : TokensAreInserted) (placed_so : EntriesArePlaced) (read_so : PlacedAreRead) (put_so : PlacementsAreTokens) (stands_so : EntriesAreReplaced) where

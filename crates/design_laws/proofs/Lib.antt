@@ -8,6 +8,7 @@ pub mod EntryWhole
 pub mod EntryWords
 pub mod Formed
 pub mod JoinedTexts
+pub mod KeptBytes
 pub mod LefStatements
 pub mod PrintedNumbers
 pub mod PutTokens
@@ -15,6 +16,7 @@ pub mod Replaced
 pub mod ReplacedCuts
 pub mod ReplacedFound
 pub mod ReplacedWords
+pub mod SortedLines
 pub mod SpelledLef
 pub mod SplicingEnds
 pub mod SplicingParts

@@ -1,7 +1,9 @@
 pub mod BlankLaws
 pub mod EditLaws
 pub mod JoiningLaws
+pub mod KeepingLaws
 pub mod LefFormLaws
 pub mod PlacingLaws
 pub mod RunningLaws
+pub mod SortingLaws
 pub mod SplicingLaws

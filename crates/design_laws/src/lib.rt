@@ -4,7 +4,9 @@
 pub mod blanks;
 pub mod editing;
 pub mod joining;
+pub mod keeping;
 pub mod lef_forms;
 pub mod placing;
 pub mod running;
+pub mod sorting;
 pub mod splicing;

@@ -1,6 +1,8 @@
 //! The answers to the lines of a script.
 
-ghost use Rattle.std.specs.Prelude.{◌≡◌, IfOk};
+ghost use Rattle.std.specs.Prelude.{◌≡◌, ◌++◌, ◌∷◌, [], IfOk, OnOk, decimal};
+ghost use Rattle.design_model.specs.Order.{texts};
+ghost use Rattle.design_model.specs.Output.{bad_line, refusal_line, reply_line, report_lines};
 
 use design_model::diagnostic::DiagLines;
 use design_model::edit::{Done, EditRefusal};
@@ -9,15 +11,18 @@ use std::alloc::{AllocError, Allocator};
 use unit_numbers::print;
 
 /// Puts a number behind some bytes.
-fn push_number<A: Allocator>(text: &mut Vec<u8, A>, number: u64) -> Result<(), AllocError> {
+fn push_number<A: Allocator>(text: &mut Vec<u8, A>, number: u64) -> Result<(), AllocError>
+    ensures { OnOk result (text.new.items ≡ text.old.items ++ decimal number) }
+{
     let mut buffer = Buffer::new();
     text.extend_from_slice(print(number, &mut buffer).as_bytes())
 }
 
-/// A word and the number of a line, and a line end.
-fn numbered<A: Allocator>(alloc: A, word: &[u8], line: u64) -> Result<Vec<u8, A>, AllocError> {
+/// Some bytes and the number of a line, and a line end.
+fn numbered<A: Allocator>(alloc: A, word: &[u8], line: u64) -> Result<Vec<u8, A>, AllocError>
+    ensures { IfOk result (λ v. v.items ≡ (word.now ++ decimal line) ++ 10 ∷ []) }
+{
     let mut text = Vec::from_slice(alloc, word)?;
-    text.push(b' ')?;
     push_number(&mut text, line)?;
     text.push(b'\n')?;
     Ok(text)
@@ -28,7 +33,9 @@ fn refusal_text<A: Allocator>(
     alloc: A,
     line: u64,
     refusal: EditRefusal,
-) -> Result<Vec<u8, A>, AllocError> {
+) -> Result<Vec<u8, A>, AllocError>
+    ensures { IfOk result (λ v. v.items ≡ refusal_line line refusal) }
+{
     let mut text = Vec::from_slice(alloc, b"refused ")?;
     push_number(&mut text, line)?;
     text.extend_from_slice(b" E")?;
@@ -48,23 +55,29 @@ pub fn reply_text<A: Allocator>(
     alloc: A,
     line: u64,
     reply: Result<Done, EditRefusal>,
-) -> Result<Vec<u8, A>, AllocError> {
+) -> Result<Vec<u8, A>, AllocError>
+    ensures { IfOk result (λ v. v.items ≡ reply_line line reply) }
+{
     match reply {
-        Ok(_) => numbered(alloc, b"ok", line),
+        Ok(_) => numbered(alloc, b"ok ", line),
         Err(refusal) => refusal_text(alloc, line, refusal),
     }
 }
 
 /// The answer to a line that is none.
-pub fn bad_text<A: Allocator>(alloc: A, line: u64) -> Result<Vec<u8, A>, AllocError> {
-    numbered(alloc, b"bad", line)
+pub fn bad_text<A: Allocator>(alloc: A, line: u64) -> Result<Vec<u8, A>, AllocError>
+    ensures { IfOk result (λ v. v.items ≡ bad_line line) }
+{
+    numbered(alloc, b"bad ", line)
 }
 
 /// The answer to `check`: each line of the report, and their number.
 pub fn check_text<A: Allocator + Copy>(
     alloc: A,
     lines: &DiagLines<A>,
-) -> Result<Vec<u8, A>, AllocError> {
+) -> Result<Vec<u8, A>, AllocError>
+    ensures { IfOk result (λ v. v.items ≡ report_lines (texts lines.now)) }
+{
     let mut text = Vec::new(alloc);
     for line in lines.as_slice() {
         text.extend_from_slice(line.text.as_slice())?;

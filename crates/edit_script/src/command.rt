@@ -1,9 +1,15 @@
 //! The lines of a script.
 
-ghost use Rattle.std.specs.Prelude.{◌≤◌};
+ghost use Rattle.std.specs.Prelude.{◌≡◌, drop};
+ghost use Rattle.design_model.specs.Output.{behind_word, line_words, number_or_out, order_of, place_order, text_or_bad, text_words, words_order};
+ghost use Rattle.design_model.specs.Output.{unescaped};
+ghost use Rattle.design_model.specs.Units.{whole};
+ghost use Rattle.edit_script.specs.Orders.{check_order, order_seen};
 
+use crate::escape::{EscapedBytes, checked};
+use crate::line::next_word;
 use def_reader::clause::orient_of;
-use design_model::edit::Edit;
+use design_model::edit::{Edit, EditCode};
 use unit_numbers::whole;
 
 /// What a line of a script asks.
@@ -12,6 +18,14 @@ pub enum Command<'a> {
     /// A blank line, or one that starts with `#`.
     Nothing,
     Edit(Edit<'a>),
+    /// Puts bytes in the place of those from `a` up to `b`.
+    Text {
+        a: usize,
+        b: usize,
+        new: EscapedBytes<'a>,
+    },
+    /// An edit that is refused before the session is asked.
+    Refused(EditCode),
     Check,
     /// No command, or one with a wrong number of words or a word out of its form.
     Bad,
@@ -21,7 +35,9 @@ pub enum Command<'a> {
 const OUT_OF_RANGE: i64 = 2147483648;
 
 /// The number that a word is, and one out of range where it is none.
-fn number_of(word: &[u8]) -> i64 {
+fn number_of(word: &[u8]) -> i64
+    ensures { result ≡ number_or_out (whole word.now) }
+{
     match whole(word) {
         Ok(number) => number as i64,
         Err(_) => OUT_OF_RANGE,
@@ -29,10 +45,24 @@ fn number_of(word: &[u8]) -> i64 {
 }
 
 /// `place c x y o` behind its first word.
-fn place<'a>(words: &[&'a [u8]]) -> Command<'a> {
-    let [component, x, y, orient] = words else {
+fn place(line: &[u8]) -> Command<'_>
+    ensures { order_seen result ≡ place_order (line_words line.now) }
+{
+    let Some((component, line)) = next_word(line) else {
         return Command::Bad;
     };
+    let Some((x, line)) = next_word(line) else {
+        return Command::Bad;
+    };
+    let Some((y, line)) = next_word(line) else {
+        return Command::Bad;
+    };
+    let Some((orient, line)) = next_word(line) else {
+        return Command::Bad;
+    };
+    if let Some(_) = next_word(line) {
+        return Command::Bad;
+    }
     match orient_of(orient) {
         Some(orient) => Command::Edit(Edit::Place {
             component,
@@ -44,52 +74,84 @@ fn place<'a>(words: &[&'a [u8]]) -> Command<'a> {
     }
 }
 
+/// The range of `text a b NEW`.
+fn text_range<'a>(a: &[u8], b: &[u8], new: EscapedBytes<'a>) -> Command<'a>
+    ensures { order_seen result ≡ text_or_bad a.now b.now (unescaped new.entry.raw.now) }
+{
+    let Ok(a) = whole(a) else {
+        return Command::Refused(EditCode::Number);
+    };
+    let Ok(b) = whole(b) else {
+        return Command::Refused(EditCode::Number);
+    };
+    if a < 0 || b < 0 {
+        return Command::Refused(EditCode::Range);
+    }
+    Command::Text {
+        a: a as usize,
+        b: b as usize,
+        new,
+    }
+}
+
+/// What stands behind the first byte.
+fn behind_byte(line: &[u8]) -> &[u8]
+    ensures { result.now ≡ drop 1 line.now }
+{
+    if line.is_empty() { line } else { &line[1..] }
+}
+
+/// `text a b NEW` behind its first word: NEW is all that stands one byte behind `b`.
+fn text(line: &[u8]) -> Command<'_>
+    ensures { order_seen result ≡ text_words (line_words line.now) (drop 1 (behind_word (behind_word line.now))) }
+{
+    let Some((a, line)) = next_word(line) else {
+        return Command::Bad;
+    };
+    let Some((b, line)) = next_word(line) else {
+        return Command::Bad;
+    };
+    match checked(behind_byte(line)) {
+        Some(new) => text_range(a, b, new),
+        None => Command::Bad,
+    }
+}
+
+/// `check` behind its word.
+fn check(line: &[u8]) -> Command<'_>
+    ensures { order_seen result ≡ check_order (line_words line.now) }
+{
+    match next_word(line) {
+        Some(_) => Command::Bad,
+        None => Command::Check,
+    }
+}
+
 /// What the words of a line ask.
-fn command_of<'a>(words: &[&'a [u8]]) -> Command<'a> {
-    match words {
-        [] => Command::Nothing,
-        [name, rest @ ..] => {
-            if *name == b"place".as_slice() {
-                place(rest)
-            } else if *name == b"check".as_slice() && rest.is_empty() {
-                Command::Check
-            } else {
-                Command::Bad
-            }
-        }
+fn command_of(line: &[u8]) -> Command<'_>
+    ensures { order_seen result ≡ words_order line.now (line_words line.now) }
+{
+    let Some((name, rest)) = next_word(line) else {
+        return Command::Nothing;
+    };
+    if name == b"place".as_slice() {
+        place(rest)
+    } else if name == b"check".as_slice() {
+        check(rest)
+    } else if name == b"text".as_slice() {
+        text(rest)
+    } else {
+        Command::Bad
     }
-}
-
-/// The words of a line, parted by spaces and tabs: the first of them, and how many there are.
-#[derive(Clone, Copy)]
-struct Words<'a> {
-    first: [&'a [u8]; MOST_WORDS],
-    count: usize,
-    ghost few: { count ≤ 6 },
-}
-
-/// One word more than the longest command has.
-const MOST_WORDS: usize = 6;
-
-/// The first words of a line.
-fn words_of(line: &[u8]) -> Words<'_> {
-    let empty: &[u8] = b"";
-    let mut first = [empty; MOST_WORDS];
-    let mut count = 0;
-    for word in line.split(|byte| *byte == b' ' || *byte == b'\t') {
-        if !word.is_empty() && count < MOST_WORDS {
-            first[count] = word;
-            count += 1;
-        }
-    }
-    Words { first, count }
 }
 
 /// Reads a line, without its end.
-pub fn parse(line: &[u8]) -> Command<'_> {
-    if line.starts_with(b"#") {
-        return Command::Nothing;
+pub fn parse(line: &[u8]) -> Command<'_>
+    ensures { order_seen result ≡ order_of line.now }
+{
+    match line {
+        [] => Command::Nothing,
+        [b'#', ..] => Command::Nothing,
+        _ => command_of(line),
     }
-    let words = words_of(line);
-    command_of(&words.first[..words.count])
 }

@@ -3,6 +3,8 @@
 
 pub mod answer;
 pub mod command;
+pub mod escape;
+mod line;
 pub mod run;
 #[cfg(test)]
 mod tests;

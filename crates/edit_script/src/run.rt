@@ -1,17 +1,24 @@
 //! A script's run over a library and a design.
 
-ghost use Rattle.std.specs.Prelude.{◌≡◌, ◌≤◌, ◌<◌, ◌+◌, ◌^◌, IsErrOf, ◌⊎◌, IfOk};
+ghost use Rattle.std.specs.Prelude.{◌≡◌, ◌<◌, ◌^◌, ◌⊎◌, IfErr, IfOk, IsErrOf, IsOk, OnErr, length};
+ghost use Rattle.design_model.specs.Output.{Gives, counted, order_of, reply_line, script_lines, unescaped};
+ghost use Rattle.design_model.specs.Reading.{read_text};
+ghost use Rattle.edit_script.specs.Answered.{AnswersText, Grows, HasRoom, RefusesText, counts_of};
+ghost use Rattle.edit_script.specs.Ends.{AnswersPart, AnswersWhole, RunsWhole, StopsBy, WritesRun, WritesRunPart};
 
-use cell_library::lef_texts::LefTexts;
-use cell_library::library::{Library, LibraryError};
 use crate::answer::{bad_text, check_text, reply_text};
 use crate::command::{Command, parse};
-use edit_session::session::{OpenError, Session};
-use bstr::ByteSlice;
+use crate::escape::{EscapedBytes, unescaped};
+use crate::line::next_line;
+use cell_library::lef_texts::LefTexts;
+use cell_library::library::{Library, LibraryError};
+use design_model::MAX_TEXT;
 use design_model::counted::{CountedRead, CountedWrite, Failures};
+use design_model::edit::{Done, EditCode, EditRefusal};
 use design_model::fault::Fault;
 use design_model::input::{InputError, read_whole};
 use design_model::output::{MAX_INTERRUPTIONS, write_whole};
+use edit_session::session::{OpenError, Session};
 use std::alloc::{AllocError, Allocator};
 use std::io::{Read, Write};
 
@@ -55,6 +62,62 @@ enum Stop {
     Write,
 }
 
+/// Why a text edit is refused where there is no memory for its bytes: that comes behind its range and its length.
+fn refused_text(text_len: usize, a: usize, b: usize, put_len: usize) -> EditCode
+    ensures { RefusesText text_len a b put_len result }
+{
+    if a > b || b > text_len {
+        return EditCode::Range;
+    }
+    let kept = text_len - (b - a);
+    if kept > MAX_TEXT || put_len > MAX_TEXT - kept {
+        return EditCode::TooLong;
+    }
+    EditCode::Memory
+}
+
+/// Puts bytes that are written with escapes.
+fn put_text<A: Allocator + Copy>(
+    alloc: A,
+    session: &mut Session<'_, '_, A>,
+    a: usize,
+    b: usize,
+    new: EscapedBytes<'_>,
+) -> Result<Done, EditRefusal>
+    requires { IsOk (read_text session.old.text) }
+    ensures answer { AnswersText session.old.text a b (unescaped new.entry.raw.now) result session.new.text }
+    ensures library { session.new.library ≡ session.old.library }
+    ensures reads { IsOk (read_text session.new.text) }
+{
+    match unescaped(alloc, new) {
+        Ok(put) => session.text_edit(a, b, put.as_slice()),
+        Err(_) => {
+            let code = refused_text(session.text_len(), a, b, new.len);
+            Err(EditRefusal::Refused(code))
+        }
+    }
+}
+
+/// The answer to an edit, which is counted.
+fn counted_reply<A: Allocator>(
+    alloc: A,
+    number: u64,
+    reply: Result<Done, EditRefusal>,
+    tally: &mut Tally,
+) -> Result<Vec<u8, A>, AllocError>
+    requires { HasRoom tally.old }
+    ensures text { IfOk result (λ v. v.items ≡ reply_line number reply) }
+    ensures counts { IfOk result (λ _. counts_of tally.new ≡ counted reply (counts_of tally.old)) }
+    ensures grows { Grows tally.old tally.new }
+{
+    let text = reply_text(alloc, number, reply)?;
+    match reply {
+        Ok(_) => tally.accepted += 1,
+        Err(_) => tally.refused += 1,
+    }
+    Ok(text)
+}
+
 /// Answers a line, and counts it.
 fn answer<A: Allocator + Copy>(
     alloc: A,
@@ -62,18 +125,27 @@ fn answer<A: Allocator + Copy>(
     number: u64,
     line: &[u8],
     tally: &mut Tally,
-) -> Result<Vec<u8, A>, AllocError> {
+) -> Result<Vec<u8, A>, AllocError>
+    requires room { HasRoom tally.old }
+    requires reads { IsOk (read_text session.old.text) }
+    ensures gives { IfOk result (λ v. Gives session.old.library number (order_of line.now) session.old.text (counts_of tally.old) v.items session.new.text (counts_of tally.new)) }
+    ensures library { session.new.library ≡ session.old.library }
+    ensures reads { IsOk (read_text session.new.text) }
+    ensures grows { Grows tally.old tally.new }
+{
     match parse(line) {
         Command::Nothing => Ok(Vec::new(alloc)),
         Command::Edit(edit) => {
             let reply = session.edit(&edit);
-            let text = reply_text(alloc, number, reply)?;
-            if reply.is_ok() {
-                tally.accepted = tally.accepted.saturating_add(1);
-            } else {
-                tally.refused = tally.refused.saturating_add(1);
-            }
-            Ok(text)
+            counted_reply(alloc, number, reply, tally)
+        }
+        Command::Text { a, b, new } => {
+            let reply = put_text(alloc, session, a, b, new);
+            counted_reply(alloc, number, reply, tally)
+        }
+        Command::Refused(code) => {
+            let reply = Err(EditRefusal::Refused(code));
+            counted_reply(alloc, number, reply, tally)
         }
         Command::Check => {
             let lines = session.diagnostics()?;
@@ -81,7 +153,7 @@ fn answer<A: Allocator + Copy>(
         }
         Command::Bad => {
             let text = bad_text(alloc, number)?;
-            tally.bad = tally.bad.saturating_add(1);
+            tally.bad += 1;
             Ok(text)
         }
     }
@@ -94,8 +166,12 @@ fn answer_lines<A: Allocator + Copy, W: CountedWrite>(
     script: &[u8],
     out: &mut W,
 ) -> Result<Tally, Stop>
-    requires { W.failed out.old < 2 ^ 62 }
-    ensures { IsErrOf result Stop.Write → W.failed out.old < W.failed out.new }
+    requires few { W.failed out.old < 2 ^ 62 }
+    requires short { length script.now < 2 ^ 62 }
+    requires reads { IsOk (read_text session.old.text) }
+    ensures ok { IfOk result (λ tally. WritesRun session.old.library session.old.text (script_lines script.now) (W.contents out.old) (W.contents out.new) session.new.text (counts_of tally)) }
+    ensures err { OnErr result (WritesRunPart session.old.library session.old.text (script_lines script.now) (W.contents out.old) (W.contents out.new)) }
+    ensures failed { IsErrOf result Stop.Write → W.failed out.old < W.failed out.new }
 {
     let mut patience = MAX_INTERRUPTIONS;
     let mut tally = Tally {
@@ -104,16 +180,46 @@ fn answer_lines<A: Allocator + Copy, W: CountedWrite>(
         bad: 0,
     };
     let mut number = 0u64;
-    for line in script.lines() {
-        number = number.saturating_add(1);
-        let Ok(text) = answer(alloc, session, number, line, &mut tally) else {
+    let mut rest = Some(script);
+    while let Some(text) = rest {
+        let (line, later) = next_line(text);
+        number += 1;
+        let Ok(given) = answer(alloc, session, number, line, &mut tally) else {
             return Err(Stop::Memory);
         };
-        if let Err(_) = write_whole(out, text.as_slice(), &mut patience) {
+        if let Err(_) = write_whole(out, given.as_slice(), &mut patience) {
             return Err(Stop::Write);
         }
+        rest = later;
     }
     Ok(tally)
+}
+
+/// Answers the lines of a script, and then writes the text.
+fn answer_all<A: Allocator + Copy, W: CountedWrite, V: CountedWrite>(
+    alloc: A,
+    session: &mut Session<'_, '_, A>,
+    script: &[u8],
+    out: &mut W,
+    def_out: &mut V,
+) -> Result<Tally, Stop>
+    requires out { W.failed out.old < 2 ^ 62 }
+    requires def_out { V.failed def_out.old < 2 ^ 62 }
+    requires short { length script.now < 2 ^ 62 }
+    requires reads { IsOk (read_text session.old.text) }
+    ensures ok { IfOk result (λ tally. AnswersWhole session.old.library session.old.text script.now (W.contents out.old) (W.contents out.new) (V.contents def_out.old) (V.contents def_out.new) (counts_of tally)) }
+    ensures fault { IfErr result (λ e. AnswersPart session.old.library session.old.text script.now (W.contents out.old) (W.contents out.new) (V.contents def_out.old) (V.contents def_out.new) e) }
+    ensures write { IsErrOf result Stop.Write → (W.failed out.old < W.failed out.new) ⊎ (V.failed def_out.old < V.failed def_out.new) }
+{
+    let tally = match answer_lines(alloc, session, script, out) {
+        Ok(tally) => tally,
+        Err(Stop::Memory) => return Err(Stop::Memory),
+        Err(Stop::Write) => return Err(Stop::Write),
+    };
+    match session.write_to(def_out) {
+        Ok(()) => Ok(tally),
+        Err(_) => Err(Stop::Write),
+    }
 }
 
 /// Runs a script over a DEF text and the library of LEF texts: these, the DEF and the script are read in this order, to
@@ -135,6 +241,8 @@ where
     requires script { R.failed script.old < 2 ^ 62 }
     requires out { W.failed out.old < 2 ^ 62 }
     requires def_out { V.failed def_out.old < 2 ^ 62 }
+    ensures ok { IfOk result (λ tally. RunsWhole lefs.now def.now (R.remaining script.old) (W.contents out.old) (W.contents out.new) (V.contents def_out.old) (V.contents def_out.new) (counts_of tally)) }
+    ensures fault { IfErr result (λ e. StopsBy lefs.now def.now (R.remaining script.old) (W.contents out.old) (W.contents out.new) (V.contents def_out.old) (V.contents def_out.new) e) }
     ensures read { IsErrOf result RunFault.Read → R.failed script.old < R.failed script.new }
     ensures write { IsErrOf result RunFault.Write → (W.failed out.old < W.failed out.new) ⊎ (V.failed def_out.old < V.failed def_out.new) }
 {
@@ -155,13 +263,9 @@ where
         Err(InputError::TooLong) => return Err(RunFault::TooLong),
         Err(InputError::Endless) => return Err(RunFault::Endless),
     };
-    let tally = match answer_lines(alloc, &mut session, bytes.as_slice(), out) {
-        Ok(tally) => tally,
-        Err(Stop::Memory) => return Err(RunFault::Memory),
-        Err(Stop::Write) => return Err(RunFault::Write),
-    };
-    match session.write_to(def_out) {
-        Ok(()) => Ok(tally),
-        Err(_) => Err(RunFault::Write),
+    match answer_all(alloc, &mut session, bytes.as_slice(), out, def_out) {
+        Ok(tally) => Ok(tally),
+        Err(Stop::Memory) => Err(RunFault::Memory),
+        Err(Stop::Write) => Err(RunFault::Write),
     }
 }

@@ -4,9 +4,10 @@ mod answers;
 mod calls;
 mod devices;
 mod faults;
+mod text_edits;
 
-use cell_library::lef_texts::LefTexts;
 use crate::run::{RunFault, Tally, run};
+use cell_library::lef_texts::LefTexts;
 use design_model::counted::Counted;
 use std::alloc::{AllocError, Global};
 

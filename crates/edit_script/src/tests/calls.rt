@@ -3,11 +3,11 @@
 use super::{INVERTER, NO_COMPONENTS, TWO_INVERTERS};
 use cell_library::lef_texts::LefTexts;
 use cell_library::library::{Library, LibraryError};
-use edit_session::session::{OpenError, Session};
 use design_model::counted::Counted;
 use design_model::edit::{Done, Edit, EditCode, EditRefusal};
 use design_model::fault::{Fault, FaultCode};
 use design_model::geometry::Orient;
+use edit_session::session::{OpenError, Session};
 use std::test::Fail;
 
 #[test]

@@ -1,8 +1,8 @@
 //! Readers and writers that do less than they may, or fail.
 
 use super::{INVERTER, Outputs, TWO_INVERTERS, tally};
-use cell_library::lef_texts::LefTexts;
 use crate::run::{MAX_SCRIPT, RunFault, Tally, run};
+use cell_library::lef_texts::LefTexts;
 use design_model::counted::Counted;
 use std::alloc::{AllocError, Global};
 use std::io;

@@ -1,0 +1,5 @@
+pub mod AnswerLemmas
+pub mod EndLemmas
+pub mod EscapeLemmas
+pub mod LineLemmas
+pub mod OutputLemmas

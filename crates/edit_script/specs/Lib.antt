@@ -1,0 +1,5 @@
+pub mod Answered
+pub mod Ends
+pub mod Escapes
+pub mod Orders
+pub mod Parts
