@@ -12,5 +12,6 @@ pub mod Spelled
 pub mod StatementEnds
 pub mod StatementParts
 pub mod Statements
+pub mod TextRows
 pub mod WordEnds
 pub mod WordLaws

@@ -31,7 +31,7 @@ front =
     ++ codes "ROW r0 core 0 0 N DO 20 BY 1 STEP 460 0 ;\nCOMPONENTS 2 ;\n- u1 INV ;\n"
 
 -- a text with two components, the second of them placed
-abbrev two : List ℕ
+abbrev pub two : List ℕ
 two = front ++ codes "- u2 INV + PLACED ( 920 0 ) N ;\nEND COMPONENTS\nEND DESIGN\n"
 
 abbrev two_records : List Record
