@@ -1,6 +1,6 @@
 -- An edit of a text that reads, by the splice that it makes.
 use Rattle.std.proofs.Common.{◌≡◌, ℕ, ◌≤◌, ◌<◌, Bool, true, false, nat_lt, List, [], ◌∷◌, length, Result, Ok, Err, Option, ℤ, refl, sym, ap, ◌∙◌, arith, ⊎_elim}
-use Rattle.std.specs.Prelude.{IsOk}
+use Rattle.std.specs.Prelude.{IsOk, IfOk}
 use Rattle.std.proofs.lemmas.Bool.Decides.{nat_tests}
 use Rattle.design_model.specs.declared.TheConstants.{MAX_TEXT}
 use Rattle.design_model.specs.declared.edit.EditCode.{EditCode}
@@ -14,12 +14,16 @@ use Rattle.design_model.specs.Tokens.{Piece}
 use Rattle.design_model.specs.Forms.{Record}
 use Rattle.design_model.specs.Reading.{read_text}
 use Rattle.design_model.specs.Edits.{place, Cut, place_cuts, entry_of, with_cuts, applied, is_long}
-use Rattle.design_model.specs.Located.{formed_at}
+use Rattle.design_model.specs.Located.{formed_at, records_of}
+use Rattle.design_model.specs.Diagnostics.{diagnostics}
+use Rattle.design_model.specs.Library.{Macro}
+use Rattle.design_model.specs.Order.{texts}
+use Rattle.design_model.specs.declared.diagnostic.DiagLine.{DiagLine}
 use Rattle.design_model.specs.Runs.{Gives}
-use Rattle.design_laws.specs.EditLaws.{AllAreFormed, EditsAreApplied}
+use Rattle.design_laws.specs.EditLaws.{AllAreFormed, EditsAreApplied, RecordsAreRead}
 use Rattle.def_splice.specs.SpliceViews.{SplicesAs}
 use Rattle.design_model.proofs.CaseLemmas.{cases}
-use Rattle.edit_session.specs.Sessions.{MakesText}
+use Rattle.edit_session.specs.Sessions.{Reports}
 
 -- the design of a text that reads
 pub design_of : (r : Result (List Record) Fault) → IsOk r → (design : List Record) × (r ≡ Ok design)
@@ -50,3 +54,11 @@ module _ (formed : AllAreFormed) (text : List ℕ) (reads : IsOk (read_text text
   made_reads applied_so cuts e =
       let g = gives (Ok cuts) e in
       is_read (read_text (with_cuts cuts text)) (applied (place name x y o) g.0) (applied_so text g.0 (place name x y o) cuts g.1 g.2)
+
+-- the lines of the records of a text that reads are those of its design
+pub reported : {A E : Type 0} → RecordsAreRead → (library : List Macro) (text : List ℕ) → IsOk (read_text text) → (r : Result (List (DiagLine A)) E)
+    → IfOk r (λ lines. texts lines ≡ diagnostics library (records_of text)) → IfOk r (λ lines. Reports library text lines)
+reported read_so library text reads (Ok lines) said =
+    let d = design_of (read_text text) reads in
+    (d.0, d.1, said ∙ ap (diagnostics library) (read_so text d.0 d.1))
+reported read_so library text reads (Err e) said = said

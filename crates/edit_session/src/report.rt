@@ -2,6 +2,8 @@
 
 ghost use Rattle.std.specs.Prelude.{◌≡◌, ◌++◌, IfOk, OnOk, map};
 ghost use Rattle.design_model.specs.Lines.{kind_word, diag_text};
+ghost use Rattle.design_model.specs.Diagnostics.{diagnostics};
+ghost use Rattle.design_model.specs.Located.{records_of};
 ghost use Rattle.design_model.specs.Order.{texts};
 
 use cell_library::library::Library;
@@ -9,6 +11,7 @@ use design_model::diagnostic::{Diag, DiagKind, DiagLine, DiagLines, sort_lines};
 use design_model::sequence::Sequence;
 use itoa::Buffer;
 use place_checks::boxes::boxes_of;
+use place_checks::count::counts_of;
 use place_checks::overlap::overlaps_of;
 use std::alloc::{AllocError, Allocator};
 use unit_numbers::print;
@@ -57,15 +60,20 @@ fn push_lines<A: Allocator + Copy>(
     Ok(())
 }
 
-/// All diagnostics of a text, in the order of their bytes, repeats kept.
+/// All diagnostics of the records of a text, in the order of their bytes, repeats kept.
 pub fn report<A: Allocator + Copy>(
     alloc: A,
     library: &Library<'_, A>,
     text: &[u8],
-) -> Result<DiagLines<A>, AllocError> {
-    let boxes = boxes_of(alloc, library, text)?;
+) -> Result<DiagLines<A>, AllocError>
+    ensures { IfOk result (λ lines. texts lines ≡ diagnostics library.now (records_of text.now)) }
+{
     let mut lines = Vec::new(alloc);
-    push_lines(&mut lines, &overlaps_of(alloc, &boxes)?)?;
+    let counts = counts_of(alloc, text)?;
+    push_lines(&mut lines, &counts)?;
+    let boxes = boxes_of(alloc, library, text)?;
+    let overlaps = overlaps_of(alloc, &boxes)?;
+    push_lines(&mut lines, &overlaps)?;
     sort_lines(&mut lines);
     Ok(Sequence::from_vec(lines))
 }

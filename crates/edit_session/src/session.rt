@@ -14,7 +14,7 @@ use cell_library::library::Library;
 use def_reader::read_def::{ReadError, check_def};
 use def_splice::place::place_splice;
 use def_splice::spliced::spliced;
-use design_laws::editing::{all_are_formed, edits_are_applied};
+use design_laws::editing::{all_are_formed, edits_are_applied, records_are_read};
 use design_model::MAX_TEXT;
 use design_model::counted::{CountedWrite, Failures};
 use design_model::diagnostic::DiagLines;
@@ -101,6 +101,7 @@ impl<'s, 'l, A: Allocator + Copy> Session<'s, 'l, A> {
     pub fn diagnostics(&self) -> Result<DiagLines<A>, AllocError>
         ensures { IfOk result (λ lines. Reports self.now.library self.now.text lines) }
     {
+        records_are_read();
         report(*self.text.allocator(), self.library, &self.text)
     }
 
