@@ -7,6 +7,8 @@ use design_model::counted::Counted;
 use design_model::edit::{Done, Edit, EditCode, EditRefusal};
 use design_model::fault::{Fault, FaultCode};
 use design_model::geometry::Orient;
+use linked_list_allocator::LocalHeap;
+use std::alloc::Global;
 use std::test::Fail;
 
 /// A macro `INV` of 0.92 by 2.72 microns.
@@ -138,6 +140,65 @@ fn a_session_from_its_opening_to_its_text(rt: HostRuntime) -> Result<(), Fail> {
     let mut out = Counted::new(Vec::new(rt.alloc()));
     assert!(rt; session.write_to(&mut out).is_ok());
     assert_eq!(rt; out.into_inner().len(), 271);
+    Ok(())
+}
+
+/// What a session in a heap of this many bytes answers to an edit of the text or of the design, and its text then; none
+/// where the heap is too small to open it.
+fn edited_in(
+    alloc: Global,
+    lefs: &LefTexts,
+    size: usize,
+    of_text: bool,
+) -> Result<Option<(Result<Done, EditRefusal>, Vec<u8>)>, Fail> {
+    let heap = LocalHeap::new(alloc, size)?;
+    let Ok(library) = Library::read(&heap, lefs) else {
+        return Ok(None);
+    };
+    let Ok(mut session) = Session::open(&heap, &library, DESIGN) else {
+        return Ok(None);
+    };
+    let reply = if of_text {
+        session.text_edit(185, 187, b"a_much_longer_name".as_slice())
+    } else {
+        session.edit(&Edit::Place {
+            component: b"u1",
+            x: 460,
+            y: 0,
+            orient: Orient::N,
+        })
+    };
+    let mut out = Counted::new(Vec::new(alloc));
+    if session.write_to(&mut out).is_err() {
+        return Err(Fail::from("the text was not written"));
+    }
+    Ok(Some((reply, out.into_inner())))
+}
+
+#[test]
+fn each_growth_refused_leaves_the_text(rt: HostRuntime) -> Result<(), Fail> {
+    let mut lefs = LefTexts::new(rt.alloc());
+    lefs.push(INVERTER)?;
+    for of_text in [false, true] {
+        let mut refused = false;
+        let mut accepted = false;
+        for size in 0..640usize {
+            match edited_in(rt.alloc(), &lefs, 16 * size, of_text)? {
+                Some((Ok(_), text)) => {
+                    accepted = true;
+                    assert!(rt; text.as_slice() != DESIGN);
+                }
+                Some((Err(refusal), text)) => {
+                    refused = true;
+                    assert_eq!(rt; refusal, EditRefusal::Refused(EditCode::Memory));
+                    assert_eq!(rt; text.as_slice(), DESIGN);
+                    assert!(rt; !accepted);
+                }
+                None => assert!(rt; !accepted),
+            }
+        }
+        assert!(rt; refused && accepted);
+    }
     Ok(())
 }
 
