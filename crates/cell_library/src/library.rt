@@ -6,12 +6,12 @@ ghost use Rattle.cell_library.specs.LibraryViews.{open_view, open_with};
 ghost use Rattle.cell_library.specs.declared.library.LibraryError.TheVariants.{Memory};
 
 use crate::lef_texts::LefTexts;
-use lef_reader::block::Block;
-use lef_reader::lef_form::LefStatement;
-use lef_reader::read_lef::read_lef_statement;
 use design_model::MAX_TEXT;
 use design_model::fault::{Fault, FaultCode};
 use indexmap::IndexMap;
+use lef_reader::block::Block;
+use lef_reader::lef_form::LefStatement;
+use lef_reader::read_lef::read_lef_statement;
 use std::alloc::{AllocFailed, Allocator, Global};
 use std::hash::{BuildHasherDefault, FoldHasher};
 use std::marker::Model;

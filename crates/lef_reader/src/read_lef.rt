@@ -4,10 +4,10 @@ ghost use Rattle.std.specs.Prelude.{◌≤◌, length};
 ghost use Rattle.lef_reader.specs.LefViews.{block_view};
 ghost use Rattle.lef_reader.specs.LefReading.{ReadsLef};
 
-use def_reader::boundary::statement_run;
-use def_reader::read_statement::number_fault;
 use crate::block::{Block, lef_ending};
 use crate::lef_form::{LefStatement, block_after, lef_form};
+use def_reader::boundary::statement_run;
+use def_reader::read_statement::number_fault;
 use design_model::fault::{Fault, FaultCode};
 use lefdef_tokens::token_at;
 
