@@ -35,10 +35,11 @@ AnswersWhole library text script o o' d d' counts = (bytes last : List ℕ) × I
 abbrev pub AnswersSome : List Macro → List ℕ → List ℕ → Known → Known → Known → Known → Type 0
 AnswersSome library text script o o' d d' = (part rest last : List ℕ) × (counts : Counts) × IsRun library text script (part ++ rest) last counts × Appends o o' part × Appends d d' []
 
--- what the two writers got, one after the other, is the first part of what they were to get
+-- what the two writers got, one after the other, is the first part of what they were to get: the text only behind all
+-- the answers
 abbrev pub AnswersCut : List Macro → List ℕ → List ℕ → Known → Known → Known → Known → Type 0
 AnswersCut library text script o o' d d' =
-    (one two rest bytes last : List ℕ) × (counts : Counts) × IsRun library text script bytes last counts × (bytes ++ last ≡ (one ++ two) ++ rest) × Appends o o' one × Appends d d' two
+    (one two rest bytes last : List ℕ) × (counts : Counts) × IsRun library text script bytes last counts × (bytes ++ last ≡ (one ++ two) ++ rest) × ((two ≡ []) ⊎ (one ≡ bytes)) × Appends o o' one × Appends d d' two
 
 -- the answers stop for want of memory, or since a writer failed
 abbrev pub AnswersPart : List Macro → List ℕ → List ℕ → Known → Known → Known → Known → Stop → Type 0

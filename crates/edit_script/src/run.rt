@@ -241,8 +241,14 @@ where
     requires script { R.failed script.old < 2 ^ 62 }
     requires out { W.failed out.old < 2 ^ 62 }
     requires def_out { V.failed def_out.old < 2 ^ 62 }
+
+    // Both writers got an output of the script, which the tally counts, and nothing else.
     ensures ok { IfOk result (λ tally. RunsWhole lefs.now def.now (R.remaining script.old) (W.contents out.old) (W.contents out.new) (V.contents def_out.old) (V.contents def_out.new) (counts_of tally)) }
+
+    // The texts are to blame, with nothing written, or the first part of an output was written.
     ensures fault { IfErr result (λ e. StopsBy lefs.now def.now (R.remaining script.old) (W.contents out.old) (W.contents out.new) (V.contents def_out.old) (V.contents def_out.new) e) }
+
+    // A device is blamed only where it has failed.
     ensures read { IsErrOf result RunFault.Read → R.failed script.old < R.failed script.new }
     ensures write { IsErrOf result RunFault.Write → (W.failed out.old < W.failed out.new) ⊎ (V.failed def_out.old < V.failed def_out.new) }
 {
