@@ -5,6 +5,8 @@ ghost use Rattle.std.specs.List.{prefix_len};
 ghost use Rattle.design_model.specs.Output.{is_blank, past, trimmed};
 ghost use Rattle.edit_script.specs.Parts.{IsNextLine, IsNextWord};
 
+use bstr::ByteSlice;
+
 /// Whether words are parted by this byte.
 fn is_blank(byte: u8) -> bool
     ensures { result ≡ is_blank byte }
@@ -47,14 +49,10 @@ fn line_len(text: &[u8]) -> usize
     ensures all { result ≡ prefix_len (λ b. not (b == 10)) text.now }
     ensures within { result ≤ length text.now }
 {
-    let mut count = 0;
-    for byte in text {
-        if *byte == b'\n' {
-            return count;
-        }
-        count += 1;
+    match text.find_byte(b'\n') {
+        Some(len) => len,
+        None => text.len(),
     }
-    count
 }
 
 /// A line without the blanks that it begins with.
