@@ -20,7 +20,7 @@ pub fn write_whole<W: CountedWrite>(
     bytes: &[u8],
     patience: &mut u32,
 ) -> Result<(), WriteFault>
-    requires { W.failed out.old + patience.old < 2 ^ 63 }
+    requires { W.failed out.old + patience.old < 2 ^ 63 + 2 ^ 32 }
     ensures ok { OnOk result (Appends (W.contents out.old) (W.contents out.new) bytes.now) }
     ensures err { OnErr result (WritesPart (W.contents out.old) (W.contents out.new) bytes.now) }
     ensures failed { OnErr result (W.failed out.old < W.failed out.new) }

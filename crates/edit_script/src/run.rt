@@ -166,7 +166,7 @@ fn answer_lines<A: Allocator + Copy, W: CountedWrite>(
     script: &[u8],
     out: &mut W,
 ) -> Result<Tally, Stop>
-    requires few { W.failed out.old < 2 ^ 62 }
+    requires few { W.failed out.old < 2 ^ 63 }
     requires short { length script.now < 2 ^ 62 }
     requires reads { IsOk (read_text session.old.text) }
     ensures ok { IfOk result (λ tally. WritesRun session.old.library session.old.text (script_lines script.now) (W.contents out.old) (W.contents out.new) session.new.text (counts_of tally)) }
@@ -203,8 +203,8 @@ fn answer_all<A: Allocator + Copy, W: CountedWrite, V: CountedWrite>(
     out: &mut W,
     def_out: &mut V,
 ) -> Result<Tally, Stop>
-    requires out { W.failed out.old < 2 ^ 62 }
-    requires def_out { V.failed def_out.old < 2 ^ 62 }
+    requires out { W.failed out.old < 2 ^ 63 }
+    requires def_out { V.failed def_out.old < 2 ^ 63 }
     requires short { length script.now < 2 ^ 62 }
     requires reads { IsOk (read_text session.old.text) }
     ensures ok { IfOk result (λ tally. AnswersWhole session.old.library session.old.text script.now (W.contents out.old) (W.contents out.new) (V.contents def_out.old) (V.contents def_out.new) (counts_of tally)) }
@@ -238,9 +238,9 @@ where
     R: CountedRead,
     W: CountedWrite,
     V: CountedWrite,
-    requires script { R.failed script.old < 2 ^ 62 }
-    requires out { W.failed out.old < 2 ^ 62 }
-    requires def_out { V.failed def_out.old < 2 ^ 62 }
+    requires script { R.failed script.old < 2 ^ 63 }
+    requires out { W.failed out.old < 2 ^ 63 }
+    requires def_out { V.failed def_out.old < 2 ^ 63 }
 
     // Both writers got an output of the script, which the tally counts, and nothing else.
     ensures ok { IfOk result (λ tally. RunsWhole lefs.now def.now (R.remaining script.old) (W.contents out.old) (W.contents out.new) (V.contents def_out.old) (V.contents def_out.new) (counts_of tally)) }

@@ -114,7 +114,7 @@ impl<'s, 'l, A: Allocator + Copy> Session<'s, 'l, A> {
 
     /// Writes the present text.
     pub fn write_to<W: CountedWrite>(&self, out: &mut W) -> Result<(), WriteFault>
-        requires { W.failed out.old < 2 ^ 62 }
+        requires { W.failed out.old < 2 ^ 63 }
         ensures ok { OnOk result (Appends (W.contents out.old) (W.contents out.new) self.now.text) }
         ensures err { OnErr result (WritesPart (W.contents out.old) (W.contents out.new) self.now.text) }
         ensures failed { OnErr result (W.failed out.old < W.failed out.new) }
