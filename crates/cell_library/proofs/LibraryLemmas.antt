@@ -6,9 +6,9 @@ use Rattle.std.specs.Str.{bytes_eq}
 use Rattle.std.proofs.lemmas.List.{map-append}
 use Rattle.std.proofs.lemmas.Slice.Eq.{bytes_eq-Decides}
 use Rattle.indexmap.specs.IndexMap.{insert_entry}
-use Rattle.design_model.specs.Library.{Macro, is_named, macro_named, with_first}
+use Rattle.lef_grammar.specs.Library.{Macro, is_named, named_in, with_first}
 use Rattle.cell_library.specs.declared.library.Macro as code_macro
-use Rattle.cell_library.specs.LibraryViews.{entry_view, macro_view, found_view}
+use Rattle.cell_library.specs.LibraryViews.{entry_view, library_view, macro_view, found_view, closed}
 
 abbrev Entry : Type 0
 Entry = Bor (List ℕ) × code_macro.Macro
@@ -27,11 +27,11 @@ found_step : (b : Bool) (name : List ℕ) (e : Entry) (r : Option code_macro.Mac
 found_step true name e r q h i = ap (λ n. Some (macro_view n e.1)) (h refl)
 found_step false name e r q h i = i
 
-pub macro_found : (name : List ℕ) (es : List Entry) → found_view name (lookup (has_name name) es) ≡ macro_named (map entry_view es) name
+pub macro_found : (name : List ℕ) (es : List Entry) → found_view name (lookup (has_name name) es) ≡ named_in (map entry_view es) name
 macro_found name [] = refl
 macro_found name (e ∷ es) =
-    found_step (bytes_eq name e.0.now) name e (lookup (has_name name) es) (macro_named (map entry_view es) name) (same_bytes name e.0.now) (macro_found name es)
-    ∙ ap (λ (b : Bool). if b then Some (entry_view e) else macro_named (map entry_view es) name) (bytes_eq_sym name e.0.now)
+    found_step (bytes_eq name e.0.now) name e (lookup (has_name name) es) (named_in (map entry_view es) name) (same_bytes name e.0.now) (macro_found name es)
+    ∙ ap (λ (b : Bool). if b then Some (entry_view e) else named_in (map entry_view es) name) (bytes_eq_sym name e.0.now)
 
 taken_step : (b : Bool) (v : code_macro.Macro) (r : Option code_macro.Macro) (q : Bool) → is_some r ≡ q → is_some (cond b (Some v) r) ≡ (b || q)
 taken_step true v r q h = refl
@@ -52,10 +52,15 @@ module _ (k : Bor (List ℕ)) (v : code_macro.Macro) where
   put_last [] h = refl
   put_last (e ∷ es) h = put_step (bytes_eq k.now e.0.now) e es (insert_entry (λ (a b : Bor (List ℕ)). bytes_eq a.now b.now) es k v) (lookup (has_name k.now) es) h (put_last es)
 
-  pub closed_new : (es new : List Entry) → is_some (lookup (has_name k.now) es) ≡ false → new ≡ insert_entry (λ (a b : Bor (List ℕ)). bytes_eq a.now b.now) es k v → map entry_view new ≡ with_first (map entry_view es) (macro_view k.now v)
-  closed_new es new h e =
+  put_new : (es new : List Entry) → is_some (lookup (has_name k.now) es) ≡ false → new ≡ insert_entry (λ (a b : Bor (List ℕ)). bytes_eq a.now b.now) es k v
+      → map entry_view new ≡ with_first (map entry_view es) (macro_view k.now v)
+  put_new es new h e =
       let fresh : list_any (is_named k.now) (map entry_view es) ≡ false = sym (name_taken k.now es) ∙ h in
       rw (e, put_last es h, map-append entry_view es ((k, v) ∷ []), fresh) refl
 
-  pub closed_old : (es : List Entry) → is_some (lookup (has_name k.now) es) ≡ true → map entry_view es ≡ with_first (map entry_view es) (macro_view k.now v)
+  pub closed_new : (es new : List Entry) → is_some (lookup (has_name k.now) es) ≡ false → new ≡ insert_entry (λ (a b : Bor (List ℕ)). bytes_eq a.now b.now) es k v
+      → library_view new ≡ closed (library_view es) (Some (macro_view k.now v))
+  closed_new es new h e = ap (λ (ms : List Macro). record { macros = ms }) (put_new es new h e)
+
+  pub closed_old : (es : List Entry) → is_some (lookup (has_name k.now) es) ≡ true → library_view es ≡ closed (library_view es) (Some (macro_view k.now v))
   closed_old es h = let old : list_any (is_named k.now) (map entry_view es) ≡ true = sym (name_taken k.now es) ∙ h in rw old refl

@@ -30,7 +30,7 @@ impl<A: Allocator + Copy> LefTexts<A> {
         }
     }
 
-    /// Copies a text behind the others. A refused growth leaves them as they were.
+    /// Puts a copy of a text at the end. A refused growth leaves the texts as they were.
     pub fn push(&mut self, text: &[u8]) -> Result<(), AllocError>
         ensures ok { OnOk result (self.new ≡ self.old ++ text.now ∷ []) }
         ensures err { OnErr result (self.new ≡ self.old) }

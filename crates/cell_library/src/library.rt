@@ -1,18 +1,22 @@
 //! The library that LEF texts define.
 
-ghost use Rattle.std.specs.Prelude.{◌≡◌, Some, OnOk, IfErr, IfOk};
-ghost use Rattle.lef_reader.specs.LefViews.{lef_view};
-ghost use Rattle.cell_library.specs.LibraryViews.{open_view, open_with};
-ghost use Rattle.cell_library.specs.declared.library.LibraryError.TheVariants.{Memory};
+ghost use Rattle.std.specs.Prelude.{◌≡◌, OnOk, IfErr, IfOk};
+ghost use Rattle.std.specs.Option.{option_map};
+ghost use Rattle.lef_reader.specs.MacroViews.{macro_view as statement_view};
+ghost use Rattle.lef_reader.specs.OutermostViews.{outermost_view};
+ghost use Rattle.lef_reader.specs.StatementViews.{lef_view};
+ghost use Rattle.cell_library.specs.LibraryViews.{open_view, opened_by, with_record};
 
 use crate::lef_texts::LefTexts;
 use design_model::MAX_TEXT;
-use design_model::fault::{Fault, FaultCode};
+use design_model::fault::{Fault, FaultCode, ReadError};
 use indexmap::IndexMap;
 use lef_reader::block::Block;
-use lef_reader::lef_form::LefStatement;
+use lef_reader::macro_block::MacroStatement;
+use lef_reader::outermost::OutermostStatement;
 use lef_reader::read_lef::read_lef_statement;
-use std::alloc::{AllocFailed, Allocator, Global};
+use lef_reader::statement::LefStatement;
+use std::alloc::{Allocator, Global};
 use std::hash::{BuildHasherDefault, FoldHasher};
 use std::marker::Model;
 
@@ -37,14 +41,6 @@ pub enum LibraryError {
     Memory,
 }
 
-impl<T: Drop> From<AllocFailed<T>> for LibraryError {
-    ghost from_gives = { λ _ e. e ≡ Memory };
-
-    fn from(_error: AllocFailed<T>) -> LibraryError {
-        LibraryError::Memory
-    }
-}
-
 /// The first macro of each name, borrowed from the texts.
 #[derive(Drop)]
 pub struct Library<'l, A: Allocator = Global> {
@@ -52,46 +48,52 @@ pub struct Library<'l, A: Allocator = Global> {
 }
 
 impl<'l, A: Allocator> Model for Library<'l, A> {
-    ghost use Rattle.std.specs.Prelude.{List, map};
-    ghost use Rattle.design_model.specs.Library.{Macro as MacroRecord};
-    ghost use Rattle.cell_library.specs.LibraryViews.{entry_view};
+    ghost use Rattle.lef_grammar.specs.Library.{Library as TheLibrary};
+    ghost use Rattle.cell_library.specs.LibraryViews.{library_view};
 
-    ghost Value = { List MacroRecord };
+    ghost Value = { TheLibrary };
 
-    ghost view = { λ t. map entry_view t.macros.entries };
+    ghost view = { λ t. library_view t.macros.entries };
 }
 
-/// The present block's macro, with what it says so far.
+/// The macro whose statements are read, with what they said so far.
 #[derive(Clone, Copy)]
 struct OpenMacro<'l> {
     name: &'l [u8],
     body: Macro<'l>,
 }
 
-/// What is open after a statement of a macro.
-fn with_statement<'l>(opened: OpenMacro<'l>, statement: &LefStatement<'l>) -> OpenMacro<'l>
-    ensures { open_view (Some result) ≡ open_with (lef_view statement.now) (open_view (Some opened.entry)) }
+/// The macro that a statement opens, where it is the header of one.
+fn opened_by<'l>(statement: &OutermostStatement<'l>) -> Option<OpenMacro<'l>>
+    ensures { option_map open_view result ≡ opened_by (outermost_view statement.now) }
+{
+    match statement {
+        OutermostStatement::OpensMacro(name) => Some(OpenMacro {
+            name: name.bytes,
+            body: Macro {
+                class: None,
+                size: None,
+            },
+        }),
+        _ => None,
+    }
+}
+
+/// An open macro after a statement in it. Of each kind the first counts.
+fn with_statement<'l>(opened: OpenMacro<'l>, statement: &MacroStatement<'l>) -> OpenMacro<'l>
+    ensures { open_view result ≡ with_record (statement_view statement.now) (open_view opened.entry) }
 {
     let mut body = opened.body;
     match statement {
-        LefStatement::Class(word) => {
-            if body.class.is_none() {
-                body.class = Some(word.bytes);
-            }
+        MacroStatement::Class(word, _) => body.class = body.class.or(Some(word.bytes)),
+        MacroStatement::Size(width, height) => {
+            let size = Extent {
+                width: width.bytes,
+                height: height.bytes,
+            };
+            body.size = body.size.or(Some(size));
         }
-        LefStatement::Size(width, height) => {
-            if body.size.is_none() {
-                body.size = Some(Extent {
-                    width: width.bytes,
-                    height: height.bytes,
-                });
-            }
-        }
-        LefStatement::OpensSite(_)
-        | LefStatement::OpensMacro(_)
-        | LefStatement::Closes
-        | LefStatement::EndLibrary
-        | LefStatement::Kept => {}
+        MacroStatement::End | MacroStatement::Kept(_, _) => {}
     }
     OpenMacro {
         name: opened.name,
@@ -100,9 +102,9 @@ fn with_statement<'l>(opened: OpenMacro<'l>, statement: &LefStatement<'l>) -> Op
 }
 
 impl<'l, A: Allocator + Copy> Library<'l, A> {
-    ghost use Rattle.design_model.specs.Library.{macro_named};
+    ghost use Rattle.lef_grammar.specs.Library.{macro_named};
+    ghost use Rattle.design_model.specs.declared.fault.ReadError.TheVariants.{Memory};
     ghost use Rattle.cell_library.specs.LibraryViews.{AddsText, ReadsLibrary, closed, found_view, noted};
-    ghost use Rattle.cell_library.specs.declared.library.TextError.TheVariants.{Memory as NoMemory};
 
     /// Reads the texts in their order.
     pub fn read<B: Allocator + Copy>(
@@ -114,15 +116,14 @@ impl<'l, A: Allocator + Copy> Library<'l, A> {
         let mut library = Library {
             macros: IndexMap::with_hasher(alloc, BuildHasherDefault::new()),
         };
-        let texts = texts.as_slice();
-        for number in 0..texts.len() {
-            match library.add_text(texts[number].as_slice()) {
+        for (number, text) in texts.as_slice().iter().enumerate() {
+            match library.add_text(text.as_slice()) {
                 Ok(()) => {}
-                Err(TextError::Fault(fault)) => return Err(LibraryError::Fault {
+                Err(ReadError::Fault(fault)) => return Err(LibraryError::Fault {
                     file: number + 1,
                     fault,
                 }),
-                Err(TextError::Memory) => return Err(LibraryError::Memory),
+                Err(ReadError::Memory) => return Err(LibraryError::Memory),
             }
         }
         Ok(library)
@@ -132,18 +133,15 @@ impl<'l, A: Allocator + Copy> Library<'l, A> {
     pub fn macro_of(&self, name: &[u8]) -> Option<Macro<'l>>
         ensures { found_view name.now result ≡ macro_named self.now name.now }
     {
-        match self.macros.get(name) {
-            Some(found) => Some(*found),
-            None => None,
-        }
+        self.macros.get(name).copied()
     }
 
-    /// Adds the macros of a text behind those before.
-    fn add_text(&mut self, text: &'l [u8]) -> Result<(), TextError>
+    /// Adds the macros of a text to those before.
+    fn add_text(&mut self, text: &'l [u8]) -> Result<(), ReadError>
         ensures { AddsText text.now self.old self.new result }
     {
         if text.len() > MAX_TEXT {
-            return Err(TextError::Fault(Fault {
+            return Err(ReadError::Fault(Fault {
                 code: FaultCode::TooLong,
                 pos: 0,
             }));
@@ -153,48 +151,42 @@ impl<'l, A: Allocator + Copy> Library<'l, A> {
         let mut pos = 0;
         while let Some(read) = read_lef_statement(block, text, pos)? {
             opened = self.note(opened, &read.statement)?;
-            block = read.block;
+            block = read.place;
             pos = read.end;
         }
-        Ok(())
+        self.close(opened)
     }
 
-    /// Notes a statement, and gives the macro that is open after it.
+    /// Notes a statement, and gives the macro that is open after it. One that was open is complete where a statement
+    /// doesn't stand in it.
     fn note(
         &mut self,
         opened: Option<OpenMacro<'l>>,
         statement: &LefStatement<'l>,
-    ) -> Result<Option<OpenMacro<'l>>, TextError>
-        ensures ok { IfOk result (λ later. (self.new, open_view later) ≡ noted (lef_view statement.now) (self.old, open_view opened.entry)) }
-        ensures err { IfErr result (λ e. e ≡ NoMemory) }
+    ) -> Result<Option<OpenMacro<'l>>, ReadError>
+        ensures ok { IfOk result (λ later. (self.new, option_map open_view later) ≡ noted (lef_view statement.now) (self.old, option_map open_view opened.entry)) }
+        ensures err { IfErr result (λ e. e ≡ Memory) }
     {
         match statement {
-            LefStatement::OpensMacro(name) => Ok(Some(OpenMacro {
-                name: name.bytes,
-                body: Macro {
-                    class: None,
-                    size: None,
-                },
-            })),
-            LefStatement::Closes => {
-                self.close(opened)?;
-                Ok(None)
-            }
-            LefStatement::OpensSite(_)
-            | LefStatement::EndLibrary
-            | LefStatement::Class(_)
-            | LefStatement::Size(_, _)
-            | LefStatement::Kept => match opened {
+            LefStatement::InMacro(statement) => match opened {
                 Some(before) => Ok(Some(with_statement(before, statement))),
                 None => Ok(None),
             },
+            LefStatement::Outside(statement) => {
+                self.close(opened)?;
+                Ok(opened_by(statement))
+            }
+            LefStatement::InSite(_) => {
+                self.close(opened)?;
+                Ok(None)
+            }
         }
     }
 
-    /// Adds the macro whose block closes, unless its name is taken.
-    fn close(&mut self, opened: Option<OpenMacro<'l>>) -> Result<(), TextError>
-        ensures ok { OnOk result (self.new ≡ closed self.old (open_view opened.entry)) }
-        ensures err { IfErr result (λ e. e ≡ NoMemory) }
+    /// Adds a macro that is complete, unless its name is taken.
+    fn close(&mut self, opened: Option<OpenMacro<'l>>) -> Result<(), ReadError>
+        ensures ok { OnOk result (self.new ≡ closed self.old (option_map open_view opened.entry)) }
+        ensures err { IfErr result (λ e. e ≡ Memory) }
     {
         let Some(done) = opened else {
             return Ok(());
@@ -204,32 +196,5 @@ impl<'l, A: Allocator + Copy> Library<'l, A> {
         }
         self.macros.insert(done.name, done.body)?;
         Ok(())
-    }
-}
-
-/// Why a text is not added.
-#[derive(Clone, Copy)]
-enum TextError {
-    Fault(Fault),
-    Memory,
-}
-
-impl From<Fault> for TextError {
-    ghost use Rattle.cell_library.specs.declared.library.TextError.TheVariants.{Fault as OfFault};
-
-    ghost from_gives = { λ fault e. e ≡ OfFault fault };
-
-    fn from(fault: Fault) -> TextError {
-        TextError::Fault(fault)
-    }
-}
-
-impl<T: Drop> From<AllocFailed<T>> for TextError {
-    ghost use Rattle.cell_library.specs.declared.library.TextError.TheVariants.{Memory};
-
-    ghost from_gives = { λ _ e. e ≡ Memory };
-
-    fn from(_error: AllocFailed<T>) -> TextError {
-        TextError::Memory
     }
 }

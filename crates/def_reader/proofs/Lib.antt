@@ -1,8 +1,6 @@
-pub mod CheckLemmas
-pub mod ClauseLemmas
-pub mod ListSteps
-pub mod LocatedLemmas
-pub mod NameLemmas
-pub mod PieceLemmas
-pub mod StatementLemmas
-pub mod TextLemmas
+mod CheckSteps
+mod KeySteps
+mod PlacingSteps
+mod PlacingTokens
+mod RecordSteps
+mod SectionSteps

@@ -1,4 +1,9 @@
-pub mod ClauseViews
-pub mod Endings
+pub mod ComponentViews
+pub mod Lent
+pub mod Numbers
+pub mod PlacingViews
+pub mod PointViews
+pub mod RecordViews
+pub mod SeenViews
 pub mod StatementViews
 pub mod TextViews

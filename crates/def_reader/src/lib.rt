@@ -1,12 +1,22 @@
-//! Reading DEF statements and whole DEF texts (LEF/DEF 5.8 Language Reference, "DEF Syntax").
+//! Reads the statements of DEF texts, and whole DEF texts (LEF/DEF 5.8 Language Reference, "DEF Syntax").
+//!
+//! Begin with `read_def::check_def`, which says whether a text reads or what its fault is. Of a text that reads
+//! `records::statements_of` gives all statements in order, and `records::component_named` the entry of a component.
+//! `read_statement::read_statement` reads one statement, and `components` has the parts of an entry.
+//!
+//! What statements say is defined in `def_grammar/specs/Records`, and `specs/StatementViews` says how a statement of the
+//! program is seen there. Statements and their parts lend their tokens from the text that was read (`specs/Lent`).
+//!
+//! A text that doesn't read has a `Fault`. Where memory is refused, the answer is `ReadError::Memory` or `AllocError`.
 #![tactic(auto)]
 
-pub mod boundary;
-pub mod clause;
-pub mod component;
-pub mod form;
+pub mod components;
 pub mod number;
+pub mod placing;
+pub mod point;
 pub mod read_def;
 pub mod read_statement;
+pub mod records;
+pub mod seen;
 pub mod statement;
-pub mod statements;
+mod top;

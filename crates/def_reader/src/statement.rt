@@ -1,28 +1,196 @@
-//! What a DEF statement is.
+//! The statements of a DEF text, and what they are to the one who reads a whole text.
 
-use crate::component::ComponentParts;
+ghost use Rattle.std.specs.Prelude.{◌≡◌, [], ◌∷◌, IfSome};
+ghost use Rattle.std.specs.Option.{option_map};
+ghost use Rattle.form_meanings.specs.Words.{Gives};
+ghost use Rattle.statement_model.specs.Form.{left, one_of, read, right, whole};
+ghost use Rattle.design_model.specs.EnumWords.{section_word};
+ghost use Rattle.def_grammar.specs.Records.{def, def_ending, entries_form, entry_of, in_section, is_after, key_of, mode_after, section_of, statement};
+ghost use Rattle.lefdef_tokens.specs.Views.{IsLater, rest_of, words_of};
+ghost use Rattle.statement_reader.specs.Endings.{ending_view};
+ghost use Rattle.def_reader.specs.Lent.{StatementIn};
+ghost use Rattle.def_reader.specs.PointViews.{with_rest};
+ghost use Rattle.def_reader.specs.SeenViews.{key_view};
+ghost use Rattle.def_reader.specs.StatementViews.{bytes_of, entry_name, mode_view, record_view};
+
+use crate::components::{ComponentParts, component_at};
+use crate::seen::Key;
+use crate::top::top_at;
 use design_model::mode::{Mode, Section};
-use lefdef_tokens::{Token, TokenRun};
+use lefdef_tokens::{Cursor, Token, TokenRun, is_semicolon, is_word};
+use statement_reader::boundary::Ending;
+use statement_reader::grammar;
 
 /// A statement, with parts that borrow the text.
-#[derive(Clone, Copy)]
+#[derive(Clone, Copy, Drop)]
 pub enum Statement<'t> {
     /// `UNITS DISTANCE MICRONS`, with its number of database units per micron.
     Units(Token<'t>),
+    EndDesign,
     /// A section's header, with its number of entries.
     Header(Section, Token<'t>),
-    Component(ComponentParts<'t>),
+    /// A statement without meaning, by its first token and the others.
+    Kept(Token<'t>, TokenRun<'t>),
     EndSection(Section),
-    EndDesign,
-    /// A statement without meaning.
-    Kept(TokenRun<'t>),
+    Component(ComponentParts<'t>),
 }
 
-/// A statement that was read: its tokens, the mode after it, and the place after its last byte.
-#[derive(Clone, Copy)]
-pub struct Read<'t> {
-    pub statement: Statement<'t>,
-    pub tokens: TokenRun<'t>,
-    pub mode: Mode,
-    pub end: usize,
+impl<'t> Statement<'t> {
+    /// What of it a text has once.
+    pub fn key(&self) -> Key<'t>
+        ensures { key_view result ≡ key_of (record_view self.now) }
+    {
+        match self {
+            Statement::Units(_) => Key::Statement(b"UNITS"),
+            Statement::Header(section, _) => Key::Statement(section.word()),
+            Statement::Kept(first, _) => {
+                if is_word(first.bytes, b"DIEAREA") {
+                    Key::Statement(first.bytes)
+                } else {
+                    Key::Nothing
+                }
+            }
+            Statement::Component(parts) => Key::Entry(Section::Components, parts.name.bytes),
+            _ => Key::Nothing,
+        }
+    }
+
+    /// The section of an entry.
+    pub fn section(&self) -> Option<Section>
+        ensures { result ≡ option_map section_of (entry_of (record_view self.now)) }
+    {
+        match self {
+            Statement::Component(_) => Some(Section::Components),
+            _ => None,
+        }
+    }
+
+    /// The name of an entry.
+    pub fn name(&self) -> Option<&'t [u8]>
+        ensures { option_map bytes_of result ≡ entry_name (record_view self.now) }
+    {
+        match self {
+            Statement::Component(parts) => Some(parts.name.bytes),
+            _ => None,
+        }
+    }
+}
+
+/// `END section`, after `END`
+fn end_at<'t>(section: Section, cursor: Cursor<'t>) -> Option<(Statement<'t>, Cursor<'t>)>
+    ensures gives { Gives (with_rest record_view) result (read (right (left (one_of section_word (section ∷ [])))) (rest_of cursor.entry)) }
+    ensures later { IfSome result (λ x. IsLater cursor.entry x.1) }
+    ensures lent { IfSome result (λ x. StatementIn cursor.entry.tokens.text.now x.0) }
+{
+    let (word, cursor) = cursor.next()?;
+    if is_word(word.bytes, section.word()) {
+        Some((Statement::EndSection(section), cursor))
+    } else {
+        None
+    }
+}
+
+/// An entry of a section.
+#[tactic(auto, unfolding(def_grammar::specs::Records::entries_form))]
+fn entry_at<'t>(section: Section, cursor: Cursor<'t>) -> Option<(Statement<'t>, Cursor<'t>)>
+    ensures gives { Gives (with_rest record_view) result (read (right (right (entries_form section))) (rest_of cursor.entry)) }
+    ensures later { IfSome result (λ x. IsLater cursor.entry x.1) }
+    ensures lent { IfSome result (λ x. StatementIn cursor.entry.tokens.text.now x.0) }
+{
+    match section {
+        Section::Components => {
+            let (parts, cursor) = component_at(cursor)?;
+            Some((Statement::Component(parts), cursor))
+        }
+        _ => None,
+    }
+}
+
+/// A statement in a section.
+fn in_section<'t>(section: Section, cursor: Cursor<'t>) -> Option<(Statement<'t>, Cursor<'t>)>
+    ensures gives { Gives (with_rest record_view) result (read (right (in_section section)) (rest_of cursor.entry)) }
+    ensures later { IfSome result (λ x. IsLater cursor.entry x.1) }
+    ensures lent { IfSome result (λ x. StatementIn cursor.entry.tokens.text.now x.0) }
+{
+    if cursor.next_is(b"END") {
+        end_at(section, cursor.key(b"END")?)
+    } else {
+        entry_at(section, cursor)
+    }
+}
+
+/// A statement by its mode.
+#[tactic(auto, unfolding(def_grammar::specs::Records::statement))]
+fn statement_at<'t>(mode: Mode, cursor: Cursor<'t>) -> Option<(Statement<'t>, Cursor<'t>)>
+    ensures gives { Gives (with_rest record_view) result (read (statement mode) (rest_of cursor.entry)) }
+    ensures later { IfSome result (λ x. IsLater cursor.entry x.1) }
+    ensures lent { IfSome result (λ x. StatementIn cursor.entry.tokens.text.now x.0) }
+{
+    match mode {
+        Mode::Top => top_at(cursor),
+        Mode::In(section) => in_section(section, cursor),
+        Mode::Props | Mode::After => None,
+    }
+}
+
+impl<'t> grammar::Statement<'t> for Statement<'t> {
+    ghost use Rattle.def_grammar.specs.Records.{Record};
+    ghost use Rattle.design_model.specs.declared.mode.Mode.{Mode as TheMode};
+
+    type Place = Mode;
+
+    ghost Where = { TheMode };
+
+    ghost Says = { Record };
+
+    ghost grammar = { def };
+
+    ghost place_view = { mode_view };
+
+    ghost view = { record_view };
+
+    ghost lent = { StatementIn };
+
+    fn ending(_mode: Mode, first: &[u8]) -> Ending
+        ensures { ending_view result ≡ def_ending first.now }
+    {
+        if is_word(first, b"PROPERTYDEFINITIONS") || is_semicolon(first) {
+            Ending::Alone
+        } else if is_word(first, b"END") {
+            Ending::WithNext
+        } else if is_word(first, b"BEGINEXT") {
+            Ending::UpTo(b"ENDEXT")
+        } else {
+            Ending::UpTo(b";")
+        }
+    }
+
+    fn read(mode: Mode, tokens: TokenRun<'t>) -> Option<(Statement<'t>, Option<usize>)>
+        ensures gives { Gives (λ x. (record_view x.0, x.1)) result (whole (statement mode) (words_of tokens.entry)) }
+        ensures lent { IfSome result (λ x. StatementIn tokens.entry.text.now x.0) }
+    {
+        let (statement, cursor) = statement_at(mode, Cursor::start(tokens))?;
+        if cursor.is_done() {
+            Some((statement, cursor.bad))
+        } else {
+            None
+        }
+    }
+
+    fn after(mode: Mode, statement: &Statement<'t>) -> Mode
+        ensures { result ≡ mode_after mode (record_view statement.now) }
+    {
+        match statement {
+            Statement::Header(section, _) => Mode::In(*section),
+            Statement::EndSection(_) => Mode::Top,
+            Statement::EndDesign => Mode::After,
+            _ => mode,
+        }
+    }
+
+    fn may_end(mode: Mode) -> bool
+        ensures { result ≡ is_after mode }
+    {
+        matches!(mode, Mode::After)
+    }
 }

@@ -1,7 +1,7 @@
 -- Splices in order.
 use Rattle.std.proofs.Common.{◌≡◌, ◌≤◌, ◌<◌, ◌+◌, ℕ, List, [], ◌∷◌, arith, length, drop, get_or, subst, sym}
 use Rattle.std.proofs.lemmas.List.{drop_more}
-use Rattle.design_model.specs.Splices.{AreInOrder}
+use Rattle.def_splice.specs.SpliceViews.{AreInOrder}
 use Rattle.design_model.specs.declared.edit.Splice.{Splice}
 
 -- splices in order from a place leave room for that place

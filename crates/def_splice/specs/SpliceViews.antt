@@ -1,28 +1,58 @@
 -- Splices of the program as cuts of the definitions.
-use Rattle.std.specs.Prelude.{◌≡◌, ℕ, List, [], ◌∷◌, Option, Some, None, Result, Ok, Err}
+use Rattle.std.specs.Prelude.{◌≡◌, ◌≤◌, ◌-◌, ◌++◌, ℕ, ℤ, true, false, List, [], ◌∷◌, codes, length, map, take, Option, Some, None, Result, Ok, Err}
+use Rattle.std.specs.Option.{option_map}
 use Rattle.design_model.specs.declared.edit.EditCode.{EditCode}
-use Rattle.design_model.specs.declared.edit.EditCode.TheVariants.{Memory}
+use Rattle.design_model.specs.declared.edit.EditCode.TheVariants.{Fixed}
 use Rattle.design_model.specs.declared.edit.EditRefusal.{EditRefusal}
-use Rattle.design_model.specs.declared.edit.EditRefusal.TheVariants.{Refused, Unreadable}
+use Rattle.design_model.specs.declared.edit.EditRefusal.TheVariants.{Refused, Unreadable, Memory}
 use Rattle.design_model.specs.declared.edit.Splice.{Splice}
-use Rattle.design_model.specs.Edits.{Cut, end_of}
-use Rattle.design_model.specs.Splices.{cut_view}
-use Rattle.design_model.specs.Tokens.{Piece}
-use Rattle.lefdef_tokens.specs.Views.{pieces_of}
-use Rattle.lefdef_tokens.specs.declared.token_run.TokenRun.{TokenRun}
+use Rattle.design_model.specs.declared.geometry.Orient.{Orient}
+use Rattle.statement_model.specs.Cuts.{Cut, end_of_all, put_at, with_cuts}
+use Rattle.statement_model.specs.Reading.{pos_of}
+use Rattle.statement_model.specs.Tokens.{Piece}
+use Rattle.def_grammar.specs.Components.{Clause}
+use Rattle.def_grammar.specs.Placing.{is_held}
+use Rattle.def_grammar.specs.Records.{Record, read_def}
+use Rattle.lef_grammar.specs.Library.{Library}
+use Rattle.design_rules.specs.Edits.{Change, component_at, located, place_cuts}
+use Rattle.design_rules.specs.Runs.{Makes}
 
--- the splice is the one cut of an edit, or the edit is refused so; refused memory says nothing
-abbrev pub SplicesAs : {A : Type 0} → Result (List Cut) EditCode → Result (Splice A) EditRefusal → Type 0
-SplicesAs outcome (Ok s) = outcome ≡ Ok (cut_view s ∷ [])
-SplicesAs outcome (Err (Refused Memory)) = Unit {0}
-SplicesAs outcome (Err (Refused code)) = outcome ≡ Err code
-SplicesAs outcome (Err (Unreadable fault)) = ⊥
+abbrev pub cut_view : {A : Type 0} → Splice A → Cut
+cut_view s = record { lo = s.lo; hi = s.hi; put = s.put }
 
-abbrev pub run_seen : Option TokenRun → Option (List Piece)
-run_seen None = None
-run_seen (Some run) = Some (pieces_of run)
+-- the text with the splices made
+abbrev pub made : {A : Type 0} → List (Splice A) → List ℕ → List ℕ
+made splices text = with_cuts (map cut_view splices) text
 
--- the place after the last of some tokens behind a place
-abbrev pub end_behind : ℕ → List Piece → ℕ
-end_behind at [] = at
-end_behind at (p ∷ ps) = end_behind (end_of p) ps
+-- the splices stand in order, from a place on, within a length
+abbrev pub AreInOrder : {A : Type 0} → ℕ → List (Splice A) → ℕ → Type 0
+AreInOrder at [] n = at ≤ n
+AreInOrder at (s ∷ ss) n = (at ≤ s.lo) × (s.lo ≤ s.hi) × AreInOrder s.hi ss n
+
+-- the cut that puts a clause in the place of these tokens, or at the end of an entry
+abbrev pub clause_cut : List ℕ → List Piece → Option (List Piece) → List ℕ → Cut
+clause_cut text entry (Some ps) put = put_at text (pos_of ps) (end_of_all ps) put
+clause_cut text entry None put = put_at text (end_of_all (take (length entry - 1) entry)) (end_of_all (take (length entry - 1) entry)) (codes " + " ++ put)
+
+-- the tokens of a clause that may be moved, or the refusal of one that holds its component
+abbrev pub Moves : {C R : Type 0} → (C → Clause) → Option (C × R) → Result (Option R) EditRefusal → Type 0
+Moves view placing (Ok tokens) = (is_held (option_map (λ p. view p.0) placing) ≡ false) × (tokens ≡ option_map (λ p. p.1) placing)
+Moves view placing (Err refusal) = (is_held (option_map (λ p. view p.0) placing) ≡ true) × (refusal ≡ Refused Fixed)
+
+-- placing the component of a name in a text that reads gives these cuts, or is refused so
+abbrev pub PlacesAs : List ℕ → List ℕ → ℤ → ℤ → Orient → Result (List Cut) EditCode → Type 0
+PlacesAs text name x y o outcome = (design : List Record) × (read_def text ≡ Ok design) × (place_cuts text x y o (component_at name (located text design)) ≡ outcome)
+
+-- the splice is its one cut, or it is refused so; refused memory says nothing
+abbrev pub PlacesSplice : {A : Type 0} → List ℕ → List ℕ → ℤ → ℤ → Orient → Result (Splice A) EditRefusal → Type 0
+PlacesSplice text name x y o (Ok s) = PlacesAs text name x y o (Ok (cut_view s ∷ []))
+PlacesSplice text name x y o (Err (Refused code)) = PlacesAs text name x y o (Err code)
+PlacesSplice text name x y o (Err (Unreadable fault)) = ⊥
+PlacesSplice text name x y o (Err Memory) = Unit {0}
+
+-- the splices are the cuts of an edit of a text that reads, or the edit is refused so; refused memory says nothing
+abbrev pub MakesSplices : {A : Type 0} → Library → List ℕ → Change → Result (List (Splice A)) EditRefusal → Type 0
+MakesSplices library text change (Ok ss) = Makes library text change (Ok (map cut_view ss))
+MakesSplices library text change (Err (Refused code)) = Makes library text change (Err code)
+MakesSplices library text change (Err (Unreadable fault)) = ⊥
+MakesSplices library text change (Err Memory) = Unit {0}

@@ -1,45 +1,73 @@
 //! The splice that places a component.
 
-ghost use Rattle.std.specs.Prelude.{◌≡◌, ◌≤◌, [], ◌∷◌, length, IfOk, IfSome};
-ghost use Rattle.design_model.specs.Edits.{entry_of, is_long, is_out, place_by, place_cuts, placed_text, with_cuts};
-ghost use Rattle.design_model.specs.Located.{formed_at};
-ghost use Rattle.design_model.specs.Splices.{cut_view};
+ghost use Rattle.std.specs.Prelude.{◌≡◌, ◌≤◌, ◌<◌, [], ◌∷◌, length, IfOk, IfSome, IsOk, Some};
+ghost use Rattle.std.specs.Option.{option_map};
 ghost use Rattle.design_model.specs.declared.TheConstants.{MAX_TEXT};
-ghost use Rattle.design_model.specs.declared.mode.Mode.TheVariants.{Top};
-ghost use Rattle.lefdef_tokens.specs.Views.{pieces_of};
-ghost use Rattle.def_splice.specs.SpliceViews.{run_seen, SplicesAs};
+ghost use Rattle.statement_model.specs.Cuts.{with_cuts};
+ghost use Rattle.def_grammar.specs.Placing.{is_held};
+ghost use Rattle.def_grammar.specs.Records.{read_def};
+ghost use Rattle.design_rules.specs.Edits.{is_long, is_out};
+ghost use Rattle.lefdef_tokens.specs.Views.{pieces_of, words_of};
+ghost use Rattle.def_reader.specs.ComponentViews.{clause_view};
+ghost use Rattle.def_splice.specs.SpliceViews.{clause_cut, cut_view, Moves, PlacesSplice};
 
-use crate::entry::component_named;
 use crate::put::{placed_text, put_at};
-use crate::runs::{bytes_of, entry_end, is_held, placing_run};
+use def_reader::components::Clause;
+use def_reader::records::component_named;
 use design_model::MAX_TEXT;
 use design_model::edit::{EditCode, EditRefusal, Splice};
-use design_model::geometry::Orient;
+use design_model::geometry::{Orient, Status};
 use lefdef_tokens::TokenRun;
 use std::alloc::{AllocError, Allocator};
 
-/// The splice that puts a clause in the place of the one that places a component, or at the end of its entry.
-fn place_by<A: Allocator>(
+/// Whether the clause that places a component holds it where it is.
+fn is_held(clause: &Clause<'_>) -> bool
+    ensures { result ≡ is_held (Some (clause_view clause.now)) }
+{
+    match clause {
+        Clause::Placed(placement) => placement.status != Status::Placed,
+        _ => false,
+    }
+}
+
+/// The tokens of the clause that places a component, unless that holds it where it is.
+fn movable<'t>(
+    placing: Option<(Clause<'t>, TokenRun<'t>)>,
+) -> Result<Option<TokenRun<'t>>, EditRefusal>
+    ensures { Moves clause_view placing.entry result }
+{
+    match placing {
+        Some((clause, tokens)) => {
+            if is_held(&clause) {
+                return Err(EditRefusal::Refused(EditCode::Fixed));
+            }
+            Ok(Some(tokens))
+        }
+        None => Ok(None),
+    }
+}
+
+/// The splice that puts a clause in the place of these tokens, from the first to the last, or at the end of an entry.
+fn clause_splice<'t, A: Allocator>(
     alloc: A,
-    text: &[u8],
-    entry: TokenRun<'_>,
-    run: Option<TokenRun<'_>>,
+    entry: TokenRun<'t>,
+    clause: Option<TokenRun<'t>>,
     put: &[u8],
 ) -> Result<Splice<A>, AllocError>
-    requires entry { entry.text.now ≡ text.now }
-    requires run { IfSome run (λ r. r.text.now ≡ text.now) }
-    ensures gives { IfOk result (λ s. cut_view s ≡ place_by text.now (pieces_of entry.entry) (run_seen run.entry) put.now) }
+    requires some { 0 < length (words_of entry) }
+    requires same { IfSome clause (λ run. run.text.now ≡ entry.text.now) }
+    ensures gives { IfOk result (λ s. cut_view s ≡ clause_cut entry.entry.text.now (pieces_of entry.entry) (option_map pieces_of clause.entry) put.now) }
     ensures order { IfOk result (λ s. s.lo ≤ s.hi) }
-    ensures within { IfOk result (λ s. s.hi ≤ length text.now) }
+    ensures within { IfOk result (λ s. s.hi ≤ length entry.entry.text.now) }
 {
-    match run {
-        None => {
-            let end = entry_end(entry);
-            put_at(alloc, text, end, end, b" + ", put)
+    match clause {
+        Some(tokens) => {
+            let span = tokens.span();
+            put_at(alloc, entry.text, span.lo, span.hi, b"", put)
         }
-        Some(run) => {
-            let (lo, hi) = bytes_of(run);
-            put_at(alloc, text, lo, hi, b"", put)
+        None => {
+            let end = entry.front(entry.len() - 1).span().hi;
+            put_at(alloc, entry.text, end, end, b" + ", put)
         }
     }
 }
@@ -72,23 +100,21 @@ pub fn place_splice<A: Allocator + Copy>(
     y: i64,
     orient: Orient,
 ) -> Result<Splice<A>, EditRefusal>
-    requires { length text.now ≤ MAX_TEXT }
-    ensures gives { SplicesAs (place_cuts text.now (entry_of component.now (formed_at Top text.now 0)) x y orient) result }
+    requires fits { length text.now ≤ MAX_TEXT }
+    requires reads { IsOk (read_def text.now) }
+    ensures places { PlacesSplice text.now component.now x y orient result }
     ensures order { IfOk result (λ s. s.lo ≤ s.hi) }
     ensures within { IfOk result (λ s. s.hi ≤ length text.now) }
 {
-    let Some(entry) = component_named(text, component) else {
+    let Some((parts, tokens)) = component_named(text, component) else {
         return Err(EditRefusal::Refused(EditCode::UnknownName));
     };
-    let run = placing_run(entry);
-    if is_held(run) {
-        return Err(EditRefusal::Refused(EditCode::Fixed));
-    }
+    let clause = movable(parts.placing_tokens(tokens))?;
     if is_out(x) || is_out(y) {
         return Err(EditRefusal::Refused(EditCode::Number));
     }
     let put = placed_text(alloc, x, y, orient)?;
-    let splice = place_by(alloc, text, entry, run, &put)?;
+    let splice = clause_splice(alloc, tokens, clause, &put)?;
     if is_long(text, &splice) {
         return Err(EditRefusal::Refused(EditCode::TooLong));
     }

@@ -1,8 +1,9 @@
 //! The bytes of a clause that places a component.
 
 ghost use Rattle.std.specs.Prelude.{◌≡◌, ◌≤◌, ◌++◌, drop, length, IfOk};
-ghost use Rattle.design_model.specs.Edits.{orient_word, placed_text, put_at, space_before};
-ghost use Rattle.design_model.specs.Splices.{cut_view};
+ghost use Rattle.statement_model.specs.Cuts.{put_at, space_before};
+ghost use Rattle.design_rules.specs.Edits.{placed_text};
+ghost use Rattle.def_splice.specs.SpliceViews.{cut_view};
 
 use design_model::edit::Splice;
 use design_model::geometry::Orient;
@@ -10,22 +11,6 @@ use design_model::sequence::Sequence;
 use itoa::Buffer;
 use std::alloc::{AllocError, Allocator};
 use unit_numbers::print;
-
-/// The name of an orientation.
-pub fn orient_word(orient: Orient) -> &'static [u8]
-    ensures { result.now ≡ orient_word orient }
-{
-    match orient {
-        Orient::N => b"N",
-        Orient::W => b"W",
-        Orient::S => b"S",
-        Orient::E => b"E",
-        Orient::FN => b"FN",
-        Orient::FS => b"FS",
-        Orient::FW => b"FW",
-        Orient::FE => b"FE",
-    }
-}
 
 /// `PLACED ( x y ) orient`.
 pub fn placed_text<A: Allocator>(
@@ -42,7 +27,7 @@ pub fn placed_text<A: Allocator>(
     put.push(b' ')?;
     put.extend_from_slice(print(y, &mut buffer).as_bytes())?;
     put.extend_from_slice(b" ) ")?;
-    put.extend_from_slice(orient_word(orient))?;
+    put.extend_from_slice(orient.word())?;
     Ok(put)
 }
 
@@ -58,7 +43,7 @@ fn space_before(text: &[u8], at: usize) -> &'static [u8]
     }
 }
 
-/// The splice that puts bytes behind a lead in the place of those from `lo` up to `hi`, and a space behind them where
+/// The splice that puts a lead and then bytes in the place of those from `lo` up to `hi`, and a space after them where
 /// they would be glued to what follows.
 pub fn put_at<A: Allocator>(
     alloc: A,

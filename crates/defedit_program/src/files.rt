@@ -1,8 +1,8 @@
 //! Files, read whole and written whole.
 
+use counted_devices::counted::Counted;
+use counted_devices::input::{InputError, read_up_to};
 use design_model::MAX_TEXT;
-use design_model::counted::Counted;
-use design_model::input::{InputError, read_up_to};
 use edit_script::run::MAX_TURNS;
 use std::alloc::Global;
 use std::fs;

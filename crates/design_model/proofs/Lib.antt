@@ -1,17 +1,3 @@
 pub mod CaseLemmas
-pub mod EditRows
-pub mod Folds
-pub mod Forms
-pub mod KnownSteps
-pub mod ReadRecords
-pub mod Reading
-pub mod Rows
 pub mod SortUnique
 pub mod Sorting
-pub mod Spelled
-pub mod StatementEnds
-pub mod StatementParts
-pub mod Statements
-pub mod TextRows
-pub mod WordEnds
-pub mod WordLaws

@@ -4,9 +4,9 @@ use Rattle.design_model.specs.declared.fault.FaultCode.{FaultCode}
 use Rattle.design_model.specs.declared.fault.FaultCode.TheVariants.{RefusedByte, OpenString, TooLong, NoForm, Unfinished, Number, NameTaken, Repeated, NoUnits}
 use Rattle.design_model.specs.declared.edit.EditCode.{EditCode}
 use Rattle.design_model.specs.declared.edit.EditCode.TheVariants as edits
-use Rattle.design_model.specs.declared.edit.EditCode.TheVariants.{UnknownName, Fixed, Range, Memory}
+use Rattle.design_model.specs.declared.edit.EditCode.TheVariants.{UnknownName, Fixed, Range}
 use Rattle.design_model.specs.declared.edit.EditRefusal.{EditRefusal}
-use Rattle.design_model.specs.declared.edit.EditRefusal.TheVariants.{Refused, Unreadable}
+use Rattle.design_model.specs.declared.edit.EditRefusal.TheVariants.{Refused, Unreadable, Memory}
 
 -- what stands behind F
 abbrev pub fault_number : FaultCode → ℕ
@@ -27,8 +27,8 @@ edit_number Fixed = 2
 edit_number edits.Number = 5
 edit_number Range = 9
 edit_number edits.TooLong = 11
-edit_number Memory = 14
 
 abbrev pub refusal_number : EditRefusal → ℕ
 refusal_number (Refused code) = edit_number code
 refusal_number (Unreadable fault) = 10
+refusal_number Memory = 14

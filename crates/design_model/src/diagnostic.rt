@@ -1,6 +1,7 @@
 //! Lines of a report on a design.
 
 ghost use Rattle.std.specs.Prelude.{◌≡◌};
+ghost use Rattle.design_model.specs.Lines.{kind_word};
 ghost use Rattle.design_model.specs.Order.{texts, sorted_by_bytes};
 
 use crate::sequence::{Bytes, Sequence};
@@ -13,6 +14,18 @@ pub enum DiagKind {
     Count,
     /// Two components lie on one another.
     Overlap,
+}
+
+impl DiagKind {
+    /// The word that its lines begin with.
+    pub fn word(self) -> &'static [u8]
+        ensures { result.now ≡ kind_word self }
+    {
+        match self {
+            DiagKind::Count => b"count",
+            DiagKind::Overlap => b"overlap",
+        }
+    }
 }
 
 /// A report, with the names that it borrows and its numbers in database units.

@@ -2,8 +2,7 @@
 
 ghost use Rattle.std.specs.Prelude.{◌≡◌};
 ghost use Rattle.design_model.specs.Codes.{edit_number, refusal_number};
-ghost use Rattle.design_model.specs.declared.edit.EditCode.TheVariants.{Memory};
-ghost use Rattle.design_model.specs.declared.edit.EditRefusal.TheVariants.{Refused};
+ghost use Rattle.design_model.specs.declared.edit.EditRefusal.TheVariants.{Memory};
 
 use crate::fault::Fault;
 use crate::geometry::Orient;
@@ -35,8 +34,6 @@ pub enum EditCode {
     Range,
     /// A new text of more than `MAX_TEXT` bytes.
     TooLong,
-    /// Memory was refused.
-    Memory,
 }
 
 impl EditCode {
@@ -50,7 +47,6 @@ impl EditCode {
             EditCode::Number => 5,
             EditCode::Range => 9,
             EditCode::TooLong => 11,
-            EditCode::Memory => 14,
         }
     }
 }
@@ -61,6 +57,8 @@ pub enum EditRefusal {
     Refused(EditCode),
     /// The new text would not read.
     Unreadable(Fault),
+    /// Memory was refused.
+    Memory,
 }
 
 impl EditRefusal {
@@ -71,23 +69,24 @@ impl EditRefusal {
         match self {
             EditRefusal::Refused(code) => code.number(),
             EditRefusal::Unreadable(_) => 10,
+            EditRefusal::Memory => 14,
         }
     }
 }
 
 impl From<AllocError> for EditRefusal {
-    ghost from_gives = { λ _ e. e ≡ Refused Memory };
+    ghost from_gives = { λ _ e. e ≡ Memory };
 
     fn from(_error: AllocError) -> EditRefusal {
-        EditRefusal::Refused(EditCode::Memory)
+        EditRefusal::Memory
     }
 }
 
 impl<T: Drop> From<AllocFailed<T>> for EditRefusal {
-    ghost from_gives = { λ _ e. e ≡ Refused Memory };
+    ghost from_gives = { λ _ e. e ≡ Memory };
 
     fn from(_error: AllocFailed<T>) -> EditRefusal {
-        EditRefusal::Refused(EditCode::Memory)
+        EditRefusal::Memory
     }
 }
 

@@ -1,7 +1,10 @@
 //! Why a text does not read, and where.
 
 ghost use Rattle.std.specs.Prelude.{◌≡◌};
+ghost use Rattle.design_model.specs.declared.fault.ReadError.TheVariants.{Fault as OfFault, Memory};
 ghost use Rattle.design_model.specs.Codes.{fault_number};
+
+use std::alloc::{AllocError, AllocFailed};
 
 /// The kinds of fault of a text, in the order of their numbers.
 #[derive(Clone, Copy, Debug, PartialEq, Eq)]
@@ -50,4 +53,36 @@ impl FaultCode {
 pub struct Fault {
     pub code: FaultCode,
     pub pos: usize,
+}
+
+/// Why a text is not read.
+#[derive(Clone, Copy, Debug, PartialEq, Eq)]
+pub enum ReadError {
+    Fault(Fault),
+    /// Memory was refused.
+    Memory,
+}
+
+impl From<Fault> for ReadError {
+    ghost from_gives = { λ fault e. e ≡ OfFault fault };
+
+    fn from(fault: Fault) -> ReadError {
+        ReadError::Fault(fault)
+    }
+}
+
+impl From<AllocError> for ReadError {
+    ghost from_gives = { λ _ e. e ≡ Memory };
+
+    fn from(_error: AllocError) -> ReadError {
+        ReadError::Memory
+    }
+}
+
+impl<T: Drop> From<AllocFailed<T>> for ReadError {
+    ghost from_gives = { λ _ e. e ≡ Memory };
+
+    fn from(_error: AllocFailed<T>) -> ReadError {
+        ReadError::Memory
+    }
 }

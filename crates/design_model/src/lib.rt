@@ -1,21 +1,22 @@
-//! The values of a chip design in LEF and DEF, their definitions, and the devices that a run reads and writes.
+//! The values of a chip design in LEF and DEF: points, orientations, sections with their words, faults, edits, lines of
+//! a report, and lists that contracts see as lists.
+//!
+//! Begin with `fault`, `edit` and `diagnostic`. `specs/EnumWords` has the words of enums, `specs/Units` and
+//! `specs/Geometry` what numbers and orientations mean, `specs/Codes` the numbers that faults and refusals are printed by,
+//! `specs/Order` the order of lines. What a text says is defined above, from `statement_model` on. What grows answers
+//! `AllocError`; nothing here is lent but by `as_slice`.
 #![tactic(auto)]
 
-pub mod counted;
 pub mod diagnostic;
 pub mod edit;
 pub mod fault;
 pub mod geometry;
 pub mod identifier;
-pub mod input;
-pub mod laws;
 pub mod mode;
 pub mod number;
-pub mod output;
 pub mod sequence;
-#[cfg(test)]
-mod tests;
 pub mod token_kind;
+pub mod word;
 
 /// How long a text may be, in bytes.
 pub const MAX_TEXT: usize = 1073741824;

@@ -1,6 +1,3 @@
-pub mod AnswerLemmas
 pub mod EndLemmas
-pub mod EscapeLemmas
-pub mod FeedLemmas
-pub mod LineLemmas
+pub mod EscapedLemmas
 pub mod OutputLemmas

@@ -6,27 +6,27 @@ use Rattle.std.specs.List.{slice_split}
 use Rattle.std.proofs.lemmas.Bool.Decides.{nat_tests}
 use Rattle.std.proofs.lemmas.List.Splits.{length-slice_split}
 use Rattle.std.proofs.lemmas.List.Sums.{count_by-le-length}
-use Rattle.design_model.specs.Known.{WritesPart}
-use Rattle.design_model.proofs.KnownSteps.{Appends-nil, Appends-trans}
+use Rattle.counted_devices.specs.Known.{WritesPart}
+use Rattle.std.proofs.KnownBytes.{Appends-nil, Appends-trans}
 use Rattle.design_model.specs.declared.fault.Fault.{Fault}
 use Rattle.design_model.specs.declared.edit.Done.{Done}
-use Rattle.design_model.specs.declared.edit.EditCode.TheVariants.{Range, TooLong, Memory}
+use Rattle.design_model.specs.declared.edit.EditCode.TheVariants.{Range, TooLong}
 use Rattle.design_model.specs.declared.edit.EditRefusal.{EditRefusal}
-use Rattle.design_model.specs.declared.edit.EditRefusal.TheVariants.{Refused}
-use Rattle.design_model.specs.Edits.{is_long}
-use Rattle.design_model.specs.Library.{Macro}
-use Rattle.design_model.specs.Forms.{Record}
-use Rattle.design_model.specs.Reading.{read_text}
-use Rattle.design_model.specs.Diagnostics.{diagnostics}
-use Rattle.design_model.specs.Runs.{Step, design_edit, text_edit, Answers, new_text}
-use Rattle.design_model.specs.Output.{Order, nothing, make, refuse, check, bad, Counts, Gives, Output, order_of, reply_line, refusal_line, counted, report_lines, bad_line, no_lines, trimmed_lines, script_lines}
+use Rattle.design_model.specs.declared.edit.EditRefusal.TheVariants.{Refused, Memory}
+use Rattle.design_rules.specs.Edits.{is_long}
+use Rattle.lef_grammar.specs.Library.{Library}
+use Rattle.def_grammar.specs.Records.{Record}
+use Rattle.def_grammar.specs.Records.{read_def}
+use Rattle.design_rules.specs.Runs.{Step, design_edit, text_edit, Answers, new_text}
+use Rattle.design_rules.specs.Script.{Question, Order, nothing, make, refuse, ask, bad, order_of, trimmed_lines, script_lines}
+use Rattle.design_rules.specs.Output.{Counts, LineAnswers, Output, reply_line, refusal_line, counted, answer_to, bad_line, no_lines}
 use Rattle.edit_script.specs.Ends.{WritesRun, WritesRunPart}
 
 abbrev Lines : Type 0
 Lines = List (List ℕ)
 
 -- the output of some lines and then of others
-pub Output-append : (library : List Macro) (n : ℕ) (xs ys : Lines) (old : List ℕ) (t : Counts) (a mid : List ℕ) (v : Counts) (b new : List ℕ) (u : Counts)
+pub Output-append : (library : Library) (n : ℕ) (xs ys : Lines) (old : List ℕ) (t : Counts) (a mid : List ℕ) (v : Counts) (b new : List ℕ) (u : Counts)
     → Output library n xs old t a mid v → Output library (n + length xs) ys mid v b new u → Output library n (xs ++ ys) old t (a ++ b) new u
 Output-append library n [] ys old t a mid v b new u p q =
     let start : Output library n ys mid v b new u = subst (λ (k : ℕ). Output library k ys mid v b new u) (omega arith) q in
@@ -37,7 +37,7 @@ Output-append library n (x ∷ xs) ys old t a mid v b new u (first, rest, m, w, 
     let next : Output library ((n + 1) + length xs) ys mid v b new u = subst (λ (k : ℕ). Output library k ys mid v b new u) (omega arith) q in
     (first, rest ++ b, m, w, ap (λ l. l ++ b) joined ∙ append_assoc first rest b, gives, Output-append library (n + 1) xs ys m w rest mid v b new u later next)
 
-Output-one : (library : List Macro) (n : ℕ) (line old : List ℕ) (t : Counts) (a new : List ℕ) (u : Counts) → Gives library n (order_of line) old t a new u → Output library n (line ∷ []) old t a new u
+Output-one : (library : Library) (n : ℕ) (line old : List ℕ) (t : Counts) (a new : List ℕ) (u : Counts) → LineAnswers library n (order_of line) old t a new u → Output library n (line ∷ []) old t a new u
 Output-one library n line old t a new u g = (a, [], new, u, sym (append-nil a), g, (refl, refl, refl))
 
 is_le : (a b : ℕ) → nat_le a b ≡ true → a ≤ b
@@ -47,16 +47,16 @@ never : false ≡ true → ⊥
 never e = cc
 
 -- some answer to any edit, that leaves the text as it was
-some_answer : (text : List ℕ) (step : Step) → (reply : Result Done EditRefusal) × Answers text step reply text
-some_answer text (design_edit change) = (Err (Refused Memory), refl)
-some_answer text (text_edit a b put) =
-    elim (nat_le a b) as (λ r. nat_le a b ≡ r → (reply : Result Done EditRefusal) × Answers text (text_edit a b put) reply text) [
+some_answer : (library : Library) (text : List ℕ) (step : Step) → (reply : Result Done EditRefusal) × Answers library text step reply text
+some_answer library text (design_edit change) = (Err Memory, refl)
+some_answer library text (text_edit a b put) =
+    elim (nat_le a b) as (λ r. nat_le a b ≡ r → (reply : Result Done EditRefusal) × Answers library text (text_edit a b put) reply text) [
       | false ↦ λ d. (Err (Refused Range), (refl, rw d refl))
-      | true ↦ λ d. elim (nat_le b (length text)) as (λ r. nat_le b (length text) ≡ r → (reply : Result Done EditRefusal) × Answers text (text_edit a b put) reply text) [
+      | true ↦ λ d. elim (nat_le b (length text)) as (λ r. nat_le b (length text) ≡ r → (reply : Result Done EditRefusal) × Answers library text (text_edit a b put) reply text) [
         | false ↦ λ e. (Err (Refused Range), (refl, rw (d, e) refl))
-        | true ↦ λ e. elim (is_long (new_text text a b put)) as (λ r. is_long (new_text text a b put) ≡ r → (reply : Result Done EditRefusal) × Answers text (text_edit a b put) reply text) [
+        | true ↦ λ e. elim (is_long (new_text text a b put)) as (λ r. is_long (new_text text a b put) ≡ r → (reply : Result Done EditRefusal) × Answers library text (text_edit a b put) reply text) [
           | true ↦ λ f. (Err (Refused TooLong), (refl, rw (d, e, f) refl))
-          | false ↦ λ f. (Err (Refused Memory), (refl, is_le a b d, is_le b (length text) e, f))
+          | false ↦ λ f. (Err Memory, (refl, is_le a b d, is_le b (length text) e, f))
         ] refl
       ] refl
     ] refl
@@ -65,27 +65,27 @@ some_design : (r : Result (List Record) Fault) → IsOk r → (design : List Rec
 some_design (Ok design) reads = (design, refl)
 some_design (Err fault) reads = absurd (never reads)
 
-some_gives : (library : List Macro) (n : ℕ) (order : Order) (old : List ℕ) (t : Counts) → IsOk (read_text old) → (bytes : List ℕ) × (u : Counts) × Gives library n order old t bytes old u
-some_gives library n nothing old t reads = ([], t, (refl, refl, refl))
-some_gives library n (make step) old t reads =
-    let (reply, answer) = some_answer old step in
+some_line : (library : Library) (n : ℕ) (order : Order) (old : List ℕ) (t : Counts) → IsOk (read_def old) → (bytes : List ℕ) × (u : Counts) × LineAnswers library n order old t bytes old u
+some_line library n nothing old t reads = ([], t, (refl, refl, refl))
+some_line library n (make step) old t reads =
+    let (reply, answer) = some_answer library old step in
     (reply_line n reply, counted reply t, (reply, answer, refl, refl))
-some_gives library n (refuse code) old t reads = (refusal_line n (Refused code), record t { refused = t.refused + 1 }, (refl, refl, refl))
-some_gives library n check old t reads =
-    let (design, is) = some_design (read_text old) reads in
-    (report_lines (diagnostics library design), t, (design, is, refl, refl, refl))
-some_gives library n bad old t reads = (bad_line n, record t { bad = t.bad + 1 }, (refl, refl, refl))
+some_line library n (refuse code) old t reads = (refusal_line n (Refused code), record t { refused = t.refused + 1 }, (refl, refl, refl))
+some_line library n (ask question) old t reads =
+    let (design, is) = some_design (read_def old) reads in
+    (answer_to library design question, t, (design, is, refl, refl, refl))
+some_line library n bad old t reads = (bad_line n, record t { bad = t.bad + 1 }, (refl, refl, refl))
 
 -- there is an output of any lines, over a text that reads
-pub some_output : (library : List Macro) (n : ℕ) (lines : Lines) (old : List ℕ) (t : Counts) → IsOk (read_text old) → (bytes new : List ℕ) × (u : Counts) × Output library n lines old t bytes new u
+pub some_output : (library : Library) (n : ℕ) (lines : Lines) (old : List ℕ) (t : Counts) → IsOk (read_def old) → (bytes new : List ℕ) × (u : Counts) × Output library n lines old t bytes new u
 some_output library n [] old t reads = ([], old, t, (refl, refl, refl))
 some_output library n (line ∷ lines) old t reads =
-    let (a, v, g) = some_gives library n (order_of line) old t reads in
+    let (a, v, g) = some_line library n (order_of line) old t reads in
     let (b, new, u, o) = some_output library (n + 1) lines old v reads in
     (a ++ b, new, u, (a, b, old, v, refl, g, o))
 
 -- the lines that were answered and the rest, how many they are, and what was written of them
-pub record Answered (library : List Macro) (text script : List ℕ) (number : ℕ) (left : Lines) (o o' : Option (List ℕ)) (now : List ℕ) (counts : Counts) : Type 0 where
+pub record Answered (library : Library) (text script : List ℕ) (number : ℕ) (left : Lines) (o o' : Option (List ℕ)) (now : List ℕ) (counts : Counts) : Type 0 where
   pub done : Lines
   pub bytes : List ℕ
   pub lines : script_lines script ≡ done ++ left
@@ -93,23 +93,23 @@ pub record Answered (library : List Macro) (text script : List ℕ) (number : �
   pub output : Output library 1 done text no_lines bytes now counts
   pub written : Appends o o' bytes
 
-pub answered_start : (library : List Macro) (text script : List ℕ) (o : Option (List ℕ)) → Answered library text script 0 (script_lines script) o o text no_lines
+pub answered_start : (library : Library) (text script : List ℕ) (o : Option (List ℕ)) → Answered library text script 0 (script_lines script) o o text no_lines
 answered_start library text script o = record { done = []; bytes = []; lines = refl; count = refl; output = (refl, refl, refl); written = Appends-nil o }
 
-module _ (library now_library : List Macro) (text script : List ℕ) (number : ℕ) (left later : Lines) (line : List ℕ) (o a b : Option (List ℕ)) (old : List ℕ) (t : Counts) where
-  -- the next line's answer, behind those before it
-  next_output : (c : Answered library text script number left o a old t) (answer new : List ℕ) (u : Counts) → now_library ≡ library → Gives now_library (number + 1) (order_of line) old t answer new u
+module _ (library now_library : Library) (text script : List ℕ) (number : ℕ) (left later : Lines) (line : List ℕ) (o a b : Option (List ℕ)) (old : List ℕ) (t : Counts) where
+  -- the next line's answer, after those before it
+  next_output : (c : Answered library text script number left o a old t) (answer new : List ℕ) (u : Counts) → now_library ≡ library → LineAnswers now_library (number + 1) (order_of line) old t answer new u
       → Output library 1 (c.done ++ line ∷ []) text no_lines (c.bytes ++ answer) new u
   next_output c answer new u same g =
-      let at_library = subst (λ (l : List Macro). Gives l (number + 1) (order_of line) old t answer new u) same g in
-      let at_number = subst (λ (k : ℕ). Gives library k (order_of line) old t answer new u) (let e : number + 1 ≡ 1 + length c.done = omega (arith, c.count) in e) at_library in
+      let at_library = subst (λ (l : Library). LineAnswers l (number + 1) (order_of line) old t answer new u) same g in
+      let at_number = subst (λ (k : ℕ). LineAnswers library k (order_of line) old t answer new u) (let e : number + 1 ≡ 1 + length c.done = omega (arith, c.count) in e) at_library in
       Output-append library 1 c.done (line ∷ []) text no_lines c.bytes old t answer new u c.output (Output-one library (1 + length c.done) line old t answer new u at_number)
 
   next_lines : (c : Answered library text script number left o a old t) → left ≡ line ∷ later → script_lines script ≡ (c.done ++ line ∷ []) ++ later
   next_lines c e = c.lines ∙ ap (λ l. c.done ++ l) e ∙ sym (append_assoc c.done (line ∷ []) later)
 
   pub answered_more : Answered library text script number left o a old t → left ≡ line ∷ later → (answer new : List ℕ) (u : Counts) → now_library ≡ library
-      → Gives now_library (number + 1) (order_of line) old t answer new u → Appends a b answer → Answered library text script (number + 1) later o b new u
+      → LineAnswers now_library (number + 1) (order_of line) old t answer new u → Appends a b answer → Answered library text script (number + 1) later o b new u
   answered_more c e answer new u same g w = record {
     done = c.done ++ line ∷ [];
     bytes = c.bytes ++ answer;
@@ -120,7 +120,7 @@ module _ (library now_library : List Macro) (text script : List ℕ) (number : �
   }
 
 -- what was written of some first lines is the first part of an output of all
-part_of : (library : List Macro) (text script : List ℕ) (done left : Lines) (part rest now : List ℕ) (t : Counts) (o o' : Option (List ℕ)) → IsOk (read_text now) → script_lines script ≡ done ++ left
+part_of : (library : Library) (text script : List ℕ) (done left : Lines) (part rest now : List ℕ) (t : Counts) (o o' : Option (List ℕ)) → IsOk (read_def now) → script_lines script ≡ done ++ left
     → Output library 1 done text no_lines (part ++ rest) now t → Appends o o' part → WritesRunPart library text (script_lines script) o o'
 part_of library text script done left part rest now t o o' reads joined out w =
     let (more, new, u, later) = some_output library (1 + length done) left now t reads in
@@ -129,14 +129,14 @@ part_of library text script done left part rest now t o o' reads joined out w =
     (part, rest ++ more, new, u, subst (λ (b : List ℕ). Output library 1 (script_lines script) text no_lines b new u) (append_assoc part rest more) whole, w)
 
 -- the run stops before a line is answered
-pub answered_part : (library : List Macro) (text script : List ℕ) (number : ℕ) (left : Lines) (o o' : Option (List ℕ)) (now : List ℕ) (t : Counts) → IsOk (read_text now)
+pub answered_part : (library : Library) (text script : List ℕ) (number : ℕ) (left : Lines) (o o' : Option (List ℕ)) (now : List ℕ) (t : Counts) → IsOk (read_def now)
     → Answered library text script number left o o' now t → WritesRunPart library text (script_lines script) o o'
 answered_part library text script number left o o' now t reads c =
     part_of library text script c.done left c.bytes [] now t o o' reads c.lines (subst (λ (b : List ℕ). Output library 1 c.done text no_lines b now t) (sym (append-nil c.bytes)) c.output) c.written
 
 -- the run stops where an answer is written in part
-pub answered_cut : (library now_library : List Macro) (text script : List ℕ) (number : ℕ) (left later : Lines) (line : List ℕ) (o a b : Option (List ℕ)) (old : List ℕ) (t : Counts) (answer new : List ℕ) (u : Counts)
-    → Answered library text script number left o a old t → left ≡ line ∷ later → now_library ≡ library → Gives now_library (number + 1) (order_of line) old t answer new u → IsOk (read_text new)
+pub answered_cut : (library now_library : Library) (text script : List ℕ) (number : ℕ) (left later : Lines) (line : List ℕ) (o a b : Option (List ℕ)) (old : List ℕ) (t : Counts) (answer new : List ℕ) (u : Counts)
+    → Answered library text script number left o a old t → left ≡ line ∷ later → now_library ≡ library → LineAnswers now_library (number + 1) (order_of line) old t answer new u → IsOk (read_def new)
     → WritesPart a b answer → WritesRunPart library text (script_lines script) o b
 answered_cut library now_library text script number left later line o a b old t answer new u c e same g reads (done, rest, split, more) =
     part_of library text script (c.done ++ line ∷ []) later (c.bytes ++ done) rest new u o b reads (next_lines library now_library text script number left later line o a b old t c e)
@@ -145,7 +145,7 @@ answered_cut library now_library text script number left later line o a b old t 
     (Appends-trans o a b c.bytes done c.written more)
 
 -- all lines are answered
-pub answered_whole : (library : List Macro) (text script : List ℕ) (number : ℕ) (left : Lines) (o o' : Option (List ℕ)) (now : List ℕ) (t : Counts) → left ≡ []
+pub answered_whole : (library : Library) (text script : List ℕ) (number : ℕ) (left : Lines) (o o' : Option (List ℕ)) (now : List ℕ) (t : Counts) → left ≡ []
     → Answered library text script number left o o' now t → WritesRun library text (script_lines script) o o' now t
 answered_whole library text script number left o o' now t none c =
     (c.bytes, subst (λ (ls : Lines). Output library 1 ls text no_lines c.bytes now t) (sym (c.lines ∙ ap (λ l. c.done ++ l) none ∙ append-nil c.done)) c.output, c.written)

@@ -1,11 +1,12 @@
 -- What the answer to one line says.
-use Rattle.std.specs.Prelude.{◌≡◌, ◌≤◌, ◌<◌, ◌+◌, ◌^◌, ℕ, List, Option, Some, Result, Err, length}
+use Rattle.std.specs.Prelude.{◌≡◌, ◌≤◌, ◌<◌, ◌+◌, ◌^◌, ℕ, List, Option, Some, Result, Ok, Err, length}
 use Rattle.design_model.specs.declared.edit.Done.{Done}
-use Rattle.design_model.specs.declared.edit.EditCode.{EditCode}
 use Rattle.design_model.specs.declared.edit.EditRefusal.{EditRefusal}
-use Rattle.design_model.specs.declared.edit.EditRefusal.TheVariants.{Refused}
-use Rattle.design_model.specs.Runs.{Answers, text_edit}
-use Rattle.design_model.specs.Output.{Counts}
+use Rattle.design_rules.specs.Runs.{Answers, text_edit}
+use Rattle.lef_grammar.specs.Library.{Library}
+use Rattle.def_grammar.specs.Records.{Record, read_def}
+use Rattle.design_rules.specs.Script.{Question}
+use Rattle.design_rules.specs.Output.{Counts, answer_to}
 use Rattle.edit_script.specs.declared.run.Tally.{Tally}
 
 abbrev pub counts_of : Tally → Counts
@@ -24,9 +25,14 @@ pub record Grows (old new : Tally) : Type 0 where
   pub bad : new.bad ≤ old.bad + 1
 
 -- a text edit may be refused so, of any text and of any bytes of these lengths
-abbrev pub RefusesText : ℕ → ℕ → ℕ → ℕ → EditCode → Type 0
-RefusesText text_len a b put_len code = (old put : List ℕ) → length old ≡ text_len → length put ≡ put_len → Answers old (text_edit a b put) (Err (Refused code)) old
+abbrev pub RefusesText : ℕ → ℕ → ℕ → ℕ → EditRefusal → Type 0
+RefusesText text_len a b put_len refusal =
+    (library : Library) (old put : List ℕ) → length old ≡ text_len → length put ≡ put_len → Answers library old (text_edit a b put) (Err refusal) old
 
 -- a text edit may be answered so, where its bytes are written with good escapes
-abbrev pub AnswersText : List ℕ → ℕ → ℕ → Option (List ℕ) → Result Done EditRefusal → List ℕ → Type 0
-AnswersText old a b put reply new = (bytes : List ℕ) → put ≡ Some bytes → Answers old (text_edit a b bytes) reply new
+abbrev pub AnswersText : Library → List ℕ → ℕ → ℕ → Option (List ℕ) → Result Done EditRefusal → List ℕ → Type 0
+AnswersText library old a b put reply new = (bytes : List ℕ) → put ≡ Some bytes → Answers library old (text_edit a b bytes) reply new
+
+-- what a question is answered, of a text that reads
+abbrev pub Says : Library → List ℕ → Question → List ℕ → Type 0
+Says library text question bytes = (design : List Record) × (read_def text ≡ Ok design) × (bytes ≡ answer_to library design question)

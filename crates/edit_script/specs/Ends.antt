@@ -2,9 +2,9 @@
 -- before, `o'` and `d'` what they hold after, where that is known.
 use Rattle.std.specs.Prelude.{◌≡◌, ◌<◌, ◌⊎◌, ℕ, List, [], ◌++◌, Option, IfSome, Ok, Err, IsOk, length}
 use Rattle.std.specs.Io.KnownBytes.{Appends}
-use Rattle.design_model.specs.Library.{Macro, library_of}
-use Rattle.design_model.specs.Reading.{read_text}
-use Rattle.design_model.specs.Output.{Counts, Output, IsRun, no_lines}
+use Rattle.lef_grammar.specs.Library.{Library, library_of}
+use Rattle.def_grammar.specs.Records.{read_def}
+use Rattle.design_rules.specs.Output.{Counts, Output, IsRun, no_lines}
 use Rattle.edit_script.specs.declared.run.TheConstants.{MAX_SCRIPT}
 use Rattle.edit_script.specs.declared.run.RunFault.{RunFault}
 use Rattle.edit_script.specs.declared.run.RunFault.TheVariants.{Lef, Def, Memory, Read, Write, TooLong, Endless}
@@ -15,11 +15,11 @@ abbrev pub Known : Type 0
 Known = Option (List ℕ)
 
 -- what was written is an output of the lines, which leaves this text and these counts
-abbrev pub WritesRun : List Macro → List ℕ → List (List ℕ) → Known → Known → List ℕ → Counts → Type 0
+abbrev pub WritesRun : Library → List ℕ → List (List ℕ) → Known → Known → List ℕ → Counts → Type 0
 WritesRun library text lines o o' last counts = (bytes : List ℕ) × Output library 1 lines text no_lines bytes last counts × Appends o o' bytes
 
 -- what was written is the first part of an output of the lines
-abbrev pub WritesRunPart : List Macro → List ℕ → List (List ℕ) → Known → Known → Type 0
+abbrev pub WritesRunPart : Library → List ℕ → List (List ℕ) → Known → Known → Type 0
 WritesRunPart library text lines o o' = (part rest last : List ℕ) × (counts : Counts) × Output library 1 lines text no_lines (part ++ rest) last counts × Appends o o' part
 
 -- neither writer got a byte
@@ -28,41 +28,41 @@ pub record WritesNothing (o o' d d' : Known) : Type 0 where
   pub def_out : Appends d d' []
 
 -- the writers got an output of the script, and the text in the end
-abbrev pub AnswersWhole : List Macro → List ℕ → List ℕ → Known → Known → Known → Known → Counts → Type 0
+abbrev pub AnswersWhole : Library → List ℕ → List ℕ → Known → Known → Known → Known → Counts → Type 0
 AnswersWhole library text script o o' d d' counts = (bytes last : List ℕ) × IsRun library text script bytes last counts × Appends o o' bytes × Appends d d' last
 
 -- the first part of an output was written, and no text
-abbrev pub AnswersSome : List Macro → List ℕ → List ℕ → Known → Known → Known → Known → Type 0
+abbrev pub AnswersSome : Library → List ℕ → List ℕ → Known → Known → Known → Known → Type 0
 AnswersSome library text script o o' d d' = (part rest last : List ℕ) × (counts : Counts) × IsRun library text script (part ++ rest) last counts × Appends o o' part × Appends d d' []
 
--- what the two writers got, one after the other, is the first part of what they were to get: the text only behind all
+-- what the two writers got, one after the other, is the first part of what they were to get: the text only after all
 -- the answers
-abbrev pub AnswersCut : List Macro → List ℕ → List ℕ → Known → Known → Known → Known → Type 0
+abbrev pub AnswersCut : Library → List ℕ → List ℕ → Known → Known → Known → Known → Type 0
 AnswersCut library text script o o' d d' =
     (one two rest bytes last : List ℕ) × (counts : Counts) × IsRun library text script bytes last counts × (bytes ++ last ≡ (one ++ two) ++ rest) × ((two ≡ []) ⊎ (one ≡ bytes)) × Appends o o' one × Appends d d' two
 
 -- the answers stop for want of memory, or since a writer failed
-abbrev pub AnswersPart : List Macro → List ℕ → List ℕ → Known → Known → Known → Known → Stop → Type 0
+abbrev pub AnswersPart : Library → List ℕ → List ℕ → Known → Known → Known → Known → Stop → Type 0
 AnswersPart library text script o o' d d' stop.Memory = AnswersSome library text script o o' d d'
 AnswersPart library text script o o' d d' stop.Write = AnswersCut library text script o o' d d'
 
 -- the LEF texts give this library, the DEF text reads, and the script has these bytes
-pub record HasRead (lefs : List (List ℕ)) (def : List ℕ) (input : Known) (library : List Macro) (script : List ℕ) : Type 0 where
+pub record HasRead (lefs : List (List ℕ)) (def : List ℕ) (input : Known) (library : Library) (script : List ℕ) : Type 0 where
   pub lefs_read : library_of lefs ≡ Ok library
-  pub def_reads : IsOk (read_text def)
+  pub def_reads : IsOk (read_def def)
   pub script_is : IfSome input (λ xs. xs ≡ script)
 
 -- a run to its end: the writers got an output of the script over the library and the text, and nothing else
 abbrev pub RunsWhole : List (List ℕ) → List ℕ → Known → Known → Known → Known → Known → Counts → Type 0
-RunsWhole lefs def input o o' d d' counts = (library : List Macro) × (script : List ℕ) × HasRead lefs def input library script × AnswersWhole library def script o o' d d' counts
+RunsWhole lefs def input o o' d d' counts = (library : Library) × (script : List ℕ) × HasRead lefs def input library script × AnswersWhole library def script o o' d d' counts
 
 -- a run that stops: by the first LEF text with a fault, by the fault of the DEF text, by what it read of the script,
 -- each before a byte was written; or later, for want of memory or since a writer failed
 abbrev pub StopsBy : List (List ℕ) → List ℕ → Known → Known → Known → Known → Known → RunFault → Type 0
 StopsBy lefs def input o o' d d' (Lef file fault) = (library_of lefs ≡ Err (record { file = file; fault = fault })) × WritesNothing o o' d d'
-StopsBy lefs def input o o' d d' (Def fault) = IsOk (library_of lefs) × (read_text def ≡ Err fault) × WritesNothing o o' d d'
-StopsBy lefs def input o o' d d' TooLong = IsOk (library_of lefs) × IsOk (read_text def) × IfSome input (λ xs. MAX_SCRIPT < length xs) × WritesNothing o o' d d'
-StopsBy lefs def input o o' d d' Read = IsOk (library_of lefs) × IsOk (read_text def) × WritesNothing o o' d d'
-StopsBy lefs def input o o' d d' Endless = IsOk (library_of lefs) × IsOk (read_text def) × WritesNothing o o' d d'
-StopsBy lefs def input o o' d d' Memory = WritesNothing o o' d d' ⊎ ((library : List Macro) × (script : List ℕ) × HasRead lefs def input library script × AnswersSome library def script o o' d d')
-StopsBy lefs def input o o' d d' Write = (library : List Macro) × (script : List ℕ) × HasRead lefs def input library script × AnswersCut library def script o o' d d'
+StopsBy lefs def input o o' d d' (Def fault) = IsOk (library_of lefs) × (read_def def ≡ Err fault) × WritesNothing o o' d d'
+StopsBy lefs def input o o' d d' TooLong = IsOk (library_of lefs) × IsOk (read_def def) × IfSome input (λ xs. MAX_SCRIPT < length xs) × WritesNothing o o' d d'
+StopsBy lefs def input o o' d d' Read = IsOk (library_of lefs) × IsOk (read_def def) × WritesNothing o o' d d'
+StopsBy lefs def input o o' d d' Endless = IsOk (library_of lefs) × IsOk (read_def def) × WritesNothing o o' d d'
+StopsBy lefs def input o o' d d' Memory = WritesNothing o o' d d' ⊎ ((library : Library) × (script : List ℕ) × HasRead lefs def input library script × AnswersSome library def script o o' d d')
+StopsBy lefs def input o o' d d' Write = (library : Library) × (script : List ℕ) × HasRead lefs def input library script × AnswersCut library def script o o' d d'

@@ -1,5 +1,2 @@
 pub mod Answered
 pub mod Ends
-pub mod Escapes
-pub mod Orders
-pub mod Parts

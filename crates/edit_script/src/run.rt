@@ -1,24 +1,26 @@
 //! A script's run over a library and a design.
 
 ghost use Rattle.std.specs.Prelude.{◌≡◌, ◌<◌, ◌^◌, ◌⊎◌, IfErr, IfOk, IsErrOf, IsOk, OnErr, length};
-ghost use Rattle.design_model.specs.Output.{Gives, counted, order_of, reply_line, script_lines, unescaped};
-ghost use Rattle.design_model.specs.Reading.{read_text};
-ghost use Rattle.edit_script.specs.Answered.{AnswersText, Grows, HasRoom, RefusesText, counts_of};
+ghost use Rattle.design_rules.specs.Output.{LineAnswers, counted, reply_line};
+ghost use Rattle.design_rules.specs.Script.{order_of, script_lines, unescaped};
+ghost use Rattle.def_grammar.specs.Records.{read_def};
+ghost use Rattle.edit_script.specs.Answered.{AnswersText, Grows, HasRoom, RefusesText, Says, counts_of};
+ghost use Rattle.script_lines.specs.Orders.{question_seen};
 ghost use Rattle.edit_script.specs.Ends.{AnswersPart, AnswersWhole, RunsWhole, StopsBy, WritesRun, WritesRunPart};
 
-use crate::answer::{bad_text, check_text, reply_text};
-use crate::command::{Command, parse};
-use crate::escape::{EscapedBytes, unescaped};
-use crate::line::next_line;
 use cell_library::lef_texts::LefTexts;
 use cell_library::library::{Library, LibraryError};
+use counted_devices::counted::{CountedRead, CountedWrite, Failures};
+use counted_devices::input::{InputError, read_whole};
+use counted_devices::output::{MAX_INTERRUPTIONS, write_whole};
 use design_model::MAX_TEXT;
-use design_model::counted::{CountedRead, CountedWrite, Failures};
 use design_model::edit::{Done, EditCode, EditRefusal};
-use design_model::fault::Fault;
-use design_model::input::{InputError, read_whole};
-use design_model::output::{MAX_INTERRUPTIONS, write_whole};
-use edit_session::session::{OpenError, Session};
+use design_model::fault::{Fault, ReadError};
+use edit_session::session::Session;
+use script_lines::answer::{bad_text, check_text, reply_text};
+use script_lines::command::{Command, Question, parse};
+use script_lines::escape::{EscapedBytes, unescaped};
+use script_lines::line::next_line;
 use std::alloc::{AllocError, Allocator};
 use std::io::{Read, Write};
 
@@ -62,18 +64,18 @@ enum Stop {
     Write,
 }
 
-/// Why a text edit is refused where there is no memory for its bytes: that comes behind its range and its length.
-fn refused_text(text_len: usize, a: usize, b: usize, put_len: usize) -> EditCode
+/// Why a text edit is refused where there is no memory for its bytes: that comes after its range and its length.
+fn refused_text(text_len: usize, a: usize, b: usize, put_len: usize) -> EditRefusal
     ensures { RefusesText text_len a b put_len result }
 {
     if a > b || b > text_len {
-        return EditCode::Range;
+        return EditRefusal::Refused(EditCode::Range);
     }
     let kept = text_len - (b - a);
     if kept > MAX_TEXT || put_len > MAX_TEXT - kept {
-        return EditCode::TooLong;
+        return EditRefusal::Refused(EditCode::TooLong);
     }
-    EditCode::Memory
+    EditRefusal::Memory
 }
 
 /// Puts bytes that are written with escapes.
@@ -84,17 +86,14 @@ fn put_text<A: Allocator + Copy>(
     b: usize,
     new: EscapedBytes<'_>,
 ) -> Result<Done, EditRefusal>
-    requires { IsOk (read_text session.old.text) }
-    ensures answer { AnswersText session.old.text a b (unescaped new.entry.raw.now) result session.new.text }
+    requires { IsOk (read_def session.old.text) }
+    ensures answer { AnswersText session.old.library session.old.text a b (unescaped new.entry.raw.now) result session.new.text }
     ensures library { session.new.library ≡ session.old.library }
-    ensures reads { IsOk (read_text session.new.text) }
+    ensures reads { IsOk (read_def session.new.text) }
 {
     match unescaped(alloc, new) {
         Ok(put) => session.text_edit(a, b, put.as_slice()),
-        Err(_) => {
-            let code = refused_text(session.text_len(), a, b, new.len);
-            Err(EditRefusal::Refused(code))
-        }
+        Err(_) => Err(refused_text(session.text_len(), a, b, new.len)),
     }
 }
 
@@ -118,6 +117,23 @@ fn counted_reply<A: Allocator>(
     Ok(text)
 }
 
+/// The answer to a question.
+fn answer_question<A: Allocator + Copy>(
+    alloc: A,
+    session: &Session<'_, '_, A>,
+    question: Question,
+) -> Result<Vec<u8, A>, AllocError>
+    requires { IsOk (read_def session.now.text) }
+    ensures { IfOk result (λ v. Says session.now.library session.now.text (question_seen question) v.items) }
+{
+    match question {
+        Question::Report => {
+            let lines = session.diagnostics()?;
+            check_text(alloc, &lines)
+        }
+    }
+}
+
 /// Answers a line, and counts it.
 fn answer<A: Allocator + Copy>(
     alloc: A,
@@ -127,10 +143,10 @@ fn answer<A: Allocator + Copy>(
     tally: &mut Tally,
 ) -> Result<Vec<u8, A>, AllocError>
     requires room { HasRoom tally.old }
-    requires reads { IsOk (read_text session.old.text) }
-    ensures gives { IfOk result (λ v. Gives session.old.library number (order_of line.now) session.old.text (counts_of tally.old) v.items session.new.text (counts_of tally.new)) }
+    requires reads { IsOk (read_def session.old.text) }
+    ensures gives { IfOk result (λ v. LineAnswers session.old.library number (order_of line.now) session.old.text (counts_of tally.old) v.items session.new.text (counts_of tally.new)) }
     ensures library { session.new.library ≡ session.old.library }
-    ensures reads { IsOk (read_text session.new.text) }
+    ensures reads { IsOk (read_def session.new.text) }
     ensures grows { Grows tally.old tally.new }
 {
     match parse(line) {
@@ -147,10 +163,7 @@ fn answer<A: Allocator + Copy>(
             let reply = Err(EditRefusal::Refused(code));
             counted_reply(alloc, number, reply, tally)
         }
-        Command::Check => {
-            let lines = session.diagnostics()?;
-            check_text(alloc, &lines)
-        }
+        Command::Ask(question) => answer_question(alloc, session, question),
         Command::Bad => {
             let text = bad_text(alloc, number)?;
             tally.bad += 1;
@@ -168,7 +181,7 @@ fn answer_lines<A: Allocator + Copy, W: CountedWrite>(
 ) -> Result<Tally, Stop>
     requires few { W.failed out.old < 2 ^ 63 }
     requires short { length script.now < 2 ^ 62 }
-    requires reads { IsOk (read_text session.old.text) }
+    requires reads { IsOk (read_def session.old.text) }
     ensures ok { IfOk result (λ tally. WritesRun session.old.library session.old.text (script_lines script.now) (W.contents out.old) (W.contents out.new) session.new.text (counts_of tally)) }
     ensures err { OnErr result (WritesRunPart session.old.library session.old.text (script_lines script.now) (W.contents out.old) (W.contents out.new)) }
     ensures failed { IsErrOf result Stop.Write → W.failed out.old < W.failed out.new }
@@ -206,7 +219,7 @@ fn answer_all<A: Allocator + Copy, W: CountedWrite, V: CountedWrite>(
     requires out { W.failed out.old < 2 ^ 63 }
     requires def_out { V.failed def_out.old < 2 ^ 63 }
     requires short { length script.now < 2 ^ 62 }
-    requires reads { IsOk (read_text session.old.text) }
+    requires reads { IsOk (read_def session.old.text) }
     ensures ok { IfOk result (λ tally. AnswersWhole session.old.library session.old.text script.now (W.contents out.old) (W.contents out.new) (V.contents def_out.old) (V.contents def_out.new) (counts_of tally)) }
     ensures fault { IfErr result (λ e. AnswersPart session.old.library session.old.text script.now (W.contents out.old) (W.contents out.new) (V.contents def_out.old) (V.contents def_out.new) e) }
     ensures write { IsErrOf result Stop.Write → (W.failed out.old < W.failed out.new) ⊎ (V.failed def_out.old < V.failed def_out.new) }
@@ -259,8 +272,8 @@ where
     };
     let mut session = match Session::open(alloc, &library, def) {
         Ok(session) => session,
-        Err(OpenError::Fault(fault)) => return Err(RunFault::Def(fault)),
-        Err(OpenError::Memory) => return Err(RunFault::Memory),
+        Err(ReadError::Fault(fault)) => return Err(RunFault::Def(fault)),
+        Err(ReadError::Memory) => return Err(RunFault::Memory),
     };
     let bytes = match read_whole(alloc, script, MAX_SCRIPT, MAX_TURNS) {
         Ok(bytes) => bytes,

@@ -1,36 +1,28 @@
 //! Reports as lines.
 
-ghost use Rattle.std.specs.Prelude.{◌≡◌, ◌++◌, IfOk, OnOk, map};
-ghost use Rattle.design_model.specs.Lines.{kind_word, diag_text};
-ghost use Rattle.design_model.specs.Diagnostics.{diagnostics};
-ghost use Rattle.design_model.specs.Located.{records_of};
+ghost use Rattle.std.specs.Prelude.{◌≡◌, ◌++◌, IfOk, IsOk, OnOk, map};
+ghost use Rattle.design_model.specs.Lines.{diag_text};
 ghost use Rattle.design_model.specs.Order.{texts};
+ghost use Rattle.def_grammar.specs.Records.{read_def};
+ghost use Rattle.edit_session.specs.Sessions.{Reports};
 
 use cell_library::library::Library;
-use design_model::diagnostic::{Diag, DiagKind, DiagLine, DiagLines, sort_lines};
+use def_reader::records::statements_of;
+use design_model::diagnostic::{Diag, DiagLine, DiagLines, sort_lines};
 use design_model::sequence::Sequence;
 use itoa::Buffer;
+use line_laws::scales::scales_are_good;
 use place_checks::boxes::boxes_of;
 use place_checks::count::counts_of;
 use place_checks::overlap::overlaps_of;
 use std::alloc::{AllocError, Allocator};
 use unit_numbers::print;
 
-/// The word that a line begins with.
-fn kind_word(kind: DiagKind) -> &'static [u8]
-    ensures { result.now ≡ kind_word kind }
-{
-    match kind {
-        DiagKind::Count => b"count",
-        DiagKind::Overlap => b"overlap",
-    }
-}
-
 /// A report as a line: its kind, its words and its numbers, parted by spaces.
 fn line_of<A: Allocator + Copy>(alloc: A, diag: &Diag<'_, A>) -> Result<DiagLine<A>, AllocError>
     ensures { IfOk result (λ l. l.text ≡ diag_text diag.now) }
 {
-    let mut text = Vec::from_slice(alloc, kind_word(diag.kind))?;
+    let mut text = Vec::from_slice(alloc, diag.kind.word())?;
     for word in diag.words.as_slice() {
         text.push(b' ')?;
         text.extend_from_slice(word)?;
@@ -46,7 +38,7 @@ fn line_of<A: Allocator + Copy>(alloc: A, diag: &Diag<'_, A>) -> Result<DiagLine
     })
 }
 
-/// Puts the lines of reports behind others.
+/// Puts the lines of reports after others.
 fn push_lines<A: Allocator + Copy>(
     lines: &mut Vec<DiagLine<A>, A>,
     reports: &[Diag<'_, A>],
@@ -54,24 +46,28 @@ fn push_lines<A: Allocator + Copy>(
     ensures { OnOk result (texts lines.new.items ≡ texts lines.old.items ++ map diag_text reports.now) }
 {
     let alloc = *lines.allocator();
+    lines.reserve(reports.len())?;
     for diag in reports {
         lines.push(line_of(alloc, diag)?)?;
     }
     Ok(())
 }
 
-/// All diagnostics of the records of a text, in the order of their bytes, repeats kept.
+/// All diagnostics of a text that reads, in the order of their bytes, repeats kept. The text is read once.
 pub fn report<A: Allocator + Copy>(
     alloc: A,
     library: &Library<'_, A>,
     text: &[u8],
 ) -> Result<DiagLines<A>, AllocError>
-    ensures { IfOk result (λ lines. texts lines ≡ diagnostics library.now (records_of text.now)) }
+    requires { IsOk (read_def text.now) }
+    ensures { IfOk result (λ lines. Reports library.now text.now lines) }
 {
+    scales_are_good();
+    let records = statements_of(alloc, text)?;
     let mut lines = Vec::new(alloc);
-    let counts = counts_of(alloc, text)?;
+    let counts = counts_of(alloc, &records)?;
     push_lines(&mut lines, &counts)?;
-    let boxes = boxes_of(alloc, library, text)?;
+    let boxes = boxes_of(alloc, library, &records)?;
     let overlaps = overlaps_of(alloc, &boxes)?;
     push_lines(&mut lines, &overlaps)?;
     sort_lines(&mut lines);

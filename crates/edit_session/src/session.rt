@@ -2,36 +2,27 @@
 
 ghost use Rattle.std.specs.Prelude.{◌≡◌, ◌≤◌, ◌<◌, ◌^◌, OnErr, OnOk, IfOk, IsOk, length};
 ghost use Rattle.std.specs.Io.KnownBytes.{Appends};
-ghost use Rattle.design_model.specs.Edits.{place, seen};
-ghost use Rattle.design_model.specs.Known.{WritesPart};
-ghost use Rattle.design_model.specs.Reading.{read_text};
-ghost use Rattle.design_model.specs.Runs.{Answers, design_edit, text_edit};
+ghost use Rattle.counted_devices.specs.Known.{WritesPart};
+ghost use Rattle.def_grammar.specs.Records.{read_def};
+ghost use Rattle.design_rules.specs.Edits.{change_of};
+ghost use Rattle.design_rules.specs.Runs.{Answers, design_edit, text_edit};
 ghost use Rattle.edit_session.specs.Sessions.{MakesText, OpensAs, ReplacesText, Reports};
-ghost use Rattle.edit_session.specs.declared.session.OpenError.TheVariants.{Memory};
 
 use crate::report::report;
 use cell_library::library::Library;
-use def_reader::read_def::{ReadError, check_def};
-use def_splice::place::place_splice;
+use counted_devices::counted::{CountedWrite, Failures};
+use counted_devices::output::{MAX_INTERRUPTIONS, WriteFault, write_whole};
+use def_reader::read_def::check_def;
 use def_splice::spliced::spliced;
-use design_laws::editing::{all_are_formed, edits_are_applied, records_are_read};
+use def_splice::splices::splices;
 use design_model::MAX_TEXT;
-use design_model::counted::{CountedWrite, Failures};
 use design_model::diagnostic::DiagLines;
 use design_model::edit::{Done, Edit, EditCode, EditRefusal};
-use design_model::fault::Fault;
-use design_model::geometry::Orient;
-use design_model::output::{MAX_INTERRUPTIONS, WriteFault, write_whole};
+use design_model::fault::ReadError;
+use edit_laws::editing::edits_are_applied;
 use std::alloc::{AllocError, Allocator, Global};
 use std::io::Write;
 use std::marker::Model;
-
-/// Why a text is not opened.
-#[derive(Clone, Copy, Debug, PartialEq, Eq)]
-pub enum OpenError {
-    Fault(Fault),
-    Memory,
-}
 
 /// An editor session over the text of a design.
 #[derive(Drop)]
@@ -43,14 +34,14 @@ pub struct Session<'s, 'l, A: Allocator = Global> {
 impl<'s, 'l, A: Allocator> Model for Session<'s, 'l, A> {
     ghost use Rattle.std.specs.Prelude.{◌≤◌, length, IsOk};
     ghost use Rattle.design_model.specs.declared.TheConstants.{MAX_TEXT};
-    ghost use Rattle.design_model.specs.Reading.{read_text};
+    ghost use Rattle.def_grammar.specs.Records.{read_def};
     ghost use Rattle.edit_session.specs.Contents.{Content};
 
     ghost Value = { Content };
 
     ghost view = { λ s. record { library = s.library.now; text = s.text.items } };
 
-    ghost invariant = { λ s. (length s.text.items ≤ MAX_TEXT) × IsOk (read_text s.text.items) };
+    ghost invariant = { λ s. (length s.text.items ≤ MAX_TEXT) × IsOk (read_def s.text.items) };
 }
 
 impl<'s, 'l, A: Allocator + Copy> Session<'s, 'l, A> {
@@ -59,38 +50,32 @@ impl<'s, 'l, A: Allocator + Copy> Session<'s, 'l, A> {
         alloc: A,
         library: &'s Library<'l, A>,
         text: &[u8],
-    ) -> Result<Session<'s, 'l, A>, OpenError>
+    ) -> Result<Session<'s, 'l, A>, ReadError>
         ensures opens { OpensAs text.now result }
         ensures text { IfOk result (λ s. s.text ≡ text.now) }
         ensures library { IfOk result (λ s. s.library ≡ library.now) }
     {
-        match check_def(alloc, text) {
-            Ok(()) => {}
-            Err(ReadError::Fault(fault)) => return Err(OpenError::Fault(fault)),
-            Err(ReadError::Memory) => return Err(OpenError::Memory),
-        }
-        match Vec::from_slice(alloc, text) {
-            Ok(text) => Ok(Session { library, text }),
-            Err(_) => Err(OpenError::Memory),
-        }
+        check_def(alloc, text)?;
+        let text = Vec::from_slice(alloc, text)?;
+        Ok(Session { library, text })
     }
 
     /// Makes an edit, or refuses it and leaves the text as it was.
     pub fn edit(&mut self, edit: &Edit<'_>) -> Result<Done, EditRefusal>
-        ensures answer { Answers self.old.text (design_edit (seen edit.now)) result self.new.text }
+        ensures answer { Answers self.old.library self.old.text (design_edit (change_of edit.now)) result self.new.text }
         ensures library { self.new.library ≡ self.old.library }
-        ensures reads { IsOk (read_text self.new.text) }
+        ensures reads { IsOk (read_def self.new.text) }
     {
-        let new = edited_text(*self.text.allocator(), &self.text, edit)?;
+        let new = edited_text(*self.text.allocator(), self.library, &self.text, edit)?;
         self.text = new;
         Ok(Done { reads: 0, tests: 0 })
     }
 
     /// Puts bytes in the place of those from `a` up to `b`, or refuses it and leaves the text as it was.
     pub fn text_edit(&mut self, a: usize, b: usize, new: &[u8]) -> Result<Done, EditRefusal>
-        ensures answer { Answers self.old.text (text_edit a b new.now) result self.new.text }
+        ensures answer { Answers self.old.library self.old.text (text_edit a b new.now) result self.new.text }
         ensures library { self.new.library ≡ self.old.library }
-        ensures reads { IsOk (read_text self.new.text) }
+        ensures reads { IsOk (read_def self.new.text) }
     {
         let new = replaced_text(*self.text.allocator(), &self.text, a, b, new)?;
         self.text = new;
@@ -101,7 +86,6 @@ impl<'s, 'l, A: Allocator + Copy> Session<'s, 'l, A> {
     pub fn diagnostics(&self) -> Result<DiagLines<A>, AllocError>
         ensures { IfOk result (λ lines. Reports self.now.library self.now.text lines) }
     {
-        records_are_read();
         report(*self.text.allocator(), self.library, &self.text)
     }
 
@@ -127,49 +111,19 @@ impl<'s, 'l, A: Allocator + Copy> Session<'s, 'l, A> {
 /// The text after an edit of a text that reads.
 fn edited_text<A: Allocator + Copy>(
     alloc: A,
+    library: &Library<'_, A>,
     text: &[u8],
     edit: &Edit<'_>,
 ) -> Result<Vec<u8, A>, EditRefusal>
     requires fits { length text.now ≤ MAX_TEXT }
-    requires reads { IsOk (read_text text.now) }
-    ensures makes { MakesText (λ v. v.items) text.now (seen edit.now) result }
+    requires reads { IsOk (read_def text.now) }
+    ensures makes { MakesText (λ v. v.items) library.now text.now (change_of edit.now) result }
     ensures fits { IfOk result (λ v. length v.items ≤ MAX_TEXT) }
-    ensures reads { IfOk result (λ v. IsOk (read_text v.items)) }
+    ensures reads { IfOk result (λ v. IsOk (read_def v.items)) }
 {
-    match edit {
-        Edit::Place {
-            component,
-            x,
-            y,
-            orient,
-        } => placed_text(alloc, text, component, *x, *y, *orient),
-    }
-}
-
-/// The text after a component of a text that reads is placed.
-fn placed_text<A: Allocator + Copy>(
-    alloc: A,
-    text: &[u8],
-    component: &[u8],
-    x: i64,
-    y: i64,
-    orient: Orient,
-) -> Result<Vec<u8, A>, EditRefusal>
-    requires fits { length text.now ≤ MAX_TEXT }
-    requires reads { IsOk (read_text text.now) }
-    ensures makes { MakesText (λ v. v.items) text.now (place component.now x y orient) result }
-    ensures fits { IfOk result (λ v. length v.items ≤ MAX_TEXT) }
-    ensures reads { IfOk result (λ v. IsOk (read_text v.items)) }
-{
-    all_are_formed();
     edits_are_applied();
-    let splice = match place_splice(alloc, text, component, x, y, orient) {
-        Ok(splice) => splice,
-        Err(refusal) => return Err(refusal),
-    };
-    let mut splices = Vec::new(alloc);
-    splices.push(splice)?;
-    let new = spliced(alloc, text, &splices)?;
+    let splices = splices(alloc, library, text, edit)?;
+    let new = spliced(alloc, text, splices.as_slice())?;
     Ok(new)
 }
 
@@ -184,7 +138,7 @@ fn replaced_text<A: Allocator + Copy>(
     requires { length text.now ≤ MAX_TEXT }
     ensures makes { ReplacesText (λ v. v.items) text.now a b new.now result }
     ensures fits { IfOk result (λ v. length v.items ≤ MAX_TEXT) }
-    ensures reads { IfOk result (λ v. IsOk (read_text v.items)) }
+    ensures reads { IfOk result (λ v. IsOk (read_def v.items)) }
 {
     if a > b || b > text.len() {
         return Err(EditRefusal::Refused(EditCode::Range));
@@ -193,12 +147,13 @@ fn replaced_text<A: Allocator + Copy>(
     if new.len() > MAX_TEXT - kept {
         return Err(EditRefusal::Refused(EditCode::TooLong));
     }
-    let mut all = Vec::from_slice(alloc, &text[..a])?;
+    let mut all = Vec::with_capacity(alloc, kept + new.len())?;
+    all.extend_from_slice(&text[..a])?;
     all.extend_from_slice(new)?;
     all.extend_from_slice(&text[b..])?;
     match check_def(alloc, &all) {
         Ok(()) => Ok(all),
         Err(ReadError::Fault(fault)) => Err(EditRefusal::Unreadable(fault)),
-        Err(ReadError::Memory) => Err(EditRefusal::Refused(EditCode::Memory)),
+        Err(ReadError::Memory) => Err(EditRefusal::Memory),
     }
 }

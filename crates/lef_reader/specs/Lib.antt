@@ -1,2 +1,5 @@
-pub mod LefReading
-pub mod LefViews
+pub mod MacroViews
+pub mod OutermostViews
+pub mod Parts
+pub mod SiteViews
+pub mod StatementViews

@@ -1,12 +1,9 @@
 -- The tokens of two texts, one after the other.
-use Rattle.std.proofs.Common.{◌≡◌, ℕ, suc, ◌+◌, Bool, true, false, List, [], ◌∷◌, ◌++◌, length, refl, sym, ap, ◌∙◌, append_assoc, add-zero, zero-add, arith, inl, inr, eqb-true, ◌&&◌, ◌||◌, not, ◌==◌, nat_lt, ⊎_elim, ◌⊎◌, Ok}
-use Rattle.design_model.specs.Tokens.{Open, Piece, lex, before, next_open, ended_by, at_end, is_white, is_refused}
-use Rattle.design_model.specs.Tokens.Open.{between, comment, word, string}
+use Rattle.std.proofs.Common.{◌≡◌, ℕ, suc, ◌+◌, Bool, true, false, List, [], ◌∷◌, ◌++◌, length, refl, sym, ap, ◌∙◌, append_assoc, add-zero, zero-add, arith, eqb-true, ◌&&◌, ◌||◌, not, ◌==◌, nat_lt, ⊎_elim, Ok}
+use Rattle.std.proofs.lemmas.Bool.{cases_Bool}
+use Rattle.statement_model.specs.Tokens.{Open, Piece, lex, before, next_open, ended_by, at_end, is_white, is_refused}
+use Rattle.statement_model.specs.Tokens.Open.{between, comment, word, string}
 use Rattle.lefdef_tokens.specs.Laws.{state_after, IsClosed, BeginsApart, TokensJoin}
-
-cases : (b : Bool) → (b ≡ true) ⊎ (b ≡ false)
-cases true = inl refl
-cases false = inr refl
 
 not_either : (x y z : Bool) → y ≡ true → z ≡ false → ((x && not y) || z) ≡ false
 not_either true true z h no_z = no_z
@@ -17,7 +14,7 @@ white_is_not_refused : (b : ℕ) → is_white b ≡ true → is_refused b ≡ fa
 white_is_not_refused b h = ⊎_elim
     (λ del. let h127 = rw (eqb-true b 127 del) at h in absurd (cc))
     (λ no_del. not_either (nat_lt b 32) (is_white b) (b == 127) h no_del)
-    (cases (b == 127))
+    (cases_Bool (b == 127))
 
 -- a word that ends where the text does, or before white space
 closed_end : (pos : ℕ) (state : Open) (t : List ℕ) → IsClosed state → BeginsApart t → lex pos state t ≡ before (at_end pos state).pieces (lex pos between t)
@@ -39,7 +36,7 @@ join (b ∷ s) t pos n state ok closed apart = ⊎_elim
     let later = join s t (pos + 1) n (next_open pos state b) h closed apart in
     let sum : pos + suc (length s) ≡ pos + 1 + length s = omega arith in
     rw (good, sum) (ap (before (ended_by state b)) later ∙ ap (λ (ps : List Piece). record { pieces = ps; end = (lex (pos + 1 + length s) between t).end }) (sym (append_assoc (ended_by state b) (lex (pos + 1) (next_open pos state b) s).pieces (lex (pos + 1 + length s) between t).pieces))))
-    (cases (is_refused b))
+    (cases_Bool (is_refused b))
 
 pub tokens_join : TokensJoin
 tokens_join s t n ok closed apart = rw (← zero-add (length s)) (join s t 0 n between ok closed apart)

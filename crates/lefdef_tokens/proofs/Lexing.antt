@@ -5,16 +5,13 @@ use Rattle.std.proofs.lemmas.List.{drop_all}
 use Rattle.std.proofs.lemmas.List.Edits.{between_none, between_more}
 use Rattle.std.proofs.Math.Nat.{eq-or-lt_of_le}
 use Rattle.memchr.specs.Find.{IsFirst, Passes, Nowhere, is_byte}
+use Rattle.std.proofs.lemmas.Bool.{false_from_ne_true}
 use Rattle.std.proofs.lemmas.Bool.Decides.{nat_tests}
-use Rattle.design_model.specs.Tokens.{Open, lex, at_end, before, only_fault, ended_by, next_open, is_white, is_refused, left_from}
+use Rattle.statement_model.specs.Tokens.{Open, lex, at_end, before, only_fault, ended_by, next_open, is_white, is_refused, left_from}
 use Rattle.lefdef_tokens.specs.Runs.{begins, stops, piece_at, IsLineEnd, GoesOn, Closes}
-use Rattle.design_model.specs.Tokens.Open.{between, comment, word, string}
+use Rattle.statement_model.specs.Tokens.Open.{between, comment, word, string}
 use Rattle.design_model.specs.declared.fault.FaultCode.TheVariants.{RefusedByte, OpenString}
 use Rattle.design_model.specs.declared.token_kind.TokenKind.TheVariants.{Word, Quoted}
-
-no_true : (b : Bool) → (b ≡ true → ⊥) → b ≡ false
-no_true true h = absurd (h refl)
-no_true false h = refl
 
 -- one byte
 pub lex_step : (text : List ℕ) (i : ℕ) (s : Open) → i < length text → is_refused (get_or text i 0) ≡ false
@@ -71,7 +68,7 @@ pub word_opens : (text : List ℕ) (i : ℕ) → i < length text → begins (get
     → lex i between (drop i text) ≡ lex (i + 1) (word i (slice_range text i (i + 1))) (drop (i + 1) text)
 word_opens text i lt b q =
     let parts = begins_parts (get_or text i 0) b in
-    let no_quote = no_true (get_or text i 0 == 34) (λ h. q (eqb-true _ _ h)) in
+    let no_quote = false_from_ne_true (get_or text i 0 == 34) (λ h. q (eqb-true _ _ h)) in
     lex_step text i between lt parts.0 ∙ rw (parts.1, parts.2, no_quote, between_one text i lt) refl
 
 pub word_grows : (text : List ℕ) (start i : ℕ) → start ≤ i → i < length text → is_refused (get_or text i 0) ≡ false → is_white (get_or text i 0) ≡ false
@@ -91,7 +88,7 @@ pub word_run : (text : List ℕ) (start n i j : ℕ) → i + n ≡ j → start �
     → lex i (word start (slice_range text start i)) (drop i text) ≡ lex j (word start (slice_range text start j)) (drop j text)
 word_run text start zero i j e low le ok = let same : i ≡ j = omega arith in rw same refl
 word_run text start (suc n) i j e low le ok =
-    let goes = no_true (stops 32 (get_or text i 0)) (ok i (omega arith) (omega arith)) in
+    let goes = false_from_ne_true (stops 32 (get_or text i 0)) (ok i (omega arith) (omega arith)) in
     let sign = goes_on (get_or text i 0) goes in
     word_grows text start i low (omega arith) sign.0 sign.1
     ∙ word_run text start n (i + 1) j (omega arith) (omega arith) le (λ k a b. ok k (omega arith) b)
@@ -101,8 +98,8 @@ pub comment_run : (text : List ℕ) (n i j : ℕ) → i + n ≡ j → j ≤ leng
     → lex i comment (drop i text) ≡ lex j comment (drop j text)
 comment_run text zero i j e le ok inside = let same : i ≡ j = omega arith in rw same refl
 comment_run text (suc n) i j e le ok inside =
-    let not_refused = no_true (is_refused (get_or text i 0)) (ok i (omega arith) (omega arith)) in
-    let no_line_end = no_true (is_byte 10 (get_or text i 0)) (inside i (omega arith) (omega arith)) in
+    let not_refused = false_from_ne_true (is_refused (get_or text i 0)) (ok i (omega arith) (omega arith)) in
+    let no_line_end = false_from_ne_true (is_byte 10 (get_or text i 0)) (inside i (omega arith) (omega arith)) in
     lex_step text i comment (omega arith) not_refused ∙ rw no_line_end refl
     ∙ comment_run text n (i + 1) j (omega arith) le (λ k a b. ok k (omega arith) b) (λ k a b. inside k (omega arith) b)
 
@@ -125,7 +122,7 @@ pub string_run : (text : List ℕ) (start n i j : ℕ) → i + n ≡ j → start
     → lex i (string start (slice_range text start i) (get_or text (i - 1) 0)) (drop i text) ≡ lex j (string start (slice_range text start j) (get_or text (j - 1) 0)) (drop j text)
 string_run text start zero i j e low le ok inside = let same : i ≡ j = omega arith in rw same refl
 string_run text start (suc n) i j e low le ok inside =
-    let not_refused = no_true (is_refused (get_or text i 0)) (ok i (omega arith) (omega arith)) in
+    let not_refused = false_from_ne_true (is_refused (get_or text i 0)) (ok i (omega arith) (omega arith)) in
     let goes = inside i (omega arith) (omega arith) in
     let last : i + 1 - 1 ≡ i = omega arith in
     let here : lex i (string start (slice_range text start i) (get_or text (i - 1) 0)) (drop i text) ≡ lex (i + 1) (string start (slice_range text start (i + 1)) (get_or text (i + 1 - 1) 0)) (drop (i + 1) text)
@@ -135,7 +132,7 @@ string_run text start (suc n) i j e low le ok inside =
 pub string_ends : (text : List ℕ) (start i : ℕ) → start ≤ i → i < length text → get_or text i 0 ≡ 34 → (get_or text (i - 1) 0 ≡ 92 → ⊥)
     → lex i (string start (slice_range text start i) (get_or text (i - 1) 0)) (drop i text) ≡ before (piece_at Quoted text start (i + 1) ∷ []) (lex (i + 1) between (drop (i + 1) text))
 string_ends text start i le lt quote plain =
-    let no = no_true (get_or text (i - 1) 0 == 92) (λ h. plain (eqb-true _ _ h)) in
+    let no = false_from_ne_true (get_or text (i - 1) 0 == 92) (λ h. plain (eqb-true _ _ h)) in
     lex_step text i (string start (slice_range text start i) (get_or text (i - 1) 0)) lt (rw quote refl) ∙ rw (no, quote, between_more text start i 0 le lt, quote) refl
 
 -- what the code's answers say

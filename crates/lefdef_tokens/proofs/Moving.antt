@@ -1,10 +1,10 @@
 -- The tokens of a text that stands later.
 use Rattle.std.proofs.Common.{◌≡◌, ℕ, ◌+◌, Bool, true, false, if◌then◌else◌, ◌==◌, List, [], ◌∷◌, ◌++◌, map, refl, sym, ap, ◌∙◌, arith}
-use Rattle.design_model.specs.Tokens.{Open, Piece, Lexed, lex, before, next_open, ended_by, at_end, is_white, is_refused, closes, only_fault}
+use Rattle.statement_model.specs.Tokens.{Open, Piece, Lexed, lex, before, next_open, ended_by, at_end, is_white, is_refused, closes, only_fault}
 use Rattle.std.proofs.lemmas.List.{map-append}
 use Rattle.design_model.specs.declared.fault.FaultCode.TheVariants.{RefusedByte}
 use Rattle.design_model.specs.declared.token_kind.TokenKind.TheVariants.{Word, Quoted}
-use Rattle.design_model.specs.Tokens.Open.{between, comment, word, string}
+use Rattle.statement_model.specs.Tokens.Open.{between, comment, word, string}
 use Rattle.lefdef_tokens.specs.Laws.{moved_piece, moved_state, moved_end, moved, TokensMove}
 
 push_if : {A B : Type 0} (f : A → B) (b : Bool) (x y : A) → (if b then f x else f y) ≡ f (if b then x else y)

@@ -1,17 +1,14 @@
 -- Where the tokens of a text stand.
-use Rattle.std.proofs.Common.{◌≡◌, ℕ, zero, suc, ◌+◌, ◌-◌, ◌<◌, ◌≤◌, Bool, true, false, ◌==◌, if◌then◌else◌, List, [], ◌∷◌, ◌++◌, length, get_or, drop, refl, subst, sym, ap, ◌∙◌, arith, ⊎_elim, ◌⊎◌, inl, inr, le_refl}
+use Rattle.std.proofs.Common.{◌≡◌, ℕ, zero, suc, ◌+◌, ◌-◌, ◌<◌, ◌≤◌, Bool, true, false, ◌==◌, if◌then◌else◌, List, [], ◌∷◌, ◌++◌, length, get_or, drop, subst, sym, ap, ◌∙◌, arith, ⊎_elim, le_refl}
 use Rattle.std.specs.List.{slice_range}
+use Rattle.std.proofs.lemmas.Bool.{cases_Bool}
 use Rattle.std.proofs.lemmas.List.Edits.{between_more, length-between}
-use Rattle.design_model.specs.Tokens.{Open, Piece, Lexed, lex, before, next_open, ended_by, at_end, is_white, is_refused, closes}
-use Rattle.design_model.specs.Tokens.Open.{between, comment, word, string}
+use Rattle.statement_model.specs.Tokens.{Open, Piece, Lexed, lex, before, next_open, ended_by, at_end, is_white, is_refused, closes}
+use Rattle.statement_model.specs.Tokens.Open.{between, comment, word, string}
 use Rattle.design_model.specs.declared.token_kind.TokenKind.{TokenKind}
 use Rattle.design_model.specs.declared.token_kind.TokenKind.TheVariants.{Word, Quoted}
 use Rattle.lefdef_tokens.specs.Laws.{StandIn, TokensAreSlices}
 use Rattle.lefdef_tokens.proofs.Lexing.{lex_step, lex_refused, lex_end, between_one}
-
-cases : (b : Bool) → (b ≡ true) ⊎ (b ≡ false)
-cases true = inl refl
-cases false = inr refl
 
 of_if : {A : Type 0} (P : A → Type 0) (b : Bool) (x y : A) → P x → P y → P (if b then x else y)
 of_if P true x y p q = p
@@ -80,7 +77,7 @@ stands text (suc n) i e from s fits =
     ⊎_elim
     (λ bad. subst (λ (l : Lexed). StandIn text from l.pieces) (sym (lex_refused text i s lt bad)) tt)
     (λ good. subst (λ (l : Lexed). StandIn text from l.pieces) (sym (lex_step text i s lt good)) (stands_step text from i s lt fits (stands text n (i + 1) (omega arith))))
-    (cases (is_refused (get_or text i 0)))
+    (cases_Bool (is_refused (get_or text i 0)))
 
 pub tokens_are_slices : TokensAreSlices
 tokens_are_slices text = stands text (length text) 0 (omega arith) 0 between (le_refl 0)

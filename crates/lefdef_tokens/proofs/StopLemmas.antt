@@ -1,6 +1,7 @@
 -- Which bytes of a text stop, by marks.
-use Rattle.std.proofs.Common.{zero, suc, ⊎_elim, ◌⊎◌, inl, inr, Some, ◌≡◌, ◌≢◌, ◌↔◌, ℕ, ◌+◌, ◌-◌, ◌<◌, ◌≤◌, Bool, true, false, List, length, get_or, nat_le, ◌==◌, ◌||◌, bit_or, refl, subst, sym, ◌∙◌, arith, if◌then◌else◌}
+use Rattle.std.proofs.Common.{⊎_elim, Some, ◌≡◌, ◌≢◌, ◌↔◌, ℕ, ◌+◌, ◌-◌, ◌<◌, ◌≤◌, Bool, true, false, List, length, get_or, nat_le, ◌==◌, ◌||◌, bit_or, refl, subst, sym, ◌∙◌, arith, if◌then◌else◌}
 use Rattle.std.specs.Int.{bit_at}
+use Rattle.std.proofs.lemmas.Bool.{cases_lt}
 use Rattle.std.proofs.lemmas.List.{get_or_past}
 use Rattle.std.proofs.Math.Nat.{lt_of_not-le}
 use Rattle.std.proofs.lemmas.Nat.Bits.{bit_at-zero}
@@ -37,11 +38,6 @@ marks_of_lanes low text at marks bytes small del both b s d e m k =
           (m k).1 here,
     )
 
-lt-or-le : (i j : ℕ) → (i < j) ⊎ (j ≤ i)
-lt-or-le i zero = inr (omega arith)
-lt-or-le zero (suc j) = inl (omega arith)
-lt-or-le (suc i) (suc j) = ⊎_elim (λ h. inl (omega arith)) (λ h. inr (omega arith)) (lt-or-le i j)
-
 none_set : (k : ℕ) → bit_at 0 k ≡ 1 → ⊥
 none_set k h = omega (arith, bit_at-zero k)
 
@@ -53,7 +49,7 @@ none_marked low text from at marks m none before k a b stop = ⊎_elim
     let e : at + (k - at) ≡ k = omega arith in
     let set = (m (k - at)).1 (omega arith, subst (λ (n : ℕ). stops low (get_or text n 0) ≡ true) (sym e) stop) in
     absurd (none_set (k - at) (subst (λ (n : ℕ). bit_at n (k - at) ≡ 1) none set)))
-    (lt-or-le k at)
+    (cases_lt k at)
 
 pub first_marked : (low : ℕ) (text : List ℕ) (from at end marks r : ℕ) → Marks low text at marks → bit_at marks r ≡ 1 → ((k : ℕ) → k < r → bit_at marks k ≢ 1)
     → from ≤ at → at + 16 ≤ end → Nowhere (Passes (stops low) text) from at → IsFirst (Passes (stops low) text) from end (Some (at + r))
@@ -68,7 +64,7 @@ first_marked low text from at end marks r m set below ordered room before =
             (λ later.
             let e : at + (k - at) ≡ k = omega arith in
             below (k - at) (omega arith) ((m (k - at)).1 (omega arith, subst (λ (n : ℕ). stops low (get_or text n 0) ≡ true) (sym e) stop)))
-            (lt-or-le k at);
+            (cases_lt k at);
       },
       here.1,
     )

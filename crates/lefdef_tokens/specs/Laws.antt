@@ -1,9 +1,9 @@
 -- Laws of the tokens of a text.
 use Rattle.std.specs.Prelude.{◌≡◌, ◌≤◌, ◌<◌, ℕ, ◌+◌, true, List, [], ◌∷◌, ◌++◌, length, Result, Ok, Err, map}
 use Rattle.std.specs.List.{slice_range}
-use Rattle.design_model.specs.Tokens.{Open, Piece, Lexed, lex, before, next_open, is_white, tokens}
+use Rattle.statement_model.specs.Tokens.{Open, Piece, Lexed, lex, before, next_open, is_white, tokens}
 use Rattle.design_model.specs.declared.fault.Fault.{Fault}
-use Rattle.design_model.specs.Tokens.Open.{between, comment, word, string}
+use Rattle.statement_model.specs.Tokens.Open.{between, comment, word, string}
 
 -- what is open after a text
 unfoldable pub state_after : ℕ → Open → List ℕ → Open

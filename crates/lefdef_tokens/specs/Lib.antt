@@ -1,3 +1,5 @@
+pub mod Ends
 pub mod Laws
+pub mod Pieces
 pub mod Runs
 pub mod Views

@@ -3,7 +3,7 @@ use Rattle.std.specs.Prelude.{◌≡◌, ◌≢◌, ℕ, ◌+◌, ◌-◌, ◌�
 use Rattle.std.specs.Int.{bit_at}
 use Rattle.std.specs.List.{slice_range}
 use Rattle.memchr.specs.Find.{Nowhere, Passes, is_byte}
-use Rattle.design_model.specs.Tokens.{Piece, is_white, is_refused, closes, before, left_from, only_fault}
+use Rattle.statement_model.specs.Tokens.{Piece, is_white, is_refused, closes, before, left_from, only_fault}
 use Rattle.design_model.specs.declared.fault.Fault.{Fault}
 use Rattle.design_model.specs.declared.token_kind.TokenKind.{TokenKind}
 

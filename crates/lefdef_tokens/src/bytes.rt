@@ -1,7 +1,7 @@
 //! Kinds of bytes.
 
 ghost use Rattle.std.specs.Prelude.{◌≡◌, ◌≤◌, ◌<◌, true, false};
-ghost use Rattle.design_model.specs.Tokens.{is_white, is_refused};
+ghost use Rattle.statement_model.specs.Tokens.{is_white, is_refused};
 
 pub fn is_white(byte: u8) -> bool
     ensures { result ≡ is_white byte }

@@ -1,47 +1,69 @@
 //! Reading the tokens of a statement from left to right.
 
-ghost use Rattle.std.specs.Prelude.{◌≡◌, ◌≤◌, length};
+ghost use Rattle.std.specs.Prelude.{◌≡◌, None};
+ghost use Rattle.std.specs.Option.{ForSome};
+ghost use Rattle.lefdef_tokens.specs.Pieces.{StandsFirst};
 
+use crate::part_end::PartEnd;
 use crate::token::Token;
 use crate::token_run::TokenRun;
 use crate::words;
 
-/// The tokens that are left, and how many were left where the first stood that is no number of its range.
+/// The tokens that are left, and how many were left where the first invalid number stood. The next token is kept, so
+/// that looking at it is free.
 #[derive(Clone, Copy)]
 pub struct Cursor<'t> {
     pub tokens: TokenRun<'t>,
     pub bad: Option<usize>,
+    first: Option<Token<'t>>,
+    ghost at_first: { ForSome first (λ token. StandsFirst tokens token) },
+    ghost at_end: { first ≡ None → tokens.count ≡ 0 },
 }
 
 impl<'t> Cursor<'t> {
-    ghost use Rattle.std.specs.Prelude.{◌+◌, ◌<◌, ◌∷◌, ◌++◌, None, IfSome};
-    ghost use Rattle.std.specs.List.{slice_range};
-    ghost use Rattle.design_model.specs.Tokens.{without_first};
-    ghost use Rattle.design_model.specs.Words.{Gives, is_done, is_name, is_plain, is_place, is_plus, is_stop, is_word, key, name_at, next_passes, next_word, noted, rest_at, word_that};
-    ghost use Rattle.lefdef_tokens.specs.Views.{piece_of, pieces_of, words_of, rest_of, word_of, run_of, IsLater, IsNext};
+    ghost use Rattle.std.specs.Prelude.{◌∷◌, List, [], length, false, ℕ, IfSome, MatchOption};
+    ghost use Rattle.form_meanings.specs.Words.{Gives, is_done, is_plain, is_place, is_plus, is_semicolon, is_stop, is_word, key, name_at, next_passes, next_word, noted, split_rest, word_that};
+    ghost use Rattle.lefdef_tokens.specs.Ends.{ends_at};
+    ghost use Rattle.lefdef_tokens.specs.Views.{IsIn, IsLater, rest_of, run_of, word_of, words_of};
 
     /// Before the first token of a run.
     pub fn start(run: TokenRun<'t>) -> Cursor<'t>
         ensures tokens { result.tokens ≡ run.entry }
         ensures bad { result.bad ≡ None }
     {
+        Cursor::at(run, None)
+    }
+
+    /// Before the first of these tokens, where this was noted before.
+    fn at(tokens: TokenRun<'t>, bad: Option<usize>) -> Cursor<'t>
+        ensures tokens { result.tokens ≡ tokens.entry }
+        ensures bad { result.bad ≡ bad }
+    {
         Cursor {
-            tokens: run,
-            bad: None,
+            tokens,
+            bad,
+            first: tokens.first(),
         }
     }
 
     /// The next token.
     pub fn next(self) -> Option<(Token<'t>, Cursor<'t>)>
-        ensures span { IfSome result (λ x. IsNext self.entry.tokens.pos x.0 x.1.tokens.pos) }
-        ensures fewer { IfSome result (λ x. x.1.tokens.count < self.entry.tokens.count) }
         ensures gives { Gives word_of result (next_word (rest_of self.entry)) }
-        ensures first { IfSome result (λ x. pieces_of self.entry.tokens ≡ piece_of x.0 ∷ pieces_of x.1.tokens) }
-        ensures slice { IfSome result (λ x. x.0.bytes.now ≡ slice_range self.entry.tokens.text.now x.0.pos (x.0.pos + length x.0.bytes.now)) }
+        ensures first { MatchOption result (words_of self.entry.tokens ≡ []) (λ x. words_of self.entry.tokens ≡ x.0.bytes.now ∷ words_of x.1.tokens) }
+        ensures bad { IfSome result (λ x. x.1.bad ≡ self.entry.bad) }
+        ensures slice { IfSome result (λ x. IsIn self.entry.tokens.text.now x.0) }
         ensures later { IfSome result (λ x. IsLater self.entry x.1) }
     {
-        let (token, tokens) = self.tokens.split_first()?;
-        Some((token, self.at(tokens)))
+        let first = self.first?;
+        Some((first, Cursor::at(self.tokens.after(first), self.bad)))
+    }
+
+    /// The next token, which stays the next.
+    pub fn peek(self) -> Option<Token<'t>>
+        ensures first { MatchOption result (words_of self.entry.tokens ≡ []) (λ token. (ws : List (List ℕ)) × (words_of self.entry.tokens ≡ token.bytes.now ∷ ws)) }
+        ensures slice { IfSome result (λ token. IsIn self.entry.tokens.text.now token) }
+    {
+        self.first
     }
 
     /// Whether no token is left.
@@ -61,7 +83,6 @@ impl<'t> Cursor<'t> {
     /// What comes after this very word.
     pub fn key(self, word: &[u8]) -> Option<Cursor<'t>>
         ensures gives { Gives rest_of result (key word.now (rest_of self.entry)) }
-        ensures behind { IfSome result (λ x. pieces_of x.tokens ≡ without_first (pieces_of self.entry.tokens)) }
         ensures later { IfSome result (λ x. IsLater self.entry x) }
     {
         let (token, cursor) = self.next()?;
@@ -75,8 +96,7 @@ impl<'t> Cursor<'t> {
     /// A name.
     pub fn name(self) -> Option<(Token<'t>, Cursor<'t>)>
         ensures gives { Gives word_of result (name_at (rest_of self.entry)) }
-        ensures first { IfSome result (λ x. pieces_of self.entry.tokens ≡ piece_of x.0 ∷ pieces_of x.1.tokens) }
-        ensures slice { IfSome result (λ x. x.0.bytes.now ≡ slice_range self.entry.tokens.text.now x.0.pos (x.0.pos + length x.0.bytes.now)) }
+        ensures slice { IfSome result (λ x. IsIn self.entry.tokens.text.now x.0) }
         ensures later { IfSome result (λ x. IsLater self.entry x.1) }
     {
         let (token, cursor) = self.next()?;
@@ -89,11 +109,8 @@ impl<'t> Cursor<'t> {
 
     /// A word that begins no clause and ends no statement.
     pub fn plain_word(self) -> Option<(Token<'t>, Cursor<'t>)>
-        ensures span { IfSome result (λ x. IsNext self.entry.tokens.pos x.0 x.1.tokens.pos) }
-        ensures fewer { IfSome result (λ x. x.1.tokens.count < self.entry.tokens.count) }
         ensures gives { Gives word_of result (word_that is_plain (rest_of self.entry)) }
-        ensures first { IfSome result (λ x. pieces_of self.entry.tokens ≡ piece_of x.0 ∷ pieces_of x.1.tokens) }
-        ensures slice { IfSome result (λ x. x.0.bytes.now ≡ slice_range self.entry.tokens.text.now x.0.pos (x.0.pos + length x.0.bytes.now)) }
+        ensures slice { IfSome result (λ x. IsIn self.entry.tokens.text.now x.0) }
         ensures later { IfSome result (λ x. IsLater self.entry x.1) }
     {
         let (token, cursor) = self.next()?;
@@ -107,8 +124,7 @@ impl<'t> Cursor<'t> {
     /// A word in the place of a number.
     pub fn place(self) -> Option<(Token<'t>, Cursor<'t>)>
         ensures gives { Gives word_of result (word_that is_place (rest_of self.entry)) }
-        ensures first { IfSome result (λ x. pieces_of self.entry.tokens ≡ piece_of x.0 ∷ pieces_of x.1.tokens) }
-        ensures slice { IfSome result (λ x. x.0.bytes.now ≡ slice_range self.entry.tokens.text.now x.0.pos (x.0.pos + length x.0.bytes.now)) }
+        ensures slice { IfSome result (λ x. IsIn self.entry.tokens.text.now x.0) }
         ensures later { IfSome result (λ x. IsLater self.entry x.1) }
     {
         let (token, cursor) = self.next()?;
@@ -119,10 +135,11 @@ impl<'t> Cursor<'t> {
         }
     }
 
-    /// The same tokens, where a number was good or not, and so many tokens were left before it.
+    /// The same tokens, where a number was good or not, and `left` tokens were left before it.
     pub fn noted(self, good: bool, left: usize) -> Cursor<'t>
         ensures noted { rest_of result ≡ noted good left (rest_of self.entry) }
         ensures tokens { result.tokens ≡ self.entry.tokens }
+        ensures later { IsLater self.entry result }
     {
         if good || self.bad.is_some() {
             return self;
@@ -130,6 +147,7 @@ impl<'t> Cursor<'t> {
         Cursor {
             tokens: self.tokens,
             bad: Some(left),
+            first: self.first,
         }
     }
 
@@ -137,8 +155,8 @@ impl<'t> Cursor<'t> {
     pub fn next_is_plus(self) -> bool
         ensures { result ≡ next_passes is_plus (rest_of self.entry) }
     {
-        match self.next() {
-            Some((token, _)) => words::is_plus(token.bytes),
+        match self.peek() {
+            Some(token) => words::is_plus(token.bytes),
             None => false,
         }
     }
@@ -147,8 +165,8 @@ impl<'t> Cursor<'t> {
     pub fn next_is_stop(self) -> bool
         ensures { result ≡ next_passes is_stop (rest_of self.entry) }
     {
-        match self.next() {
-            Some((token, _)) => words::is_stop(token.bytes),
+        match self.peek() {
+            Some(token) => words::is_stop(token.bytes),
             None => false,
         }
     }
@@ -157,39 +175,59 @@ impl<'t> Cursor<'t> {
     pub fn next_is(self, word: &[u8]) -> bool
         ensures { result ≡ next_passes (is_word word.now) (rest_of self.entry) }
     {
-        match self.next() {
-            Some((token, _)) => words::is_word(token.bytes, word),
+        match self.peek() {
+            Some(token) => words::is_word(token.bytes, word),
             None => false,
         }
     }
 
-    /// The same with these tokens left.
-    fn at(self, tokens: TokenRun<'t>) -> Cursor<'t>
-        ensures tokens { result.tokens ≡ tokens.entry }
-        ensures bad { result.bad ≡ self.entry.bad }
+    /// The tokens before the next one that ends a part, and the cursor at that one.
+    fn up_to(self, end: PartEnd) -> (TokenRun<'t>, Cursor<'t>)
+        ensures gives { run_of result ≡ split_rest (ends_at end) (rest_of self.entry) }
+        ensures later { IsLater self.entry result.1 }
+        ensures lent { result.0.text.now ≡ self.entry.tokens.text.now }
     {
-        Cursor {
-            tokens,
-            bad: self.bad,
+        let mut left = self;
+        let mut count = 0;
+        while let Some((token, later)) = left.next() {
+            if end.is_at(token.bytes) {
+                return (self.tokens.front(count), left);
+            }
+            count += 1;
+            left = later;
         }
+        (self.tokens, left)
     }
 
     /// The tokens before the next `+` or `;`, and the cursor at that one.
     pub fn rest(self) -> (TokenRun<'t>, Cursor<'t>)
-        ensures gives { run_of result ≡ rest_at (rest_of self.entry) }
-        ensures pieces { pieces_of self.entry.tokens ≡ pieces_of result.0 ++ pieces_of result.1.tokens }
-        ensures same_run { result.0.text.now ≡ self.entry.tokens.text.now }
+        ensures gives { run_of result ≡ split_rest is_stop (rest_of self.entry) }
         ensures later { IsLater self.entry result.1 }
+        ensures lent { result.0.text.now ≡ self.entry.tokens.text.now }
     {
-        let mut rest = self.tokens;
-        let mut count = 0;
-        while let Some((token, after)) = rest.split_first() {
-            if words::is_stop(token.bytes) {
-                return (self.tokens.front(count), self.at(rest));
-            }
-            count += 1;
-            rest = after;
-        }
-        (self.tokens, self.at(rest))
+        self.up_to(PartEnd::OfClause)
+    }
+
+    /// The tokens before the next `;`, and the cursor at that one.
+    pub fn up_to_semicolon(self) -> (TokenRun<'t>, Cursor<'t>)
+        ensures gives { run_of result ≡ split_rest is_semicolon (rest_of self.entry) }
+        ensures later { IsLater self.entry result.1 }
+        ensures lent { result.0.text.now ≡ self.entry.tokens.text.now }
+    {
+        self.up_to(PartEnd::OfStatement)
+    }
+
+    /// All tokens that are left, and the cursor after them.
+    pub fn tail(self) -> (TokenRun<'t>, Cursor<'t>)
+        ensures gives { run_of result ≡ split_rest (λ w. false) (rest_of self.entry) }
+        ensures later { IsLater self.entry result.1 }
+        ensures lent { result.0.text.now ≡ self.entry.tokens.text.now }
+    {
+        let none = TokenRun {
+            text: self.tokens.text,
+            pos: self.tokens.pos,
+            count: 0,
+        };
+        (self.tokens, Cursor::at(none, self.bad))
     }
 }

@@ -1,15 +1,26 @@
-//! Tokens of LEF and DEF texts, and cursors over the tokens of one statement.
+//! The tokens of LEF and DEF texts, and cursors over the tokens of one statement.
+//!
+//! Begin with `TokenRun::of_text`, all tokens of a text, or with `Scanner`, which gives them one at a time; then
+//! `Cursor::start` reads a run from left to right, a word at each call.
+//!
+//! What the tokens of a text are is said in `statement_model/specs/Tokens`, what reading a word gives in
+//! `form_meanings/specs/Words`, and how a cursor is seen there in `specs/Views` (`rest_of`, `words_of`). `specs/Laws`
+//! has three laws of whole texts. A token lends its bytes from the text and knows where they stand (`IsIn`); runs and
+//! cursors are copies of a few words over the same text, and nothing takes memory.
+//!
+//! A text may be refused for a byte that no token has, or for a string that is not closed: `FaultCode::RefusedByte`
+//! and `OpenString`. A cursor answers `None` where its next token isn't what is asked for.
 #![tactic(auto)]
 
 mod bytes;
 mod cursor;
 mod laws;
+mod part_end;
 mod runs;
 mod scanner;
+mod span;
 mod step;
 mod stops;
-#[cfg(test)]
-mod tests;
 mod token;
 mod token_run;
 mod words;
@@ -17,6 +28,7 @@ mod words;
 pub use cursor::Cursor;
 pub use laws::{tokens_are_slices, tokens_join, tokens_move};
 pub use scanner::Scanner;
+pub use span::Span;
 pub use step::token_at;
 pub use token::Token;
 pub use token_run::TokenRun;

@@ -2,7 +2,7 @@
 
 ghost use Rattle.std.specs.Prelude.{◌≡◌, ◌≤◌, ◌<◌, ◌≢◌, ℕ, ◌+◌, List, [], ◌∷◌, length, drop, slice_index, true, IfOk};
 ghost use Rattle.memchr.specs.Find.{IsFirst, Passes, is_byte};
-ghost use Rattle.design_model.specs.Tokens.{is_refused};
+ghost use Rattle.statement_model.specs.Tokens.{is_refused};
 ghost use Rattle.lefdef_tokens.specs.Runs.{GoesTo, IsLineEnd, IsClosing, piece_at, begins};
 ghost use Rattle.design_model.specs.declared.fault.FaultCode.TheVariants.{RefusedByte};
 ghost use Rattle.design_model.specs.declared.token_kind.TokenKind.TheVariants.{Word, Quoted};

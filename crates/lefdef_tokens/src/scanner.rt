@@ -1,9 +1,8 @@
 //! The tokens of a text, one at a time.
 
 ghost use Rattle.std.specs.Prelude.{◌≡◌, ◌≤◌, ◌+◌, length, IfOk, IfSome};
-ghost use Rattle.std.specs.List.{slice_range};
-ghost use Rattle.design_model.specs.Tokens.{tokens, first_piece, later_pieces};
-ghost use Rattle.lefdef_tokens.specs.Views.{found_of};
+ghost use Rattle.statement_model.specs.Tokens.{tokens, first_piece, later_pieces};
+ghost use Rattle.lefdef_tokens.specs.Pieces.{IsIn, found_of};
 
 use crate::step::token_at;
 use crate::token::Token;
@@ -19,8 +18,8 @@ pub struct Scanner<'t> {
 
 impl<'t> Model for Scanner<'t> {
     ghost use Rattle.std.specs.Prelude.{◌≤◌, length, drop};
-    ghost use Rattle.design_model.specs.Tokens.{Scan, lex, Open};
-    ghost use Rattle.design_model.specs.Tokens.Open.{between};
+    ghost use Rattle.statement_model.specs.Tokens.{Scan, lex, Open};
+    ghost use Rattle.statement_model.specs.Tokens.Open.{between};
 
     ghost Value = { Scan };
 
@@ -40,7 +39,7 @@ impl<'t> Scanner<'t> {
         ensures gives { found_of result ≡ first_piece self.old.left }
         ensures left { self.new.left ≡ later_pieces self.old.left }
         ensures text { self.new.text ≡ self.old.text }
-        ensures slice { IfOk result (λ found. IfSome found (λ t. t.bytes.now ≡ slice_range self.old.text t.pos (t.pos + length t.bytes.now))) }
+        ensures slice { IfOk result (λ found. IfSome found (λ t. IsIn self.old.text t)) }
     {
         match token_at(self.text, self.pos)? {
             Some((token, end)) => {

@@ -1,8 +1,7 @@
 //! One token of a text.
 
 ghost use Rattle.std.specs.Prelude.{◌≡◌, ◌≤◌, ◌+◌, length, IfOk, IfSome};
-ghost use Rattle.std.specs.List.{slice_range};
-ghost use Rattle.lefdef_tokens.specs.Views.{Steps, IsNext};
+ghost use Rattle.lefdef_tokens.specs.Pieces.{IsIn, IsNext, Steps};
 
 use crate::runs::{string_end, token_start, word_end};
 use crate::token::Token;
@@ -13,7 +12,7 @@ use design_model::token_kind::TokenKind;
 pub fn token_at<'t>(text: &'t [u8], pos: usize) -> Result<Option<(Token<'t>, usize)>, Fault>
     requires { pos ≤ length text.now }
     ensures steps { Steps text.now pos result }
-    ensures slice { IfOk result (λ found. IfSome found (λ x. x.0.bytes.now ≡ slice_range text.now x.0.pos (x.0.pos + length x.0.bytes.now))) }
+    ensures slice { IfOk result (λ found. IfSome found (λ x. IsIn text.now x.0)) }
     ensures span { IfOk result (λ found. IfSome found (λ x. IsNext pos x.0 x.1)) }
 {
     let start = token_start(text, pos)?;

@@ -1,13 +1,14 @@
 //! Tokens in a row.
 
 ghost use Rattle.std.specs.Prelude.{◌≡◌, ◌≤◌, length};
-ghost use Rattle.design_model.specs.Tokens.{left_from};
+ghost use Rattle.statement_model.specs.Tokens.{left_from};
 
+use crate::span::Span;
 use crate::step::token_at;
 use crate::token::Token;
 use design_model::fault::Fault;
 
-/// So many tokens of a text, from a place between two tokens on.
+/// A number of tokens of a text, from a place between two tokens on.
 #[derive(Clone, Copy)]
 pub struct TokenRun<'t> {
     pub text: &'t [u8],
@@ -18,11 +19,11 @@ pub struct TokenRun<'t> {
 }
 
 impl<'t> TokenRun<'t> {
-    ghost use Rattle.std.specs.Prelude.{◌+◌, ◌<◌, ◌↔◌, [], take, Ok, Err, IfOk, MatchResult, IfSome, IsNone, IsTrue};
-    ghost use Rattle.std.specs.List.{slice_range, slice_get};
-    ghost use Rattle.design_model.specs.Tokens.{tokens};
-    ghost use Rattle.design_model.specs.Words.{Gives};
-    ghost use Rattle.lefdef_tokens.specs.Views.{piece_of, pieces_of, words_of, split_of, words_split_of, uncons, IsNext};
+    ghost use Rattle.std.specs.Prelude.{◌+◌, ◌↔◌, ◌∷◌, [], drop, take, Ok, IfOk, IfSome, MatchOption, MatchResult, IsTrue};
+    ghost use Rattle.std.specs.List.{slice_get};
+    ghost use Rattle.statement_model.specs.Tokens.{tokens};
+    ghost use Rattle.form_meanings.specs.Words.{Gives};
+    ghost use Rattle.lefdef_tokens.specs.Pieces.{IsIn, IsNext, StandsFirst, piece_of, pieces_of, span_of, words_of};
 
     /// All tokens of a text.
     pub fn of_text(text: &'t [u8]) -> Result<TokenRun<'t>, Fault>
@@ -43,30 +44,46 @@ impl<'t> TokenRun<'t> {
         })
     }
 
-    /// The first token, and the tokens after it.
-    pub fn split_first(self) -> Option<(Token<'t>, TokenRun<'t>)>
-        ensures gives { Gives split_of result (uncons (pieces_of self.entry)) }
-        ensures words { Gives words_split_of result (uncons (words_of self.entry)) }
-        ensures none { IsNone result ↔ (self.entry.count ≡ 0) }
-        ensures slice { IfSome result (λ x. x.0.bytes.now ≡ slice_range self.entry.text.now x.0.pos (x.0.pos + length x.0.bytes.now)) }
-        ensures same { IfSome result (λ x. x.1.text.now ≡ self.entry.text.now) }
-        ensures span { IfSome result (λ x. IsNext self.entry.pos x.0 x.1.pos) }
-        ensures count { IfSome result (λ x. x.1.count + 1 ≡ self.entry.count) }
+    /// The first token.
+    pub(crate) fn first(self) -> Option<Token<'t>>
+        ensures { MatchOption result (self.entry.count ≡ 0) (λ token. StandsFirst self.entry token) }
     {
         if self.count == 0 {
             return None;
         }
         match token_at(self.text, self.pos) {
-            Ok(Some((token, pos))) => Some((
-                token,
-                TokenRun {
-                    text: self.text,
-                    pos,
-                    count: self.count - 1,
-                },
-            )),
+            Ok(Some((token, _))) => Some(token),
             _ => unreachable!(),
         }
+    }
+
+    /// The tokens after the first one.
+    pub(crate) fn after(self, first: Token<'t>) -> TokenRun<'t>
+        requires { StandsFirst self first }
+        ensures pieces { pieces_of self.entry ≡ piece_of first.entry ∷ pieces_of result }
+        ensures words { words_of self.entry ≡ first.entry.bytes.now ∷ words_of result }
+        ensures same { result.text.now ≡ self.entry.text.now }
+        ensures pos { result.pos ≡ first.entry.pos + length first.entry.bytes.now }
+        ensures count { result.count + 1 ≡ self.entry.count }
+    {
+        TokenRun {
+            text: self.text,
+            pos: first.pos + first.bytes.len(),
+            count: self.count - 1,
+        }
+    }
+
+    /// The first token, and the tokens after it.
+    pub fn split_first(self) -> Option<(Token<'t>, TokenRun<'t>)>
+        ensures pieces { MatchOption result (pieces_of self.entry ≡ []) (λ x. pieces_of self.entry ≡ piece_of x.0 ∷ pieces_of x.1) }
+        ensures words { MatchOption result (words_of self.entry ≡ []) (λ x. words_of self.entry ≡ x.0.bytes.now ∷ words_of x.1) }
+        ensures slice { IfSome result (λ x. IsIn self.entry.text.now x.0) }
+        ensures same { IfSome result (λ x. x.1.text.now ≡ self.entry.text.now) }
+        ensures span { IfSome result (λ x. IsNext self.entry.pos x.0 x.1.pos) }
+        ensures count { IfSome result (λ x. x.1.count + 1 ≡ self.entry.count) }
+    {
+        let first = self.first()?;
+        Some((first, self.after(first)))
     }
 
     pub fn len(self) -> usize
@@ -96,17 +113,46 @@ impl<'t> TokenRun<'t> {
         }
     }
 
-    /// The token behind `n` others.
+    /// The tokens after the first `count`.
+    pub fn skip(self, count: usize) -> TokenRun<'t>
+        ensures gives { pieces_of result ≡ drop count (pieces_of self.entry) }
+        ensures words { words_of result ≡ drop count (words_of self.entry) }
+        ensures same { result.text.now ≡ self.entry.text.now }
+    {
+        let mut left = self;
+        for _ in 0..count {
+            let Some((_, later)) = left.split_first() else {
+                return left;
+            };
+            left = later;
+        }
+        left
+    }
+
+    /// The token after `n` others.
     pub fn token(self, n: usize) -> Option<Token<'t>>
         ensures gives { Gives piece_of result (slice_get (pieces_of self.entry) n) }
-        ensures slice { IfSome result (λ t. t.bytes.now ≡ slice_range self.entry.text.now t.pos (t.pos + length t.bytes.now)) }
+        ensures slice { IfSome result (λ t. IsIn self.entry.text.now t) }
     {
-        let mut rest = self;
-        for _ in 0..n {
-            let (_, after) = rest.split_first()?;
-            rest = after;
-        }
-        let (token, _) = rest.split_first()?;
+        let (token, _) = self.skip(n).split_first()?;
         Some(token)
+    }
+
+    /// From the first token's start to the last one's end, or 0 and 0 where there are no tokens.
+    pub fn span(self) -> Span
+        ensures gives { result ≡ span_of (pieces_of self.entry) }
+        ensures order { result.lo ≤ result.hi }
+        ensures within { result.hi ≤ length self.entry.text.now }
+    {
+        let Some((first, mut left)) = self.split_first() else {
+            return Span { lo: 0, hi: 0 };
+        };
+        while let Some((_, later)) = left.split_first() {
+            left = later;
+        }
+        Span {
+            lo: first.pos,
+            hi: left.pos,
+        }
     }
 }

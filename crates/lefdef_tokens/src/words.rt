@@ -1,7 +1,7 @@
 //! Kinds of words, by their bytes.
 
 ghost use Rattle.std.specs.Prelude.{◌≡◌, codes};
-ghost use Rattle.design_model.specs.Words.{is_word, is_quoted, is_plus, is_semicolon, is_stop, is_plain, is_place, is_name};
+ghost use Rattle.form_meanings.specs.Words.{is_word, is_quoted, is_plus, is_semicolon, is_stop, is_plain, is_place, is_name};
 
 /// Whether the bytes are this very word.
 pub fn is_word(bytes: &[u8], word: &[u8]) -> bool

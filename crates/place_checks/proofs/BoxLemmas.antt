@@ -6,8 +6,8 @@ use Rattle.design_model.specs.declared.geometry.Point.{Point}
 use Rattle.design_model.specs.declared.geometry.Orient.{Orient}
 use Rattle.design_model.specs.declared.geometry.Orient.TheVariants.{N, W, S, E, FN, FS, FW, FE}
 use Rattle.design_model.specs.Geometry.{Rectangle, turned, moved, placed_box, IsNear, IsNearRectangle}
-use Rattle.design_model.specs.PlaceDiagnostics.{Boxed}
-use Rattle.place_checks.specs.BoxViews.{corner, in_order}
+use Rattle.design_rules.specs.Boxes.{Boxed}
+use Rattle.place_checks.specs.Corners.{corner, in_order}
 
 -- the ends of an interval, ordered twice
 low : (a b : ℤ) → int_min (int_min a b) (int_max a b) ≡ int_min a b

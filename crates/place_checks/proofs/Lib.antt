@@ -1,4 +1,4 @@
 pub mod BoxLemmas
 pub mod CountLemmas
-pub mod RecordLemmas
+pub mod StepLemmas
 pub mod UnitLemmas

@@ -1,2 +1,2 @@
-pub mod BoxViews
-pub mod CountViews
+pub mod Corners
+pub mod Views

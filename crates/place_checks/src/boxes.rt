@@ -1,23 +1,22 @@
 //! The boxes of the components that take part in the place checks.
 
-ghost use Rattle.std.specs.Prelude.{◌≡◌, ◌≤◌, ◌<◌, IfOk, map, nat_abs};
+ghost use Rattle.std.specs.Prelude.{◌≡◌, ◌≤◌, ◌<◌, ℕ, List, IfOk, map, nat_abs};
 ghost use Rattle.std.specs.Option.{option_map};
-ghost use Rattle.design_model.specs.Forms.{int_of};
 ghost use Rattle.design_model.specs.Geometry.{IsNearRectangle};
-ghost use Rattle.design_model.specs.PlaceDiagnostics.{boundary_of, box_of, boxes, in_units, is_cover, scale};
 ghost use Rattle.design_model.specs.Views.{rectangle_of};
-ghost use Rattle.def_reader.specs.ClauseViews.{clause_view};
-ghost use Rattle.def_reader.specs.StatementViews.{record_view, HasPlacing};
-ghost use Rattle.cell_library.specs.LibraryViews.{class_view, size_view};
-ghost use Rattle.place_checks.specs.BoxViews.{boxed_view, box_placed, corner, in_order, placement, records_of};
+ghost use Rattle.design_rules.specs.Boxes.{boundary_of, box_at, box_of, boxes, in_units, is_cover, scale};
+ghost use Rattle.def_reader.specs.PointViews.{point_view};
+ghost use Rattle.def_reader.specs.StatementViews.{record_view};
+ghost use Rattle.cell_library.specs.LibraryViews.{class_view, macro_view, size_view};
+ghost use Rattle.place_checks.specs.Corners.{corner, in_order};
+ghost use Rattle.place_checks.specs.Views.{boxed_view, records_view};
 
 use cell_library::library::{Library, Macro};
-use def_reader::clause::Clause;
-use def_reader::component::ComponentParts;
+use def_reader::components::{Clause, Placement};
 use def_reader::number::int_of;
+use def_reader::read_statement::Read;
 use def_reader::statement::Statement;
-use def_reader::statements::Statements;
-use design_model::geometry::{Orient, Point, Rect, Status};
+use design_model::geometry::{Point, Rect, Status};
 use lefdef_tokens::is_word;
 use orient_geom::place_box;
 use std::alloc::{AllocError, Allocator};
@@ -30,38 +29,11 @@ pub struct PlacedBox<'t> {
     pub rect: Rect,
 }
 
-/// Where a component is placed, and how it is turned.
-#[derive(Clone, Copy)]
-pub struct Placement {
-    pub status: Status,
-    pub x: i32,
-    pub y: i32,
-    pub orient: Orient,
-}
-
-/// The placement of a component, where it is placed.
-pub fn placement_of(parts: &ComponentParts<'_>) -> Option<Placement>
-    ensures { result ≡ placement (option_map clause_view parts.now.placing) }
+/// Database units per micron: those of `UNITS`.
+fn scale_of(records: &[Read<'_>]) -> u32
+    ensures { result ≡ scale (records_view records.now) }
 {
-    match parts.placing {
-        Some(Clause::Placed(status, at, orient)) => Some(Placement {
-            status,
-            x: int_of(at.x.bytes),
-            y: int_of(at.y.bytes),
-            orient,
-        }),
-        Some(Clause::Unplaced(_) | Clause::Region(_) | Clause::Other(_, _)) | None => None,
-    }
-}
-
-/// Database units per micron of a text.
-fn scale_of_text(text: &[u8]) -> u32
-    ensures scale { result ≡ scale (records_of text.now) }
-    ensures some { 0 < result }
-    ensures few { result ≤ 100000 }
-{
-    let mut statements = Statements::new(text);
-    while let Some(read) = statements.next() {
+    for read in records {
         if let Statement::Units(number) = read.statement {
             return int_of(number.bytes).unsigned_abs();
         }
@@ -123,23 +95,24 @@ fn is_cover(cell: &Macro<'_>) -> bool
     }
 }
 
-/// The box of a component of this name that is placed, where its macro is no cover.
-fn box_placed<'t>(
+/// The box of a component of this name that is placed so, where its macro is no cover: whatever the macro's name is.
+fn box_at<'t>(
     cell: &Macro<'_>,
     scale: u32,
     name: &'t [u8],
-    placement: Placement,
+    placement: Placement<'t>,
 ) -> Option<PlacedBox<'t>>
     requires some { 0 < scale }
     requires few { scale ≤ 100000 }
-    ensures { option_map boxed_view result ≡ box_placed scale name.entry.now placement (class_view cell.now.class) (size_view cell.now.size) }
+    ensures { let placed = placement.entry in
+        (cell_name : List ℕ) → option_map boxed_view result ≡ box_at scale name.entry.now (point_view placed.at) placed.orient (macro_view cell_name cell.now) }
 {
     if is_cover(cell) {
         return None;
     }
     let at = Point {
-        x: placement.x as i64,
-        y: placement.y as i64,
+        x: int_of(placement.at.x.bytes) as i64,
+        y: int_of(placement.at.y.bytes) as i64,
     };
     let rect = place_box(placement.orient, boundary_of(cell, scale), at);
     Some(PlacedBox { name, rect })
@@ -149,39 +122,46 @@ fn box_placed<'t>(
 fn box_of<'t, A: Allocator + Copy>(
     library: &Library<'_, A>,
     scale: u32,
-    statement: &Statement<'t>,
+    statement: Statement<'t>,
 ) -> Option<PlacedBox<'t>>
     requires some { 0 < scale }
     requires few { scale ≤ 100000 }
-    requires placing { HasPlacing statement.now }
-    ensures { option_map boxed_view result ≡ box_of library.now scale (record_view statement.now) }
+    ensures { option_map boxed_view result ≡ box_of library.now scale (record_view statement.entry) }
 {
     let Statement::Component(parts) = statement else {
         return None;
     };
-    let placement = placement_of(parts)?;
-    if placement.status == Status::Cover {
+    let name = parts.name.bytes;
+    let cell = parts.cell.bytes;
+    let Some(Clause::Placed(placement)) = parts.placing() else {
         return None;
+    };
+    match placement.status {
+        Status::Placed | Status::Fixed => {
+            box_at(&library.macro_of(cell)?, scale, name, placement)
+        }
+        Status::Cover => None,
     }
-    let cell = library.macro_of(parts.cell.bytes)?;
-    box_placed(&cell, scale, parts.name.bytes, placement)
 }
 
 /// The boxes of all components that take part, in the order of the text.
 pub fn boxes_of<'t, A: Allocator + Copy>(
     alloc: A,
     library: &Library<'_, A>,
-    text: &'t [u8],
+    records: &[Read<'t>],
 ) -> Result<Vec<PlacedBox<'t>, A>, AllocError>
-    ensures { IfOk result (λ v. map boxed_view v.items ≡ boxes library.now (records_of text.entry.now)) }
+    requires some { 0 < scale (records_view records.now) }
+    requires few { scale (records_view records.now) ≤ 100000 }
+    ensures { IfOk result (λ v. map boxed_view v.items ≡ boxes library.now (records_view records.now)) }
 {
-    let scale = scale_of_text(text);
+    let scale = scale_of(records);
     let mut boxes = Vec::new(alloc);
-    let mut statements = Statements::new(text);
-    while let Some(read) = statements.next() {
-        if let Some(placed) = box_of(library, scale, &read.statement) {
-            boxes.push(placed)?;
-        }
+    // The clauses of a component are read from a copy of them, so statements are taken by value.
+    for read in records.iter().copied() {
+        let Some(placed) = box_of(library, scale, read.statement) else {
+            continue;
+        };
+        boxes.push(placed)?;
     }
     Ok(boxes)
 }

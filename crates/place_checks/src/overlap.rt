@@ -1,10 +1,10 @@
 //! Components that lie on one another.
 
 ghost use Rattle.std.specs.Prelude.{◌≡◌, ◌++◌, ◌∷◌, [], IfOk, OnOk, map};
-ghost use Rattle.design_model.specs.Lines.{line_text, diag_text};
-ghost use Rattle.design_model.specs.PlaceDiagnostics.{lesser, greater, pairs, overlapping};
-ghost use Rattle.design_model.specs.declared.diagnostic.DiagKind.TheVariants.{Overlap};
-ghost use Rattle.place_checks.specs.BoxViews.{boxed_view, diag_texts, paired_with};
+ghost use Rattle.design_model.specs.Lines.{diag_text};
+ghost use Rattle.design_rules.specs.Families.{lines_with, pair_lines};
+ghost use Rattle.design_rules.specs.OverlapLines.{greater, lesser, overlap_line, overlap_of};
+ghost use Rattle.place_checks.specs.Views.{boxed_view, diag_texts};
 
 use crate::boxes::PlacedBox;
 use design_model::diagnostic::{Diag, DiagKind};
@@ -32,7 +32,7 @@ fn overlap<'t, A: Allocator + Copy>(
     a: &'t [u8],
     b: &'t [u8],
 ) -> Result<Diag<'t, A>, AllocError>
-    ensures { IfOk result (λ d. diag_text d ≡ line_text Overlap (lesser a.entry.now b.entry.now ∷ greater a.entry.now b.entry.now ∷ []) []) }
+    ensures { IfOk result (λ d. diag_text d ≡ overlap_line a.entry.now b.entry.now) }
 {
     let mut words = Sequence::new(alloc);
     words.push(lesser(a, b))?;
@@ -44,16 +44,16 @@ fn overlap<'t, A: Allocator + Copy>(
     })
 }
 
-/// Puts a report behind the others for each of the rest that a box overlaps.
+/// Adds a report for each of the other boxes that a box overlaps.
 fn push_overlaps<'t, A: Allocator + Copy>(
     reports: &mut Vec<Diag<'t, A>, A>,
     first: &PlacedBox<'t>,
-    rest: &[PlacedBox<'t>],
+    others: &[PlacedBox<'t>],
 ) -> Result<(), AllocError>
-    ensures { OnOk result (diag_texts reports.new.items ≡ diag_texts reports.old.items ++ overlapping (paired_with (boxed_view first.now) (map boxed_view rest.now))) }
+    ensures { OnOk result (diag_texts reports.new.items ≡ diag_texts reports.old.items ++ lines_with overlap_of (boxed_view first.now) (map boxed_view others.now)) }
 {
     let alloc = *reports.allocator();
-    for other in rest {
+    for other in others {
         if overlaps(&first.rect, &other.rect) {
             reports.push(overlap(alloc, first.name, other.name)?)?;
         }
@@ -61,12 +61,12 @@ fn push_overlaps<'t, A: Allocator + Copy>(
     Ok(())
 }
 
-/// The reports on all pairs of components that overlap.
+/// The reports on all pairs of components that overlap, in the order of the boxes.
 pub fn overlaps_of<'t, A: Allocator + Copy>(
     alloc: A,
     boxes: &[PlacedBox<'t>],
 ) -> Result<Vec<Diag<'t, A>, A>, AllocError>
-    ensures { IfOk result (λ v. diag_texts v.items ≡ overlapping (pairs (map boxed_view boxes.now))) }
+    ensures { IfOk result (λ v. diag_texts v.items ≡ pair_lines overlap_of (map boxed_view boxes.now)) }
 {
     let mut reports = Vec::new(alloc);
     for (i, first) in boxes.iter().enumerate() {

@@ -1,6 +1,6 @@
 use Rattle.std.proofs.Common.{◌≡◌, ◌++◌, length, drop, map}
-use Rattle.design_model.specs.Edits.{cut_from}
-use Rattle.design_model.specs.Splices.{cut_view, AreInOrder}
+use Rattle.statement_model.specs.Cuts.{cut_from}
+use Rattle.def_splice.specs.SpliceViews.{cut_view, AreInOrder}
 use Rattle.def_splice.proofs.spliced.spliced.Given as goal
 
 abbrev pub invariant-loop-splice : goal.invariant-loop-splice

@@ -1,5 +1,5 @@
 use Rattle.std.proofs.Common.{rules, arith, ap, ◌∙◌, length}
-use Rattle.edit_script.specs.Parts.{lines_left}
+use Rattle.script_lines.specs.Parts.{lines_left}
 use Rattle.edit_script.proofs.OutputLemmas.{answered_start, answered_more, answered_part, answered_cut, length-script_lines}
 use Rattle.edit_script.proofs.run.answer_lines.Goals as goal
 

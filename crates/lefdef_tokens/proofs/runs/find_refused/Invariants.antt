@@ -1,6 +1,6 @@
 use Rattle.std.proofs.Common.{◌≤◌, ◌-◌}
 use Rattle.memchr.specs.Find.{Nowhere, Passes}
-use Rattle.design_model.specs.Tokens.{is_refused}
+use Rattle.statement_model.specs.Tokens.{is_refused}
 use Rattle.lefdef_tokens.proofs.runs.find_refused.Given as goal
 
 abbrev pub invariant-loop-stop : goal.invariant-loop-stop

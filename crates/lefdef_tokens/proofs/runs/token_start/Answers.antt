@@ -1,5 +1,5 @@
 use Rattle.std.proofs.Common.{sym, ◌∙◌, arith, get_or}
-use Rattle.design_model.specs.Tokens.Open.{between}
+use Rattle.statement_model.specs.Tokens.Open.{between}
 use Rattle.lefdef_tokens.proofs.Lexing.{lex_refused, white_accepted, white_step}
 use Rattle.lefdef_tokens.proofs.runs.token_start.Goals as goal
 

@@ -1,6 +1,6 @@
 use Rattle.std.proofs.Common.{◌≡◌, ◌≤◌, ◌-◌, length, drop}
-use Rattle.design_model.specs.Tokens.{lex}
-use Rattle.design_model.specs.Tokens.Open.{between}
+use Rattle.statement_model.specs.Tokens.{lex}
+use Rattle.statement_model.specs.Tokens.Open.{between}
 use Rattle.lefdef_tokens.proofs.runs.token_start.Given as goal
 
 abbrev pub invariant-loop-pos : goal.invariant-loop-pos

@@ -2,7 +2,7 @@ use Rattle.std.proofs.Common.{◌≡◌, arith, ◌∙◌, ap}
 use Rattle.std.proofs.lemmas.Int.{ints}
 use Rattle.std.specs.Int.{w64}
 use mir.Val.{of_z, to_z}
-use Rattle.design_model.specs.PlaceDiagnostics.{or_zero}
+use Rattle.design_rules.specs.Boxes.{or_zero}
 use Rattle.unit_numbers.specs.Distances.{distance_of}
 use Rattle.place_checks.proofs.UnitLemmas.{is_nearest}
 use Rattle.place_checks.proofs.boxes.units_of.Goals as goal

@@ -1,7 +1,7 @@
 use Rattle.std.proofs.Common.{arith, refl}
 use Rattle.std.proofs.lemmas.List.{take-map, take-take}
-use Rattle.design_model.specs.Tokens.{Piece, left_from}
-use Rattle.lefdef_tokens.specs.Views.{pieces_of}
+use Rattle.statement_model.specs.Tokens.{Piece, left_from}
+use Rattle.lefdef_tokens.specs.Pieces.{pieces_of}
 use Rattle.lefdef_tokens.proofs.token_run.TokenRun.front.Goals as goal
 
 pub returns-clause-words : goal.returns-clause-words

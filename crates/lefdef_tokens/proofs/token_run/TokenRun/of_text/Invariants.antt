@@ -1,5 +1,5 @@
 use Rattle.std.proofs.Common.{◌≡◌, ◌≤◌, ◌+◌, ◌-◌, length}
-use Rattle.design_model.specs.Tokens.{left_from, tokens}
+use Rattle.statement_model.specs.Tokens.{left_from, tokens}
 use Rattle.lefdef_tokens.proofs.token_run.TokenRun.of_text.Given as goal
 
 abbrev pub invariant-loop-end : goal.invariant-loop-end

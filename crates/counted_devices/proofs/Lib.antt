@@ -1,0 +1,2 @@
+pub mod KnownSteps
+pub mod TurnSteps

@@ -1,0 +1,127 @@
+-- Where an entry stands: in its section, whose header is the latest statement that its text has once.
+use Rattle.std.proofs.Common.{◌≡◌, ◌⊎◌, ℕ, Bool, true, false, List, [], ◌∷◌, refl, sym, ap, ◌∙◌, subst, inl, inr, codes, Option, Some, None, Ok, if◌then◌else◌}
+use Rattle.design_model.specs.declared.mode.Mode.{Mode}
+use Rattle.design_model.specs.declared.mode.Mode.TheVariants.{Top, In, Props, After}
+use Rattle.design_model.specs.declared.mode.Section.{Section}
+use Rattle.design_model.specs.declared.mode.Section.TheVariants.{Components}
+use Rattle.design_model.specs.EnumWords.{section_word}
+use Rattle.form_meanings.specs.Words.{◌>>=◌, Rest, is_done, is_word, next_passes, start, ends}
+use Rattle.form_meanings.proofs.Steps.{some_same, both_read, if_cases}
+use Rattle.statement_model.specs.Tokens.{Piece}
+use Rattle.statement_model.specs.Boundaries.{words}
+use Rattle.statement_model.specs.Form.{read, whole}
+use Rattle.statement_model.specs.Reading.{read_form, formed, checked}
+use Rattle.def_grammar.specs.Top.{units, end_design, header, kept, top_statement, TopRecord}
+use Rattle.def_grammar.specs.Records.{def, Record, top, end_section, entry, Entry, component, statement, in_section, end_form, entries_form, section_of, name_of, entry_key, key_of, mode_after}
+use Rattle.def_reader.specs.SeenViews.{latest_with, Belongs}
+
+-- the word of the section that is open
+abbrev pub Opens : Mode → Option (List ℕ) → Type 0
+Opens m latest = (s : Section) → m ≡ In s → latest ≡ Some (section_word s)
+
+-- where a record stands
+abbrev pub StandsIn : Mode → Record → Type 0
+StandsIn m (top t) = m ≡ Top
+StandsIn m (end_section s) = Unit {0}
+StandsIn m (entry e) = m ≡ In (section_of e)
+
+-- the record of a form that was read
+form_checked : (m : Mode) (ps : List Piece) (r : Record) (bad : Option ℕ) (x : Record × Mode) → checked def m ps r bad ≡ Ok x → (r, mode_after m r) ≡ x
+form_checked m ps r None x h = let y : Record × Mode = (r, mode_after m r) in let same : y ≡ x = cc in same
+form_checked m ps r (Some n) x h = absurd (cc)
+
+pub form_whole : (m : Mode) (ps : List Piece) (w : Option (Record × Option ℕ)) (x : Record × Mode) → formed def m ps w ≡ Ok x → (bad : Option ℕ) × (w ≡ Some (x.0, bad)) × (x.1 ≡ mode_after m x.0)
+form_whole m ps None x h = absurd (cc)
+form_whole m ps (Some w) x h =
+    let same = form_checked m ps w.0 w.1 x h in
+    (w.1, ap (λ (y : Record × Mode). let z : Record × Option ℕ = (y.0, w.1) in Some z) same, sym (ap (λ (y : Record × Mode). y.1) same) ∙ ap (λ (y : Record × Mode). mode_after m y.0) same)
+
+-- a form that all of some tokens have reads them
+done_read : {A : Type 0} (p : A × Rest) (x : A × Option ℕ) → ends p.0 p.1 ≡ Some x → (p.0 ≡ x.0) × (is_done p.1 ≡ true)
+done_read {A = A} p x h =
+    if_cases (is_done p.1) (Some (p.0, p.1.bad)) None x ((p.0 ≡ x.0) × (is_done p.1 ≡ true))
+    (λ is e. let y : A × Option ℕ = (p.0, p.1.bad) in (ap (λ (z : A × Option ℕ). z.0) (some_same y x e), is))
+    (λ others e. absurd (cc))
+    h
+
+pub read_whole : {A : Type 0} (r : Option (A × Rest)) (x : A × Option ℕ) → (r >>= λ a. ends a.0 a.1) ≡ Some x → (rest : Rest) × (r ≡ Some (x.0, rest)) × (is_done rest ≡ true)
+read_whole {A = A} r x h =
+    let p = both_read r (λ (a : A × Rest). ends a.0 a.1) x h in
+    let done = done_read p.0 x p.2 in
+    (p.0.1, p.1 ∙ ap (λ (a : A). let z : A × Rest = (a, p.0.1) in Some z) done.0, done.1)
+
+-- an entry that is read is one of its section
+of_section : (s : Section) (e : Entry) (r rest : Rest) → read (entries_form s) r ≡ Some (e, rest) → section_of e ≡ s
+unfolding entries_form
+of_section Components (component c) r rest h = refl
+of_section _ e r rest h = absurd (cc)
+
+entry_in : (s : Section) (b : Section ⊎ Entry) (r rest : Rest) (o : Option (Entry × Rest)) → read (entries_form s) r ≡ o → (o >>= λ e. (let z : (Section ⊎ Entry) × Rest = (inr e.0, e.1) in Some z)) ≡ Some (b, rest) → StandsIn (In s) (inr b)
+entry_in s b r rest None o h = absurd (cc)
+entry_in s b r rest (Some e) o h =
+    let y : (Section ⊎ Entry) × Rest = (inr e.0, e.1) in
+    let same = some_same y (b, rest) h in
+    subst (λ (z : (Section ⊎ Entry) × Rest). StandsIn (In s) (inr z.0)) same (ap In (sym (of_section s e.0 r e.1 o)))
+
+ended_in : (s : Section) (b : Section ⊎ Entry) (rest : Rest) (o : Option (Section × Rest)) → (o >>= λ a. (let z : (Section ⊎ Entry) × Rest = (inl a.0, a.1) in Some z)) ≡ Some (b, rest) → StandsIn (In s) (inr b)
+ended_in s b rest None h = absurd (cc)
+ended_in s b rest (Some a) h =
+    let y : (Section ⊎ Entry) × Rest = (inl a.0, a.1) in
+    subst (λ (z : (Section ⊎ Entry) × Rest). StandsIn (In s) (inr z.0)) (some_same y (b, rest) h) tt
+
+section_stands : (s : Section) (b : Section ⊎ Entry) (r rest : Rest) → read (in_section s) r ≡ Some (b, rest) → StandsIn (In s) (inr b)
+section_stands s b r rest h =
+    if_cases (next_passes (is_word (codes "END")) r)
+    (read (end_form s) r >>= λ a. (let z : (Section ⊎ Entry) × Rest = (inl a.0, a.1) in Some z))
+    (read (entries_form s) r >>= λ e. (let z : (Section ⊎ Entry) × Rest = (inr e.0, e.1) in Some z))
+    (b, rest) (StandsIn (In s) (inr b))
+    (λ is e. ended_in s b rest (read (end_form s) r) e)
+    (λ others e. entry_in s b r rest (read (entries_form s) r) refl e)
+    h
+
+pub stands : (m : Mode) (rec : Record) (r rest : Rest) → read (statement m) r ≡ Some (rec, rest) → StandsIn m rec
+unfolding statement
+stands Top rec r rest h =
+    let p = both_read (read top_statement r) (λ (a : TopRecord × Rest). (let z : Record × Rest = (inl a.0, a.1) in Some z)) (rec, rest) h in
+    let y : Record × Rest = (inl p.0.0, p.0.1) in
+    subst (λ (z : Record × Rest). StandsIn Top z.0) (some_same y (rec, rest) p.2) refl
+stands (In s) rec r rest h =
+    let p = both_read (read (in_section s) r) (λ (b : (Section ⊎ Entry) × Rest). (let z : Record × Rest = (inr b.0, b.1) in Some z)) (rec, rest) h in
+    let y : Record × Rest = (inr p.0.0, p.0.1) in
+    subst (λ (z : Record × Rest). StandsIn (In s) z.0) (some_same y (rec, rest) p.2) (section_stands s p.0.0 r p.0.1 p.1)
+stands Props rec r rest h = absurd (cc)
+stands After rec r rest h = absurd (cc)
+
+-- a key at the top, and the key of an entry
+not_in : (m : Mode) (s : Section) → m ≡ Top → m ≡ In s → ⊥
+not_in m s at here = cc
+
+kept_belongs : (b : Bool) (w : List ℕ) (latest : Option (List ℕ)) → Belongs latest (if b then w ∷ [] else [])
+kept_belongs true w latest = tt
+kept_belongs false w latest = tt
+
+entry_belongs : (s : Section) (n : Option (List ℕ)) (latest : Option (List ℕ)) → latest ≡ Some (section_word s) → Belongs latest (entry_key s n)
+entry_belongs s (Some name) latest is = is
+entry_belongs s None latest is = tt
+
+entry_after : (s : Section) (n : Option (List ℕ)) (latest : Option (List ℕ)) → latest_with (entry_key s n) latest ≡ latest
+entry_after s (Some name) latest = refl
+entry_after s None latest = refl
+
+opens_after : (m : Mode) (rec : Record) (latest : Option (List ℕ)) → StandsIn m rec → Opens m latest → Belongs latest (key_of rec) × Opens (mode_after m rec) (latest_with (key_of rec) latest)
+opens_after m (top (units n)) latest at opens = (tt, λ s is. absurd (not_in m s at is))
+opens_after m (top end_design) latest at opens = (tt, λ s is. absurd (cc))
+opens_after m (top (header s n)) latest at opens = (tt, λ t is. (let same : s ≡ t = cc in ap (λ (z : Section). Some (section_word z)) same))
+opens_after m (top (kept w ws)) latest at opens = (kept_belongs (is_word (codes "DIEAREA") w) w latest, λ s is. absurd (not_in m s at is))
+opens_after m (end_section s) latest at opens = (tt, λ t is. absurd (cc))
+opens_after m (entry e) latest at opens =
+    (entry_belongs (section_of e) (name_of e) latest (opens (section_of e) at), λ s is. entry_after (section_of e) (name_of e) latest ∙ opens s is)
+
+-- a statement that was read stands in its place, and its key leaves the section open that the next one stands in
+pub opened : (m after : Mode) (ps : List Piece) (rec : Record) (latest : Option (List ℕ)) → read_form def m ps ≡ Ok (rec, after) → Opens m latest
+    → Belongs latest (key_of rec) × Opens after (latest_with (key_of rec) latest)
+opened m after ps rec latest h opens =
+    let form = form_whole m ps (whole (statement m) (words ps)) (rec, after) h in
+    let r = read_whole (read (statement m) (start (words ps))) (rec, form.0) form.1 in
+    let next = opens_after m rec latest (stands m rec (start (words ps)) r.0 r.1) opens in
+    (next.0, rw form.2 next.1)

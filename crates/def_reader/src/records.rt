@@ -1,0 +1,85 @@
+//! The statements of a text that reads.
+
+ghost use Rattle.std.specs.Prelude.{◌≡◌, ℕ, map, List, Ok, IfOk, IfSome, IsOk};
+ghost use Rattle.std.specs.List.{All};
+ghost use Rattle.std.specs.Option.{option_map};
+ghost use Rattle.statement_model.specs.Form.{spell};
+ghost use Rattle.def_grammar.specs.Components.{component_form};
+ghost use Rattle.statement_model.specs.Tokens.{Piece};
+ghost use Rattle.def_grammar.specs.Records.{component, component_of, entry, Record, read_def};
+ghost use Rattle.design_rules.specs.Edits.{component_at, component_if, located};
+ghost use Rattle.lefdef_tokens.specs.Views.{words_of};
+ghost use Rattle.def_reader.specs.ComponentViews.{component_view};
+ghost use Rattle.def_reader.specs.Lent.{ComponentIn, ReadIn, StatementIn};
+ghost use Rattle.def_reader.specs.StatementViews.{record_view};
+ghost use Rattle.def_reader.specs.RecordViews.{entry_view, located_view, record_of, with_tokens};
+
+use crate::components::ComponentParts;
+use crate::read_statement::Read;
+use crate::statement::Statement;
+use design_model::mode::Mode;
+use lefdef_tokens::TokenRun;
+use statement_reader::laws::records_are_read;
+use statement_reader::text;
+use std::alloc::{AllocError, Allocator};
+
+/// The statements of a DEF text, one after the other.
+pub type Statements<'t> = text::Statements<'t, Statement<'t>, Mode>;
+
+/// All statements, in the order of the text.
+pub fn statements_of<'t, A: Allocator>(
+    alloc: A,
+    text: &'t [u8],
+) -> Result<Vec<Read<'t>, A>, AllocError>
+    requires { IsOk (read_def text.now) }
+    ensures records { IfOk result (λ v. read_def text.now ≡ Ok (map record_of v.items)) }
+    ensures located { IfOk result (λ v. located text.now (map record_of v.items) ≡ map located_view v.items) }
+    ensures lent { IfOk result (λ v. All (ReadIn text.now) v.items) }
+{
+    records_are_read::<Statement<'t>>();
+    let mut found = Vec::new(alloc);
+    let mut statements: Statements<'t> = text::Statements::new(Mode::Top, text);
+    while let Some(read) = statements.next() {
+        found.push(read)?;
+    }
+    Ok(found)
+}
+
+/// The component of an entry, where it has this name.
+fn named<'t>(statement: Statement<'t>, name: &[u8]) -> Option<ComponentParts<'t>>
+    ensures gives { (ps : List Piece) → option_map (with_tokens ps) result ≡ component_if name.now ps (component_of (record_view statement.entry)) }
+    ensures entry { IfSome result (λ c. record_view statement.entry ≡ entry (component (component_view c))) }
+    ensures lent { (text : List ℕ) → StatementIn text statement.entry → IfSome result (λ c. ComponentIn text c) }
+{
+    match statement {
+        Statement::Component(parts) => {
+            if parts.name.bytes == name {
+                Some(parts)
+            } else {
+                None
+            }
+        }
+        _ => None,
+    }
+}
+
+/// The first entry of a component of this name, with its tokens. No statement after it is read.
+pub fn component_named<'t>(
+    text: &'t [u8],
+    name: &[u8],
+) -> Option<(ComponentParts<'t>, TokenRun<'t>)>
+    requires { IsOk (read_def text.now) }
+    ensures gives { (design : List Record) → read_def text.now ≡ Ok design → option_map entry_view result ≡ component_at name.now (located text.now design) }
+    ensures spelled { IfSome result (λ x. words_of x.1 ≡ spell component_form (component_view x.0)) }
+    ensures lent { IfSome result (λ x. ComponentIn text.now x.0) }
+    ensures text { IfSome result (λ x. x.1.text.now ≡ text.now) }
+{
+    records_are_read::<Statement<'t>>();
+    let mut statements: Statements<'t> = text::Statements::new(Mode::Top, text);
+    while let Some(read) = statements.next() {
+        if let Some(parts) = named(read.statement, name) {
+            return Some((parts, read.tokens));
+        }
+    }
+    None
+}

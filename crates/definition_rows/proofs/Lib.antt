@@ -1,0 +1,5 @@
+pub mod DefRows
+pub mod EditRows
+pub mod LefRows
+pub mod TextRows
+pub mod TokenRows

@@ -1,5 +1,0 @@
-use Rattle.design_laws.proofs.JoinedTexts.{statements_of_texts_join}
-use Rattle.design_laws.proofs.joining.statements_of_texts_join.Goals as goal
-
-pub returns : goal.returns
-returns c = statements_of_texts_join

@@ -1,5 +1,0 @@
-use Rattle.design_laws.proofs.EditRuns.{runs_keep_reading}
-use Rattle.design_laws.proofs.running.runs_keep_reading.Goals as goal
-
-pub returns : goal.returns
-returns c = runs_keep_reading c.edits_are_applied.ensures

@@ -1,5 +1,0 @@
-use Rattle.design_laws.proofs.SortedLines.{sorting_is_by_lines}
-use Rattle.design_laws.proofs.sorting.sorting_is_by_lines.Goals as goal
-
-pub returns : goal.returns
-returns c = sorting_is_by_lines

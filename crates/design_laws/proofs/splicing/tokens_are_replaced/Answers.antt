@@ -1,5 +1,0 @@
-use Rattle.design_laws.proofs.SplicingTexts.{tokens_are_replaced}
-use Rattle.design_laws.proofs.splicing.tokens_are_replaced.Goals as goal
-
-pub returns : goal.returns
-returns c = tokens_are_replaced

@@ -1,9 +1,0 @@
-pub mod BlankLaws
-pub mod EditLaws
-pub mod JoiningLaws
-pub mod KeepingLaws
-pub mod LefFormLaws
-pub mod PlacingLaws
-pub mod RunningLaws
-pub mod SortingLaws
-pub mod SplicingLaws

@@ -1,0 +1,15 @@
+-- All diagnostics of a design (own).
+use Rattle.std.specs.Prelude.{ℕ, List, ◌++◌}
+use Rattle.design_model.specs.Order.{sorted_by_bytes}
+use Rattle.def_grammar.specs.Records.{Record}
+use Rattle.lef_grammar.specs.Library.{Library}
+use Rattle.design_rules.specs.CountLines.{count_lines}
+use Rattle.design_rules.specs.OverlapLines.{overlap_lines}
+
+-- all lines, each family after the other
+abbrev pub all_lines : Library → List Record → List (List ℕ)
+all_lines library design = count_lines design ++ overlap_lines library design
+
+-- all lines, in the order of their bytes, repeats kept
+abbrev pub diagnostics : Library → List Record → List (List ℕ)
+diagnostics library design = sorted_by_bytes (all_lines library design)

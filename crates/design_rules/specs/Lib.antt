@@ -1,0 +1,9 @@
+pub mod Boxes
+pub mod CountLines
+pub mod Diagnostics
+pub mod Edits
+pub mod Families
+pub mod OverlapLines
+pub mod Output
+pub mod Runs
+pub mod Script

@@ -1,0 +1,4 @@
+pub mod EditLaws
+pub mod EntryLaws
+pub mod PlacingLaws
+pub mod RunningLaws

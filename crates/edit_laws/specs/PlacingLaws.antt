@@ -1,0 +1,40 @@
+-- Laws of placing a component: it is a change within its entry.
+use Rattle.std.specs.Prelude.{◌≡◌, ℕ, false, ℤ, List, [], ◌∷◌, ◌++◌, Some, None, codes}
+use Rattle.design_model.specs.declared.geometry.Orient.{Orient}
+use Rattle.statement_model.specs.Tokens.{Piece}
+use Rattle.statement_model.specs.Boundaries.{words}
+use Rattle.statement_model.specs.Form.{spell, Fits}
+use Rattle.def_grammar.specs.Components.{Component, clause, component_form}
+use Rattle.def_grammar.specs.Records.{component, Record}
+use Rattle.design_rules.specs.Edits.{component_at, placement_at, placed_text, placed_component, place_change, is_out}
+use Rattle.splicing_laws.specs.SplicingLaws.{AreTokens}
+use Rattle.edit_laws.specs.EntryLaws.{StandsAmong, IsWritten, IsChange}
+
+-- The bytes of a placement are the tokens of its clause without the +, and with a + before them all of its tokens.
+abbrev pub PlacementsAreTokens : Type 0
+PlacementsAreTokens = (x y : ℤ) (o : Orient)
+    → ((ps : List Piece) × AreTokens (placed_text x y o) ps × (spell clause (placement_at x y o) ≡ codes "+" ∷ words ps))
+    × ((ps : List Piece) × AreTokens (codes " + " ++ placed_text x y o) ps × (spell clause (placement_at x y o) ≡ words ps))
+
+-- A component that fits its form without an invalid number does so with a placement within the limits of a text.
+abbrev pub PlacedComponentsFit : Type 0
+PlacedComponentsFit = (c : Component) (x y : ℤ) (o : Orient)
+    → is_out x ≡ false
+    → is_out y ≡ false
+    → Fits component_form c []
+    → component_form.of.bad c [] ≡ None
+    → Fits component_form (placed_component x y o c) [] × (component_form.of.bad (placed_component x y o c) [] ≡ None)
+
+-- So placing a component is a change within its entry.
+abbrev pub PlacingsAreChanges : Type 0
+PlacingsAreChanges = (ps : List Piece) (c : Component) (x y : ℤ) (o : Orient)
+    → is_out x ≡ false
+    → is_out y ≡ false
+    → IsWritten (words ps) (component c)
+    → IsChange ps (component c) (place_change x y o c)
+
+-- The component that is found by its name stands among the statements, and has that name.
+abbrev pub ComponentsAreFound : Type 0
+ComponentsAreFound = (all : List (List Piece × Record)) (name : List ℕ) (ps : List Piece) (c : Component)
+    → component_at name all ≡ Some (ps, c)
+    → StandsAmong all ps (component c) × (c.name ≡ name)

@@ -1,6 +1,0 @@
-use Rattle.std.proofs.Common.{◌≡◌, ◌++◌, ◌∷◌, [], drop, flat_map}
-use Rattle.design_model.specs.Order.{texts}
-use Rattle.edit_script.proofs.answer.check_text.Given as goal
-
-abbrev pub invariant-loop-line : goal.invariant-loop-line
-invariant-loop-line g l = l.text.items ++ flat_map (λ b. b ++ 10 ∷ []) (texts (drop l.line-index l.line-items)) ≡ flat_map (λ b. b ++ 10 ∷ []) (texts l.line-items)

@@ -1,0 +1,6 @@
+use Rattle.std.proofs.Common.{inr, rules}
+use Rattle.edit_script.proofs.run.run.Goals as goal
+
+pub returns-in-Err-Memory-answer_all-clause-fault : goal.returns-in-Err-Memory-answer_all-clause-fault
+returns-in-Err-Memory-answer_all-clause-fault g c =
+    inr (c.in-Ok.library, c.as_slice.result.now, record { lefs_read = search rules; def_reads = search rules; script_is = search rules }, search rules)

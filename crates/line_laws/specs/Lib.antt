@@ -1,0 +1,4 @@
+pub mod Lines
+pub mod PairLaws
+pub mod ScaleLaws
+pub mod SortingLaws

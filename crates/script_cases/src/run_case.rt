@@ -1,0 +1,67 @@
+//! The run of a case.
+
+ghost use Rattle.std.specs.Prelude.{◌≡◌, ◌+◌, ◌==◌, ◌++◌, ◌∷◌, [], IfOk, decimal, if◌then◌else◌};
+ghost use Rattle.defedit_program.specs.Statuses.{status_of};
+
+use crate::case::Case;
+use crate::outputs::Outputs;
+use counted_devices::counted::Counted;
+use defedit_program::outcome::{Outcome, Stop};
+use edit_script::run::{RunFault, Tally, run};
+use std::alloc::{AllocError, Global};
+
+/// How a run that reaches its end ends the program.
+fn outcome_of(tally: Tally) -> Outcome
+    ensures { result ≡ (if tally.refused + tally.bad == 0 then Outcome.Done else Outcome.Refused) }
+{
+    if tally.refused == 0 && tally.bad == 0 {
+        Outcome::Done
+    } else {
+        Outcome::Refused
+    }
+}
+
+/// The exit status of a program that ends so, as a case writes it.
+fn status_text(alloc: Global, outcome: Outcome) -> Result<Vec<u8>, AllocError>
+    ensures { IfOk result (λ text. text.items ≡ decimal (status_of outcome) ++ 10 ∷ []) }
+{
+    let status = outcome.status();
+    Ok(format!(in alloc; "{status}\n")?.into_bytes())
+}
+
+/// What a program gives that stops at a fault, after its answers.
+fn stopped(alloc: Global, answers: Vec<u8>, fault: RunFault) -> Result<Outputs, AllocError> {
+    let stop = Stop::Run(fault);
+    Ok(Outputs {
+        status: status_text(alloc, stop.outcome())?,
+        answers,
+        errors: format!(in alloc; "{stop}\n")?.into_bytes(),
+        text: None,
+    })
+}
+
+/// Runs the script of a case over its texts. The outputs are those of the program: a text is written where the run
+/// reaches its end, and else a line on standard error says why not.
+pub fn outputs_of(alloc: Global, case: &Case) -> Result<Outputs, AllocError> {
+    let mut script = Counted::new(case.script.as_slice());
+    let mut answers = Counted::new(Vec::new(alloc));
+    let mut text = Counted::new(Vec::new(alloc));
+    let result = run(
+        alloc,
+        &case.lefs,
+        &case.def,
+        &mut script,
+        &mut answers,
+        &mut text,
+    );
+    let answers = answers.into_inner();
+    match result {
+        Ok(tally) => Ok(Outputs {
+            status: status_text(alloc, outcome_of(tally))?,
+            answers,
+            errors: Vec::new(alloc),
+            text: Some(text.into_inner()),
+        }),
+        Err(fault) => stopped(alloc, answers, fault),
+    }
+}

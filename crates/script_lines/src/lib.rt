@@ -1,0 +1,11 @@
+//! The lines of a script: what each asks, and the texts of its answers (own).
+//!
+//! Begin with `line::next_line` and `command::parse`; `answer` has the texts. The definitions are `Script` and `Output` of
+//! `design_rules`: a parsed line asks exactly what they say, and an answer is exactly the defined line. A command borrows
+//! its names from its line. Parsing takes no memory and refuses nothing: a line that is no command is `Command::Bad`.
+#![tactic(auto)]
+
+pub mod answer;
+pub mod command;
+pub mod escape;
+pub mod line;

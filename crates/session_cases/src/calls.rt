@@ -1,0 +1,71 @@
+//! Each call that takes memory, where there is enough.
+
+use crate::texts::{INVERTER, TWO_INVERTERS};
+use cell_library::lef_texts::LefTexts;
+use cell_library::library::Library;
+use counted_devices::counted::Counted;
+use design_model::edit::{Done, Edit, EditCode, EditRefusal};
+use design_model::geometry::Orient;
+use edit_session::session::Session;
+use std::test::Fail;
+
+#[test]
+fn lef_texts_are_kept_in_order(rt: HostRuntime) -> Result<(), Fail> {
+    let mut lefs = LefTexts::new(rt.alloc());
+    assert_eq!(rt; lefs.as_slice().len(), 0);
+    lefs.push(INVERTER)?;
+    lefs.push(b"")?;
+    let texts = lefs.as_slice();
+    assert_eq!(rt; texts.len(), 2);
+    assert_eq!(rt; texts[0].as_slice(), INVERTER);
+    assert_eq!(rt; texts[1].as_slice(), b"".as_slice());
+    Ok(())
+}
+
+#[test]
+fn a_library_has_the_first_macro_of_each_name(rt: HostRuntime) -> Result<(), Fail> {
+    let mut lefs = LefTexts::new(rt.alloc());
+    lefs.push(INVERTER)?;
+    lefs.push(b"MACRO INV SIZE 2 BY 3 ; END INV MACRO bare END bare")?;
+    let library = Library::read(rt.alloc(), &lefs)?;
+    let inverter = library.macro_of(b"INV").ok_or("no INV")?;
+    assert_eq!(rt; inverter.class.ok_or("no class")?, b"CORE".as_slice());
+    let extent = inverter.size.ok_or("no size")?;
+    assert_eq!(rt; extent.width, b"0.92".as_slice());
+    assert_eq!(rt; extent.height, b"2.72".as_slice());
+    let bare = library.macro_of(b"bare").ok_or("no bare")?;
+    assert!(rt; bare.class.is_none() && bare.size.is_none());
+    assert!(rt; library.macro_of(b"core").is_none());
+    Ok(())
+}
+
+#[test]
+fn a_session_from_its_opening_to_its_text(rt: HostRuntime) -> Result<(), Fail> {
+    let mut lefs = LefTexts::new(rt.alloc());
+    lefs.push(INVERTER)?;
+    let library = Library::read(rt.alloc(), &lefs)?;
+    let mut session = Session::open(rt.alloc(), &library, TWO_INVERTERS)?;
+    assert_eq!(rt; session.text_len(), 252);
+    let place = |x| Edit::Place {
+        component: b"u1",
+        x,
+        y: 0,
+        orient: Orient::N,
+    };
+    let done = Done { reads: 0, tests: 0 };
+    assert_eq!(rt; session.edit(&place(1)), Ok(done));
+    let out_of_range = EditRefusal::Refused(EditCode::Number);
+    assert_eq!(rt; session.edit(&place(2147483648)), Err(out_of_range));
+    assert_eq!(rt; session.text_len(), 271);
+    assert_eq!(rt; session.text_edit(179, 180, b"3"), Ok(done));
+    let lines = session.diagnostics()?;
+    assert_eq!(rt; lines.len(), 2);
+    let wanted: [&[u8]; 2] = [b"count COMPONENTS 3 2", b"overlap u1 u2"];
+    for (line, text) in lines.as_slice().iter().zip(wanted) {
+        assert_eq!(rt; line.text.as_slice(), text);
+    }
+    let mut out = Counted::new(Vec::new(rt.alloc()));
+    assert!(rt; session.write_to(&mut out).is_ok());
+    assert_eq!(rt; out.into_inner().len(), 271);
+    Ok(())
+}

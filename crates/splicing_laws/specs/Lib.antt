@@ -1,0 +1,3 @@
+pub mod KeepingLaws
+pub mod SplicingLaws
+pub mod WordLaws

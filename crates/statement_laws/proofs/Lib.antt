@@ -1,0 +1,10 @@
+pub mod BetweenTokens
+pub mod EndWords
+pub mod Folds
+pub mod JoinedTexts
+pub mod Reading
+pub mod StatementEnds
+pub mod StatementParts
+pub mod StatementLists
+pub mod Whole
+pub mod WordEnds

@@ -1,0 +1,80 @@
+-- The first statement, as a loop finds it.
+use Rattle.std.proofs.Common.{◌≡◌, ℕ, suc, ◌+◌, Bool, true, false, cond, List, [], ◌∷◌, ◌++◌, length, take, drop, refl, sym, ap, ◌∙◌, add-one, arith, Option, Some, Result, Ok, Err}
+use Rattle.design_model.specs.declared.fault.Fault.{Fault}
+use Rattle.design_model.specs.declared.fault.FaultCode.TheVariants.{Unfinished}
+use Rattle.statement_model.specs.Tokens.{Piece, Lexed, before, only_fault}
+use Rattle.statement_model.specs.Boundaries.{Ending, is_alone, is_last, last_of, is_whole, cut, statement_at, statement_from, unfinished}
+use Rattle.statement_reader.proofs.ListSteps.{take_more, drop_more}
+
+last_of_more : (q : Piece) (qs : List Piece) (p : Piece) → last_of q (qs ++ p ∷ []) ≡ p
+unfolding last_of
+last_of_more q [] p = refl
+last_of_more q (r ∷ qs) p = last_of_more r qs p
+
+-- the state of the loop: the statement so far, and what is left
+abbrev pub cut_from : (List ℕ → Ending) → Bool → Piece → List Piece → List Piece → Option (List Piece × List Piece)
+cut_from e done first mid ps = cond done (Some (first ∷ mid, ps)) (cut e (first ∷ mid) ps)
+
+module _ (e : List ℕ → Ending) where
+  pub whole_more : (first : Piece) (mid : List Piece) (p : Piece) → is_whole e (first ∷ (mid ++ p ∷ [])) ≡ is_last (e first.bytes) p.bytes
+  unfolding last_of
+  whole_more first [] p = refl
+  whole_more first (q ∷ qs) p = ap (λ (r : Piece). is_last (e first.bytes) r.bytes) (last_of_more q qs p)
+
+  pub cut_first : (first : Piece) (ps : List Piece) → cut e [] (first ∷ ps) ≡ cut_from e (is_alone (e first.bytes)) first [] ps
+  unfolding cut
+  cut_first first ps = refl
+
+  pub cut_next : (first p : Piece) (mid ps : List Piece) → cut e (first ∷ mid) (p ∷ ps) ≡ cut_from e (is_last (e first.bytes) p.bytes) first (mid ++ p ∷ []) ps
+  unfolding cut
+  cut_next first p mid ps = rw (whole_more first mid p) refl
+
+-- the loop: the first token, what was left after it, how many tokens came since, and what is left now
+pub record Going (e : List ℕ → Ending) (l : Lexed) (first : Piece) (q : Lexed) (done : Bool) (later : ℕ) (rest : Lexed) : Type 0 where
+  pub whole : l ≡ before (first ∷ []) q
+  pub left : drop later q.pieces ≡ rest.pieces
+  pub few : later + length rest.pieces ≡ length q.pieces
+  pub end : rest.end ≡ q.end
+  pub so_far : cut_from e done first (take later q.pieces) rest.pieces ≡ cut e [] (first ∷ q.pieces)
+
+module _ (e : List ℕ → Ending) where
+  pub going_start : (l q : Lexed) (first : Piece) → l ≡ before (first ∷ []) q → Going e l first q (is_alone (e first.bytes)) 0 q
+  going_start l q first h = record { whole = h; left = refl; few = omega arith; end = refl; so_far = sym (cut_first e first q.pieces) }
+
+  pub going_on : (l q rest next : Lexed) (first p : Piece) (later : ℕ) → Going e l first q false later rest → rest ≡ before (p ∷ []) next → Going e l first q (is_last (e first.bytes) p.bytes) (later + 1) next
+  going_on l q rest next first p later g h =
+      let pieces : rest.pieces ≡ p ∷ next.pieces = ap (λ (x : Lexed). x.pieces) h in
+      let end : rest.end ≡ next.end = ap (λ (x : Lexed). x.end) h in
+      let n : length rest.pieces ≡ suc (length next.pieces) = ap length pieces in
+      let few = g.few in
+      record {
+        whole = g.whole;
+        left = drop_more q.pieces later p next.pieces (g.left ∙ pieces);
+        few = omega arith;
+        end = sym end ∙ g.end;
+        so_far = rw (take_more q.pieces later p next.pieces (g.left ∙ pieces)) (sym (cut_next e first p (take later q.pieces) next.pieces) ∙ ap (cut e (first ∷ take later q.pieces)) (sym pieces) ∙ g.so_far);
+      }
+
+  pub going_done : (l q rest : Lexed) (first : Piece) (later : ℕ) → Going e l first q true later rest → statement_at e l ≡ Ok (Some (take (later + 1) l.pieces, rest))
+  unfolding statement_at
+  going_done l q rest first later g =
+      rw (g.whole, add-one)
+      (ap (λ x. statement_from x (before (first ∷ []) q)) (sym g.so_far) ∙ ap (λ (r : Result ℕ Fault). Ok (Some (first ∷ take later q.pieces, record { pieces = rest.pieces; end = r }))) (sym g.end))
+
+  -- none of the tokens ends the statement
+  none_left : (l q rest : Lexed) (first : Piece) (later : ℕ) → Going e l first q false later rest → rest.pieces ≡ [] → statement_at e l ≡ unfinished (first ∷ q.pieces) rest.end
+  unfolding statement_at cut
+  none_left l q rest first later g h =
+      rw (g.whole, g.end) (ap (λ x. statement_from x (before (first ∷ []) q)) (sym g.so_far ∙ ap (cut e (first ∷ take later q.pieces)) h))
+
+  pub going_fault : (l q rest : Lexed) (first : Piece) (later : ℕ) (f : Fault) → Going e l first q false later rest → rest ≡ only_fault f → statement_at e l ≡ Err f
+  going_fault l q rest first later f g h =
+      none_left l q rest first later g (ap (λ (x : Lexed). x.pieces) h) ∙ ap (unfinished (first ∷ q.pieces)) (ap (λ (x : Lexed). x.end) h)
+
+  pub going_ends : (l q rest : Lexed) (first : Piece) (later n : ℕ) → Going e l first q false later rest → rest ≡ record { pieces = []; end = Ok n } → statement_at e l ≡ Err (record { code = Unfinished; pos = first.pos })
+  going_ends l q rest first later n g h =
+      none_left l q rest first later g (ap (λ (x : Lexed). x.pieces) h) ∙ ap (unfinished (first ∷ q.pieces)) (ap (λ (x : Lexed). x.end) h)
+
+  pub at_fault : (l : Lexed) (f : Fault) → l ≡ only_fault f → statement_at e l ≡ Err f
+  unfolding statement_at cut
+  at_fault l f h = ap (statement_at e) h

@@ -1,0 +1,5 @@
+pub mod Endings
+pub mod Located
+pub mod PartViews
+pub mod ReadingLaws
+pub mod StatementViews

@@ -1,0 +1,127 @@
+//! Parts of a statement that are repeated, read one at a time from its text.
+
+ghost use Rattle.std.specs.Prelude.{◌≡◌, ◌<◌, ℕ, Bool, List, ◌++◌, length, take, Option, Some, IfSome, MatchOption};
+ghost use Rattle.form_meanings.specs.Words.{Rest, Gives, next_passes};
+ghost use Rattle.form_meanings.specs.Meaning.{read_many, items};
+ghost use Rattle.lefdef_tokens.specs.Views.{pieces_of, rest_of, words_of, IsLater};
+ghost use Rattle.statement_reader.specs.PartViews.{IsFirst, IsStep};
+
+use lefdef_tokens::{Cursor, TokenRun};
+use std::marker::PhantomData;
+
+/// A part that can be repeated: `reads` says what it means, `test` by which words it begins, and `spells` how it is written.
+/// It lends from its text what `lent` says.
+pub trait Part<'t>: Sized + Copy + Drop {
+    ghost Value: { Type 0 };
+
+    ghost view: { Self → Value };
+
+    ghost lent: { List ℕ → Self → Type 0 };
+
+    ghost test: { List ℕ → Bool };
+
+    ghost reads: { Rest → Option (Value × Rest) };
+
+    ghost spells: { Value → List (List ℕ) };
+
+    /// Whether a word begins one.
+    fn begins(word: &[u8]) -> bool
+        ensures { result ≡ test word.now };
+
+    /// The part that is next, and what comes after it.
+    fn read(cursor: Cursor<'t>) -> Option<(Self, Cursor<'t>)>
+        ensures gives { Gives (λ x. (view x.0, rest_of x.1)) result (reads (rest_of cursor.entry)) }
+        ensures later { IfSome result (λ x. IsLater cursor.entry x.1) }
+        ensures lent { IfSome result (λ x. lent cursor.entry.tokens.text.now x.0) };
+
+    ghost spelled: { (r : Rest) (p : Value × Rest) → reads r ≡ Some p → r.words ≡ spells p.0 ++ p.1.words };
+}
+
+/// Parts that are left, at most `most` of them. They are read when they are asked for, and take no memory.
+#[derive(Clone, Copy)]
+pub struct Parts<'t, P> {
+    pub cursor: Cursor<'t>,
+    pub most: usize,
+    of: PhantomData<P>,
+}
+
+/// Whether a part is next.
+fn next_begins<'t, P: Part<'t>>(cursor: Cursor<'t>) -> bool
+    ensures { result ≡ next_passes P.test (rest_of cursor.entry) }
+{
+    match cursor.peek() {
+        Some(token) => P::begins(token.bytes),
+        None => false,
+    }
+}
+
+/// The parts that come next, and what comes after them; or `None` where one of them has no form.
+pub fn read_parts<'t, P: Part<'t>>(cursor: Cursor<'t>) -> Option<(Parts<'t, P>, Cursor<'t>)>
+    ensures gives { Gives (λ x. (items x.0.most P.test P.reads (rest_of x.0.cursor), rest_of x.1)) result (read_many P.test P.reads (rest_of cursor.entry)) }
+    ensures later { IfSome result (λ x. IsLater cursor.entry x.1) }
+    ensures lent { IfSome result (λ x. x.0.cursor.tokens.text.now ≡ cursor.entry.tokens.text.now) }
+{
+    let count = cursor.len();
+    let all = Parts {
+        cursor,
+        most: count,
+        of: PhantomData,
+    };
+    let mut left = cursor;
+    for _ in 0..count {
+        if !next_begins::<P>(left) {
+            return Some((all, left));
+        }
+        let (_, later) = P::read(left)?;
+        left = later;
+    }
+    if next_begins::<P>(left) {
+        None
+    } else {
+        Some((all, left))
+    }
+}
+
+impl<'t, P: Part<'t>> Parts<'t, P> {
+    /// The next part; at the end `None`, and nothing changes.
+    pub fn next(&mut self) -> Option<P>
+        ensures step { IsStep P.view P.test P.reads self.old.most (rest_of self.old.cursor) result self.new.most (rest_of self.new.cursor) }
+        ensures reads { IfSome result (λ x. P.reads (rest_of self.old.cursor) ≡ Some (P.view x, rest_of self.new.cursor)) }
+        ensures fewer { MatchOption result ((self.new.most ≡ self.old.most) × (self.new.cursor ≡ self.old.cursor)) (λ x. self.new.most < self.old.most) }
+        ensures later { IsLater self.old.cursor self.new.cursor }
+        ensures lent { IfSome result (λ x. P.lent self.old.cursor.tokens.text.now x) }
+    {
+        if self.most == 0 || !next_begins::<P>(self.cursor) {
+            return None;
+        }
+        let (part, later) = P::read(self.cursor)?;
+        self.cursor = later;
+        self.most -= 1;
+        Some(part)
+    }
+
+    /// The next part, and its tokens; at the end `None`, and nothing changes.
+    pub fn next_with_tokens(&mut self) -> Option<(P, TokenRun<'t>)>
+        ensures step { IsStep (λ x. P.view x.0) P.test P.reads self.old.most (rest_of self.old.cursor) result self.new.most (rest_of self.new.cursor) }
+        ensures fewer { MatchOption result ((self.new.most ≡ self.old.most) × (self.new.cursor ≡ self.old.cursor)) (λ x. self.new.most < self.old.most) }
+        ensures tokens { IfSome result (λ x. words_of x.1 ≡ P.spells (P.view x.0)) }
+        ensures first { IfSome result (λ x. pieces_of x.1 ≡ take (length (words_of x.1)) (pieces_of self.old.cursor.tokens)) }
+        ensures text { IfSome result (λ x. x.1.text.now ≡ self.old.cursor.tokens.text.now) }
+        ensures lent { IfSome result (λ x. P.lent self.old.cursor.tokens.text.now x.0) }
+        ensures later { IsLater self.old.cursor self.new.cursor }
+    {
+        let before = self.cursor;
+        let part = self.next()?;
+        let count = before.len() - self.cursor.len();
+        Some((part, before.tokens.front(count)))
+    }
+
+    /// The next part, which stays the next.
+    pub fn peek(self) -> Option<P>
+        ensures first { IsFirst P.view P.test P.reads self.entry.most (rest_of self.entry.cursor) result }
+        ensures lent { IfSome result (λ x. P.lent self.entry.cursor.tokens.text.now x) }
+    {
+        let mut parts = self;
+        parts.next()
+    }
+}
