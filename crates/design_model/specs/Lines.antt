@@ -1,7 +1,8 @@
 -- Diagnostics as lines (own).
-use Rattle.std.specs.Prelude.{ℕ, List, [], ◌∷◌, ◌++◌, map, flat_map, ℤ, codes}
+use Rattle.std.specs.Prelude.{◌≡◌, ℕ, List, [], ◌∷◌, ◌++◌, map, flat_map, ℤ, codes}
 use Rattle.std.specs.Fmt.{signed_decimal}
 use Rattle.design_model.specs.declared.diagnostic.Diag.{Diag}
+use Rattle.design_model.specs.declared.diagnostic.DiagLine.{DiagLine}
 use Rattle.design_model.specs.declared.diagnostic.DiagKind.{DiagKind}
 use Rattle.design_model.specs.declared.diagnostic.DiagKind.TheVariants.{Count, Overlap}
 
@@ -17,3 +18,13 @@ line_text kind words nums = (kind_word kind ++ flat_map (λ w. 32 ∷ w) words) 
 -- the line of a report
 abbrev pub diag_text : {A : Type 0} → Diag A → List ℕ
 diag_text d = line_text d.kind (map (λ w. w.now) d.words) d.nums
+
+-- a text is a line of this kind
+pub record IsLineOf (kind : DiagKind) (text : List ℕ) : Type 0 where
+  pub words : List (List ℕ)
+  pub nums : List ℤ
+  pub is : text ≡ line_text kind words nums
+
+-- a printed line is of the kind that it has
+abbrev pub IsOfItsKind : {A : Type 0} → DiagLine A → Type 0
+IsOfItsKind l = IsLineOf l.kind l.text

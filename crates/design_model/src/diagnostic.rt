@@ -1,6 +1,6 @@
 //! Lines of a report on a design.
 
-ghost use Rattle.std.specs.Prelude.{◌≡◌};
+ghost use Rattle.std.specs.Prelude.{◌≡◌, IsPermutation};
 ghost use Rattle.design_model.specs.Lines.{kind_word};
 ghost use Rattle.design_model.specs.Order.{texts, sorted_by_bytes};
 
@@ -46,9 +46,10 @@ pub struct DiagLine<A: Allocator = Global> {
 /// The lines of a report.
 pub type DiagLines<A = Global> = Sequence<DiagLine<A>, A>;
 
-/// Puts lines into the order of their bytes. It takes no memory.
+/// Puts lines into the order of their bytes; each keeps its kind. It takes no memory.
 pub fn sort_lines<A: Allocator>(lines: &mut Vec<DiagLine<A>, A>)
-    ensures { texts lines.new.items ≡ sorted_by_bytes (texts lines.old.items) }
+    ensures sorted { texts lines.new.items ≡ sorted_by_bytes (texts lines.old.items) }
+    ensures same { IsPermutation lines.old.items lines.new.items }
 {
     lines.sort_unstable_by(|a, b| a.text.as_slice().cmp(b.text.as_slice()))
 }

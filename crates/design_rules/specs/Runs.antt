@@ -36,14 +36,19 @@ text_outcome old a b put =
     if in_range old a b then (if is_long (new_text old a b put) then Err (Refused TooLong) else if_it_reads (new_text old a b put) (read_def (new_text old a b put)))
     else Err (Refused Range)
 
+-- no statement and no pair of rectangles is counted yet
+pub record IsUncounted (done : Done) : Type 0 where
+  pub reads : done.reads ≡ 0
+  pub tests : done.tests ≡ 0
+
 -- An edit may be answered so, and leave the text new: one that is refused leaves it as it was, and want of memory may
 -- stand in place of any answer but a text edit's of its range and length.
 abbrev pub Answers : Library → List ℕ → Step → Result Done EditRefusal → List ℕ → Type 0
-Answers library old (design_edit change) (Ok done) new = (cuts : List Cut) × Makes library old change (Ok cuts) × (new ≡ with_cuts cuts old)
+Answers library old (design_edit change) (Ok done) new = (cuts : List Cut) × Makes library old change (Ok cuts) × (new ≡ with_cuts cuts old) × IsUncounted done
 Answers library old (design_edit change) (Err (Refused code)) new = (new ≡ old) × Makes library old change (Err code)
 Answers library old (design_edit change) (Err (Unreadable fault)) new = ⊥
 Answers library old (design_edit change) (Err Memory) new = new ≡ old
-Answers library old (text_edit a b put) (Ok done) new = text_outcome old a b put ≡ Ok new
+Answers library old (text_edit a b put) (Ok done) new = (text_outcome old a b put ≡ Ok new) × IsUncounted done
 Answers library old (text_edit a b put) (Err Memory) new = (new ≡ old) × (a ≤ b) × (b ≤ length old) × (is_long (new_text old a b put) ≡ false)
 Answers library old (text_edit a b put) (Err refusal) new = (new ≡ old) × (text_outcome old a b put ≡ Err refusal)
 

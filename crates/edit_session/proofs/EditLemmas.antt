@@ -11,7 +11,8 @@ use Rattle.def_grammar.specs.Records.{Record, read_def}
 use Rattle.lef_grammar.specs.Library.{Library}
 use Rattle.design_rules.specs.Edits.{Change, applied}
 use Rattle.design_rules.specs.Runs.{Makes}
-use Rattle.edit_laws.specs.EditLaws.{EditsAreApplied}
+use Rattle.edit_laws.specs.EditLaws.{EditsAreApplied, EditsKeepTheRest}
+use Rattle.edit_session.specs.Sessions.{ReadsEdited, KeepsTheRest}
 
 pub is_read : (r : Result (List Record) Fault) (design : List Record) → r ≡ Ok design → IsOk r
 is_read (Ok d) design e = refl
@@ -25,7 +26,13 @@ read_fits text reads = ⊎_elim
     (λ (short : nat_lt MAX_TEXT (length text) ≡ false). grind (arith, nat_tests))
     (cases_Bool (nat_lt MAX_TEXT (length text)))
 
--- the text of an edit that is accepted reads
-pub made_reads : EditsAreApplied → (library : Library) (text : List ℕ) (change : Change) (cuts : List Cut) → Makes library text change (Ok cuts) → IsOk (read_def (with_cuts cuts text))
-made_reads applied_so library text change cuts (design, reads, made) =
-    is_read (read_def (with_cuts cuts text)) (applied change design) (applied_so library text design change cuts reads made)
+-- the text of an edit that is accepted reads as the edited design
+pub made_applied : EditsAreApplied → (library : Library) (text : List ℕ) (change : Change) (cuts : List Cut) → Makes library text change (Ok cuts) → ReadsEdited text change (with_cuts cuts text)
+made_applied applied_so library text change cuts (design, reads, made) = (design, reads, applied_so library text design change cuts reads made)
+
+-- and keeps the bytes around its one cut
+pub made_keeps : EditsKeepTheRest → (library : Library) (text : List ℕ) (change : Change) (cuts : List Cut) → Makes library text change (Ok cuts) → KeepsTheRest library text change (with_cuts cuts text)
+made_keeps keeps_so library text change cuts (design, reads, made) = (cuts, (design, reads, made), refl, keeps_so library text design change cuts reads made)
+
+pub edited_reads : (old : List ℕ) (change : Change) (new : List ℕ) → ReadsEdited old change new → IsOk (read_def new)
+edited_reads old change new (design, reads, again) = is_read (read_def new) (applied change design) again

@@ -1,17 +1,20 @@
 -- What the calls of a session say.
 use Rattle.std.specs.Prelude.{◌≡◌, ◌≤◌, ℕ, false, List, length, Result, Ok, Err, IsOk}
+use Rattle.std.specs.List.{All}
 use Rattle.design_model.specs.declared.diagnostic.DiagLine.{DiagLine}
 use Rattle.design_model.specs.declared.edit.EditRefusal.{EditRefusal}
 use Rattle.design_model.specs.declared.edit.EditRefusal.TheVariants.{Refused, Unreadable, Memory}
 use Rattle.design_model.specs.declared.fault.ReadError as error
 use Rattle.design_model.specs.declared.fault.ReadError.{ReadError}
+use Rattle.design_model.specs.Lines.{IsOfItsKind}
 use Rattle.design_model.specs.Order.{texts}
 use Rattle.statement_model.specs.Cuts.{Cut, with_cuts}
 use Rattle.def_grammar.specs.Records.{Record, read_def}
 use Rattle.lef_grammar.specs.Library.{Library}
 use Rattle.design_rules.specs.Diagnostics.{diagnostics}
-use Rattle.design_rules.specs.Edits.{Change, is_long}
+use Rattle.design_rules.specs.Edits.{Change, applied, is_long}
 use Rattle.design_rules.specs.Runs.{Makes, new_text, text_outcome}
+use Rattle.splicing_laws.specs.KeepingLaws.{IsOneCut}
 
 -- what opening a text says: it reads, or has this fault; refused memory says nothing
 abbrev pub OpensAs : {S : Type 0} → List ℕ → Result S ReadError → Type 0
@@ -23,6 +26,10 @@ OpensAs text (Err error.TheVariants.Memory) = Unit {0}
 abbrev pub Reports : {A : Type 0} → Library → List ℕ → List (DiagLine A) → Type 0
 Reports library text lines = (design : List Record) × (read_def text ≡ Ok design) × (texts lines ≡ diagnostics library design)
 
+-- each printed line is of the kind that it has
+pub record HaveTheirKinds {A : Type 0} (lines : List (DiagLine A)) : Type 0 where
+  pub each : All IsOfItsKind lines
+
 -- what making the text after an edit says: it is that of the edit's cuts, or refused as the edit is; refused memory says
 -- nothing
 abbrev pub MakesText : {V : Type 0} → (V → List ℕ) → Library → List ℕ → Change → Result V EditRefusal → Type 0
@@ -30,6 +37,14 @@ MakesText items library old change (Ok v) = (cuts : List Cut) × Makes library o
 MakesText items library old change (Err (Refused code)) = Makes library old change (Err code)
 MakesText items library old change (Err (Unreadable fault)) = ⊥
 MakesText items library old change (Err Memory) = Unit {0}
+
+-- the text after an accepted edit reads as the edited design
+abbrev pub ReadsEdited : List ℕ → Change → List ℕ → Type 0
+ReadsEdited old change new = (design : List Record) × (read_def old ≡ Ok design) × (read_def new ≡ Ok (applied change design))
+
+-- and it has all bytes of the text before, but those of the one cut that the edit makes
+abbrev pub KeepsTheRest : Library → List ℕ → Change → List ℕ → Type 0
+KeepsTheRest library old change new = (cuts : List Cut) × Makes library old change (Ok cuts) × (new ≡ with_cuts cuts old) × IsOneCut old cuts
 
 -- the same of bytes in the place of others: refused memory comes only where the range and the length are good
 abbrev pub ReplacesText : {V : Type 0} → (V → List ℕ) → List ℕ → ℕ → ℕ → List ℕ → Result V EditRefusal → Type 0

@@ -1,10 +1,10 @@
 //! Reports as lines.
 
 ghost use Rattle.std.specs.Prelude.{◌≡◌, ◌++◌, IfOk, IsOk, OnOk, map};
-ghost use Rattle.design_model.specs.Lines.{diag_text};
+ghost use Rattle.design_model.specs.Lines.{diag_text, IsOfItsKind};
 ghost use Rattle.design_model.specs.Order.{texts};
 ghost use Rattle.def_grammar.specs.Records.{read_def};
-ghost use Rattle.edit_session.specs.Sessions.{Reports};
+ghost use Rattle.edit_session.specs.Sessions.{HaveTheirKinds, Reports};
 
 use cell_library::library::Library;
 use def_reader::records::statements_of;
@@ -20,7 +20,8 @@ use unit_numbers::print;
 
 /// A report as a line: its kind, its words and its numbers, parted by spaces.
 fn line_of<A: Allocator + Copy>(alloc: A, diag: &Diag<'_, A>) -> Result<DiagLine<A>, AllocError>
-    ensures { IfOk result (λ l. l.text ≡ diag_text diag.now) }
+    ensures text { IfOk result (λ l. l.text ≡ diag_text diag.now) }
+    ensures kind { IfOk result (λ l. IsOfItsKind l) }
 {
     let mut text = Vec::from_slice(alloc, diag.kind.word())?;
     for word in diag.words.as_slice() {
@@ -43,7 +44,8 @@ fn push_lines<A: Allocator + Copy>(
     lines: &mut Vec<DiagLine<A>, A>,
     reports: &[Diag<'_, A>],
 ) -> Result<(), AllocError>
-    ensures { OnOk result (texts lines.new.items ≡ texts lines.old.items ++ map diag_text reports.now) }
+    ensures texts { OnOk result (texts lines.new.items ≡ texts lines.old.items ++ map diag_text reports.now) }
+    ensures kinds { OnOk result (HaveTheirKinds lines.old.items → HaveTheirKinds lines.new.items) }
 {
     let alloc = *lines.allocator();
     lines.reserve(reports.len())?;
@@ -60,7 +62,8 @@ pub fn report<A: Allocator + Copy>(
     text: &[u8],
 ) -> Result<DiagLines<A>, AllocError>
     requires { IsOk (read_def text.now) }
-    ensures { IfOk result (λ lines. Reports library.now text.now lines) }
+    ensures lines { IfOk result (λ lines. Reports library.now text.now lines) }
+    ensures kinds { IfOk result (λ lines. HaveTheirKinds lines) }
 {
     scales_are_good();
     let records = statements_of(alloc, text)?;

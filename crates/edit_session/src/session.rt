@@ -6,7 +6,7 @@ ghost use Rattle.counted_devices.specs.Known.{WritesPart};
 ghost use Rattle.def_grammar.specs.Records.{read_def};
 ghost use Rattle.design_rules.specs.Edits.{change_of};
 ghost use Rattle.design_rules.specs.Runs.{Answers, design_edit, text_edit};
-ghost use Rattle.edit_session.specs.Sessions.{MakesText, OpensAs, ReplacesText, Reports};
+ghost use Rattle.edit_session.specs.Sessions.{HaveTheirKinds, KeepsTheRest, MakesText, OpensAs, ReadsEdited, ReplacesText, Reports};
 
 use crate::report::report;
 use cell_library::library::Library;
@@ -19,7 +19,7 @@ use design_model::MAX_TEXT;
 use design_model::diagnostic::DiagLines;
 use design_model::edit::{Done, Edit, EditCode, EditRefusal};
 use design_model::fault::ReadError;
-use edit_laws::editing::edits_are_applied;
+use edit_laws::editing::{edits_are_applied, edits_keep_the_rest};
 use std::alloc::{AllocError, Allocator, Global};
 use std::io::Write;
 use std::marker::Model;
@@ -63,6 +63,8 @@ impl<'s, 'l, A: Allocator + Copy> Session<'s, 'l, A> {
     /// Makes an edit, or refuses it and leaves the text as it was.
     pub fn edit(&mut self, edit: &Edit<'_>) -> Result<Done, EditRefusal>
         ensures answer { Answers self.old.library self.old.text (design_edit (change_of edit.now)) result self.new.text }
+        ensures applied { IfOk result (λ _. ReadsEdited self.old.text (change_of edit.now) self.new.text) }
+        ensures keeps { IfOk result (λ _. KeepsTheRest self.old.library self.old.text (change_of edit.now) self.new.text) }
         ensures library { self.new.library ≡ self.old.library }
         ensures reads { IsOk (read_def self.new.text) }
     {
@@ -84,7 +86,8 @@ impl<'s, 'l, A: Allocator + Copy> Session<'s, 'l, A> {
 
     /// All diagnostics of the present text, in the order of their bytes, repeats kept.
     pub fn diagnostics(&self) -> Result<DiagLines<A>, AllocError>
-        ensures { IfOk result (λ lines. Reports self.now.library self.now.text lines) }
+        ensures lines { IfOk result (λ lines. Reports self.now.library self.now.text lines) }
+        ensures kinds { IfOk result (λ lines. HaveTheirKinds lines) }
     {
         report(*self.text.allocator(), self.library, &self.text)
     }
@@ -118,10 +121,13 @@ fn edited_text<A: Allocator + Copy>(
     requires fits { length text.now ≤ MAX_TEXT }
     requires reads { IsOk (read_def text.now) }
     ensures makes { MakesText (λ v. v.items) library.now text.now (change_of edit.now) result }
+    ensures applied { IfOk result (λ v. ReadsEdited text.now (change_of edit.now) v.items) }
+    ensures keeps { IfOk result (λ v. KeepsTheRest library.now text.now (change_of edit.now) v.items) }
     ensures fits { IfOk result (λ v. length v.items ≤ MAX_TEXT) }
     ensures reads { IfOk result (λ v. IsOk (read_def v.items)) }
 {
     edits_are_applied();
+    edits_keep_the_rest();
     let splices = splices(alloc, library, text, edit)?;
     let new = spliced(alloc, text, splices.as_slice())?;
     Ok(new)

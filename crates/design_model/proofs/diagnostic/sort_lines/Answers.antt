@@ -8,8 +8,8 @@ use Rattle.design_model.proofs.Sorting.{IsSortedBy-map}
 use Rattle.design_model.proofs.SortUnique.{sorted_is}
 use Rattle.design_model.proofs.diagnostic.sort_lines.Goals as goal
 
-pub returns : goal.returns
-returns g c =
+pub returns-clause-sorted : goal.returns-clause-sorted
+returns-clause-sorted g c =
     let text = λ (l : DiagLine g.row.A.Denot). l.text in
     let up = c.sort_unstable_by.ensures.sorted _ (ranks_by nat_list_cmp_total text) (answers_always _ _ _ (λ f a r f' k. search rules)) in
     sorted_is _ _ (record {
