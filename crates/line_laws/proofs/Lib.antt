@@ -4,3 +4,4 @@ pub mod Overlaps
 pub mod PairSums
 pub mod SameLists
 pub mod SortedLines
+pub mod ToldKinds

@@ -1,3 +1,4 @@
+pub mod KindLaws
 pub mod Lines
 pub mod PairLaws
 pub mod ScaleLaws
