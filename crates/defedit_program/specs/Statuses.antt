@@ -1,5 +1,6 @@
 -- How the program ends, and its exit statuses.
-use Rattle.std.specs.Prelude.{ℕ}
+use Rattle.std.specs.Prelude.{ℕ, ◌+◌, ◌==◌, if◌then◌else◌}
+use Rattle.design_rules.specs.Output.{Counts}
 use Rattle.edit_script.specs.declared.run.RunFault.{RunFault}
 use Rattle.edit_script.specs.declared.run.RunFault.TheVariants as faults
 use Rattle.defedit_program.specs.declared.outcome.Outcome.{Outcome}
@@ -14,6 +15,10 @@ status_of Usage = 2
 status_of Fault = 3
 status_of Device = 4
 status_of Memory = 5
+
+-- how a run to its end ends the program: done where no line was refused or bad
+abbrev pub whole_ends : Counts → Outcome
+whole_ends t = if t.refused + t.bad == 0 then Done else Refused
 
 -- how a run that stopped ends the program
 abbrev pub run_ends : RunFault → Outcome

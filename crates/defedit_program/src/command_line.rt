@@ -53,6 +53,3 @@ pub fn read_request<'a>(alloc: Global, words: &'a [&'a str]) -> Result<Request<'
         lefs: paths,
     })
 }
-
-#[cfg(test)]
-mod tests;

@@ -1,7 +1,8 @@
 //! The program `defedit` over any runtime: its command line, its files, and how it ends.
 #![tactic(auto)]
 
-mod command_line;
+pub mod command_line;
+pub mod ending;
 mod files;
 pub mod outcome;
 pub mod program;

@@ -1,10 +1,11 @@
 //! How the program ends, and what it says then.
 
 ghost use Rattle.std.specs.Prelude.{◌≡◌};
-ghost use Rattle.defedit_program.specs.Statuses.{status_of, ends};
+ghost use Rattle.edit_script.specs.Answered.{counts_of};
+ghost use Rattle.defedit_program.specs.Statuses.{ends, status_of, whole_ends};
 
 use design_model::fault::Fault;
-use edit_script::run::RunFault;
+use edit_script::run::{RunFault, Tally};
 use std::fmt;
 
 /// How the program ends.
@@ -25,6 +26,17 @@ pub enum Outcome {
 }
 
 impl Outcome {
+    /// How a run to its end ends the program.
+    pub fn of_tally(tally: Tally) -> Outcome
+        ensures { result ≡ whole_ends (counts_of tally) }
+    {
+        if tally.refused == 0 && tally.bad == 0 {
+            Outcome::Done
+        } else {
+            Outcome::Refused
+        }
+    }
+
     /// The exit status.
     pub fn status(self) -> u8
         ensures { result ≡ status_of self }
@@ -110,6 +122,3 @@ impl<'a> fmt::Display for Stop<'a> {
         }
     }
 }
-
-#[cfg(test)]
-mod tests;

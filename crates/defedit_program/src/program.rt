@@ -1,13 +1,13 @@
 //! The program: its command line, its files and what it says on standard error.
 
 use crate::command_line::{Request, read_request};
+use crate::ending::run_to_end;
 use crate::files::read_text;
 use crate::outcome::{Outcome, Stop};
 use cell_library::lef_texts::LefTexts;
 use clap::error::ErrorKind;
 use counted_devices::counted::Counted;
 use counted_devices::input::InputError;
-use edit_script::run::{Tally, run};
 use std::alloc::Global;
 use std::io::Write;
 use std::rt::{Env, Files};
@@ -18,15 +18,6 @@ fn unreadable(path: &str, error: InputError) -> Stop<'_> {
     match error {
         InputError::Memory => Stop::Memory,
         InputError::Read | InputError::TooLong | InputError::Endless => Stop::CannotRead(path),
-    }
-}
-
-/// How a whole run ends the program.
-fn counted(tally: Tally) -> Outcome {
-    if tally.refused == 0 && tally.bad == 0 {
-        Outcome::Done
-    } else {
-        Outcome::Refused
     }
 }
 
@@ -61,20 +52,12 @@ fn run_request<'a, R: Files + Print>(
     };
     let mut script = Counted::new(script);
     let mut out = Counted::new(io::writer(rt));
-    let mut text = Counted::new(Vec::new(alloc));
-    let tally = match run(
-        alloc,
-        &lefs,
-        def.as_slice(),
-        &mut script,
-        &mut out,
-        &mut text,
-    ) {
-        Ok(tally) => tally,
+    let ended = match run_to_end(alloc, &lefs, def.as_slice(), &mut script, &mut out) {
+        Ok(ended) => ended,
         Err(fault) => return Err(Stop::Run(fault)),
     };
-    write_text(rt, request.out, text.into_inner().as_slice())?;
-    Ok(counted(tally))
+    write_text(rt, request.out, ended.text.as_slice())?;
+    Ok(ended.outcome)
 }
 
 /// Makes the output file.

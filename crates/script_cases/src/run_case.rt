@@ -1,25 +1,15 @@
 //! The run of a case.
 
-ghost use Rattle.std.specs.Prelude.{◌≡◌, ◌+◌, ◌==◌, ◌++◌, ◌∷◌, [], IfOk, decimal, if◌then◌else◌};
+ghost use Rattle.std.specs.Prelude.{◌≡◌, ◌++◌, ◌∷◌, [], IfOk, decimal};
 ghost use Rattle.defedit_program.specs.Statuses.{status_of};
 
 use crate::case::Case;
 use crate::outputs::Outputs;
 use counted_devices::counted::Counted;
+use defedit_program::ending::run_to_end;
 use defedit_program::outcome::{Outcome, Stop};
-use edit_script::run::{RunFault, Tally, run};
+use edit_script::run::RunFault;
 use std::alloc::{AllocError, Global};
-
-/// How a run that reaches its end ends the program.
-fn outcome_of(tally: Tally) -> Outcome
-    ensures { result ≡ (if tally.refused + tally.bad == 0 then Outcome.Done else Outcome.Refused) }
-{
-    if tally.refused == 0 && tally.bad == 0 {
-        Outcome::Done
-    } else {
-        Outcome::Refused
-    }
-}
 
 /// The exit status of a program that ends so, as a case writes it.
 fn status_text(alloc: Global, outcome: Outcome) -> Result<Vec<u8>, AllocError>
@@ -45,22 +35,14 @@ fn stopped(alloc: Global, answers: Vec<u8>, fault: RunFault) -> Result<Outputs, 
 pub fn outputs_of(alloc: Global, case: &Case) -> Result<Outputs, AllocError> {
     let mut script = Counted::new(case.script.as_slice());
     let mut answers = Counted::new(Vec::new(alloc));
-    let mut text = Counted::new(Vec::new(alloc));
-    let result = run(
-        alloc,
-        &case.lefs,
-        &case.def,
-        &mut script,
-        &mut answers,
-        &mut text,
-    );
+    let result = run_to_end(alloc, &case.lefs, &case.def, &mut script, &mut answers);
     let answers = answers.into_inner();
     match result {
-        Ok(tally) => Ok(Outputs {
-            status: status_text(alloc, outcome_of(tally))?,
+        Ok(ended) => Ok(Outputs {
+            status: status_text(alloc, ended.outcome)?,
             answers,
             errors: Vec::new(alloc),
-            text: Some(text.into_inner()),
+            text: Some(ended.text),
         }),
         Err(fault) => stopped(alloc, answers, fault),
     }

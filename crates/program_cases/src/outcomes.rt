@@ -1,4 +1,6 @@
-use super::{Outcome, Stop};
+//! Statuses, and the lines on standard error.
+
+use defedit_program::outcome::{Outcome, Stop};
 use design_model::fault::{Fault, FaultCode};
 use edit_script::run::RunFault;
 use std::test::Fail;

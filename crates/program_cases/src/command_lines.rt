@@ -1,5 +1,7 @@
-use super::read_request;
+//! Command lines, and what clap says of those that are none.
+
 use clap::error::ErrorKind;
+use defedit_program::command_line::read_request;
 use std::alloc::{AllocError, Global};
 use std::test::Fail;
 
