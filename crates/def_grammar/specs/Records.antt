@@ -1,4 +1,5 @@
 -- What the statements of a DEF text say, and the grammar of a text (LEF/DEF 5.8 Language Reference, "DEF Syntax").
+use Rattle.std.specs.Option.{option_to_list}
 use Rattle.std.specs.Prelude.{◌≡◌, ◌⊎◌, ℕ, Bool, true, false, ◌||◌, List, [], ◌∷◌, Option, Some, None, Result, codes, if◌then◌else◌, refl}
 use Rattle.std.proofs.Common.{inl, inr}
 use Rattle.design_model.specs.declared.fault.Fault.{Fault}
@@ -15,7 +16,7 @@ use Rattle.statement_model.specs.Boundaries.{Ending, alone, with_next, up_to}
 use Rattle.statement_model.specs.Form.{Form, one_of, no_form, left, right, seen, alt, ◌▸◌}
 use Rattle.statement_model.specs.Grammar.{Key, Grammar}
 use Rattle.statement_model.specs.Reading.{is_among, read_text}
-use Rattle.def_grammar.specs.Top.{TopRecord, units, end_design, header, kept, top_statement}
+use Rattle.def_grammar.specs.Top.{TopRecord, units, header, plain, ends_design, once, top_statement}
 use Rattle.def_grammar.specs.Components.{Component, component_form}
 
 -- an entry of a section: a case for each section that is read
@@ -96,7 +97,7 @@ def_ending w =
 
 abbrev pub mode_after : Mode → Record → Mode
 mode_after m (top (header s n)) = In s
-mode_after m (top end_design) = After
+mode_after m (top (plain p)) = if ends_design (plain p) then After else m
 mode_after m (end_section s) = Top
 mode_after m _ = m
 
@@ -104,19 +105,14 @@ abbrev pub is_after : Mode → Bool
 is_after After = true
 is_after _ = false
 
--- a statement that a text has once, by its first word
-abbrev pub kept_key : List ℕ → Key
-kept_key w = if is_word (codes "DIEAREA") w then w ∷ [] else []
-
 abbrev pub entry_key : Section → Option (List ℕ) → Key
 entry_key s (Some name) = section_word s ∷ name ∷ []
 entry_key s None = []
 
 -- what of a record a text has once: UNITS, DIEAREA, each section, and each name in its section
 abbrev pub key_of : Record → Key
-key_of (top (units n)) = codes "UNITS" ∷ []
 key_of (top (header s n)) = section_word s ∷ []
-key_of (top (kept w ws)) = kept_key w
+key_of (top (plain p)) = option_to_list (once (plain p))
 key_of (entry e) = entry_key (section_of e) (name_of e)
 key_of _ = []
 

@@ -1,5 +1,5 @@
 -- Statements outside of all sections (LEF/DEF 5.8 Language Reference, "DEF Syntax").
-use Rattle.std.specs.Prelude.{◌⊎◌, ℕ, Bool, not, ◌||◌, List, [], ◌∷◌, codes}
+use Rattle.std.specs.Prelude.{◌⊎◌, ℕ, Bool, true, false, not, ◌||◌, List, [], ◌∷◌, Option, Some, None, codes, if◌then◌else◌}
 use Rattle.std.proofs.Common.{inl, inr}
 use Rattle.design_model.specs.declared.mode.Section.{Section}
 use Rattle.design_model.specs.declared.mode.Section.TheVariants.{Components}
@@ -10,24 +10,41 @@ use Rattle.statement_model.specs.Form.{Form, empty, word, number, one_of, tail, 
 use Rattle.def_grammar.specs.Numbers.{is_scale, is_count}
 use Rattle.def_grammar.specs.Parts.{is_some}
 
+-- what such a statement says that opens no section
+abbrev pub PlainRecord : Type 0
+PlainRecord = List ℕ ⊎ (Unit {0} ⊎ (List ℕ × List (List ℕ)))
+
 -- what such a statement says
 abbrev pub TopRecord : Type 0
-TopRecord = List ℕ ⊎ (Unit {0} ⊎ ((Section × List ℕ) ⊎ (List ℕ × List (List ℕ))))
-
--- database units per micron
-pattern abbrev pub units : List ℕ → TopRecord
-units n = inl n
-
-pattern abbrev pub end_design : TopRecord
-end_design = inr (inl tt)
+TopRecord = (Section × List ℕ) ⊎ PlainRecord
 
 -- a section's header, with its number of entries
 pattern abbrev pub header : Section → List ℕ → TopRecord
-header s n = inr (inr (inl (s, n)))
+header s n = inl (s, n)
+
+pattern abbrev pub plain : PlainRecord → TopRecord
+plain p = inr p
+
+-- database units per micron
+pattern abbrev pub units : List ℕ → TopRecord
+units n = inr (inl n)
+
+pattern abbrev pub end_design : TopRecord
+end_design = inr (inr (inl tt))
 
 -- a statement without meaning, by its first token and the others
 pattern abbrev pub kept : List ℕ → List (List ℕ) → TopRecord
 kept w ws = inr (inr (inr (w, ws)))
+
+abbrev pub ends_design : TopRecord → Bool
+ends_design end_design = true
+ends_design _ = false
+
+-- of a statement that a text has once, its word
+abbrev pub once : TopRecord → Option (List ℕ)
+once (units n) = Some (codes "UNITS")
+once (kept w ws) = if is_word (codes "DIEAREA") w then Some w else None
+once _ = None
 
 -- UNITS DISTANCE MICRONS int ;
 unfoldable pub units_statement : Form (List ℕ)
@@ -54,5 +71,9 @@ begins_none w =
 unfoldable pub kept_statement : Form (List ℕ × List (List ℕ))
 kept_statement = word (λ w. not (begins_none w)) ⨟ tail
 
+-- a statement that opens no section
+unfoldable pub plain_statement : Form PlainRecord
+plain_statement = on (codes "UNITS") units_statement (on (codes "END") (codes "DESIGN" ▸ empty) kept_statement)
+
 unfoldable pub top_statement : Form TopRecord
-top_statement = on (codes "UNITS") units_statement (on (codes "END") (codes "DESIGN" ▸ empty) (alt is_section header_statement kept_statement))
+top_statement = alt is_section header_statement plain_statement

@@ -1,5 +1,6 @@
 -- Where an entry stands: in its section, whose header is the latest statement that its text has once.
 use Rattle.std.proofs.Common.{◌≡◌, ◌⊎◌, ℕ, Bool, true, false, List, [], ◌∷◌, refl, sym, ap, ◌∙◌, subst, inl, inr, codes, Option, Some, None, Ok, if◌then◌else◌}
+use Rattle.std.specs.Option.{option_to_list}
 use Rattle.design_model.specs.declared.mode.Mode.{Mode}
 use Rattle.design_model.specs.declared.mode.Mode.TheVariants.{Top, In, Props, After}
 use Rattle.design_model.specs.declared.mode.Section.{Section}
@@ -11,7 +12,7 @@ use Rattle.statement_model.specs.Tokens.{Piece}
 use Rattle.statement_model.specs.Boundaries.{words}
 use Rattle.statement_model.specs.Form.{read, whole}
 use Rattle.statement_model.specs.Reading.{read_form, formed, checked}
-use Rattle.def_grammar.specs.Top.{units, end_design, header, kept, top_statement, TopRecord}
+use Rattle.def_grammar.specs.Top.{header, plain, ends_design, once, top_statement, TopRecord}
 use Rattle.def_grammar.specs.Records.{def, Record, top, end_section, entry, Entry, component, statement, in_section, end_form, entries_form, section_of, name_of, entry_key, key_of, mode_after}
 use Rattle.def_reader.specs.SeenViews.{latest_with, Belongs}
 
@@ -96,9 +97,14 @@ stands After rec r rest h = absurd (cc)
 not_in : (m : Mode) (s : Section) → m ≡ Top → m ≡ In s → ⊥
 not_in m s at here = cc
 
-kept_belongs : (b : Bool) (w : List ℕ) (latest : Option (List ℕ)) → Belongs latest (if b then w ∷ [] else [])
-kept_belongs true w latest = tt
-kept_belongs false w latest = tt
+once_belongs : (once : Option (List ℕ)) (latest : Option (List ℕ)) → Belongs latest (option_to_list once)
+once_belongs None latest = tt
+once_belongs (Some w) latest = tt
+
+-- a statement that opens no section leaves the mode, or ends the design
+stays_out : (m : Mode) (b : Bool) (latest : Option (List ℕ)) → m ≡ Top → Opens (if b then After else m) latest
+stays_out m true latest at = λ s is. absurd (cc)
+stays_out m false latest at = λ s is. absurd (not_in m s at is)
 
 entry_belongs : (s : Section) (n : Option (List ℕ)) (latest : Option (List ℕ)) → latest ≡ Some (section_word s) → Belongs latest (entry_key s n)
 entry_belongs s (Some name) latest is = is
@@ -109,10 +115,8 @@ entry_after s (Some name) latest = refl
 entry_after s None latest = refl
 
 opens_after : (m : Mode) (rec : Record) (latest : Option (List ℕ)) → StandsIn m rec → Opens m latest → Belongs latest (key_of rec) × Opens (mode_after m rec) (latest_with (key_of rec) latest)
-opens_after m (top (units n)) latest at opens = (tt, λ s is. absurd (not_in m s at is))
-opens_after m (top end_design) latest at opens = (tt, λ s is. absurd (cc))
 opens_after m (top (header s n)) latest at opens = (tt, λ t is. (let same : s ≡ t = cc in ap (λ (z : Section). Some (section_word z)) same))
-opens_after m (top (kept w ws)) latest at opens = (kept_belongs (is_word (codes "DIEAREA") w) w latest, λ s is. absurd (not_in m s at is))
+opens_after m (top (plain p)) latest at opens = (once_belongs (once (plain p)) latest, stays_out m (ends_design (plain p)) (latest_with (option_to_list (once (plain p))) latest) at)
 opens_after m (end_section s) latest at opens = (tt, λ t is. absurd (cc))
 opens_after m (entry e) latest at opens =
     (entry_belongs (section_of e) (name_of e) latest (opens (section_of e) at), λ s is. entry_after (section_of e) (name_of e) latest ∙ opens s is)

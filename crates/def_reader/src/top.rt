@@ -2,10 +2,10 @@
 
 ghost use Rattle.std.specs.Prelude.{◌≡◌, IfSome};
 ghost use Rattle.form_meanings.specs.Meaning.{find};
-ghost use Rattle.form_meanings.specs.Words.{Gives};
-ghost use Rattle.statement_model.specs.Form.{left, read};
+ghost use Rattle.form_meanings.specs.Words.{Gives, next_passes};
+ghost use Rattle.statement_model.specs.Form.{left, read, right};
 ghost use Rattle.design_model.specs.EnumWords.{section_word};
-ghost use Rattle.def_grammar.specs.Top.{begins_none, header_statement, read_sections, top_statement, units_statement};
+ghost use Rattle.def_grammar.specs.Top.{begins_none, header_statement, is_section, plain_statement, read_sections, top_statement, units_statement};
 ghost use Rattle.lefdef_tokens.specs.Views.{IsIn, IsLater, rest_of, word_of};
 ghost use Rattle.def_reader.specs.Lent.{StatementIn};
 ghost use Rattle.def_reader.specs.PointViews.{with_rest};
@@ -68,10 +68,10 @@ fn begins_none(word: &[u8]) -> bool
         || is_word(word, b"BEGINEXT")
 }
 
-/// A statement outside of all sections.
-#[tactic(auto, unfolding(def_grammar::specs::Top::top_statement, def_grammar::specs::Top::kept_statement))]
-pub fn top_at<'t>(cursor: Cursor<'t>) -> Option<(Statement<'t>, Cursor<'t>)>
-    ensures gives { Gives (with_rest record_view) result (read (left top_statement) (rest_of cursor.entry)) }
+/// A statement outside of all sections that opens none.
+#[tactic(auto, unfolding(def_grammar::specs::Top::plain_statement, def_grammar::specs::Top::kept_statement))]
+fn plain_at<'t>(cursor: Cursor<'t>) -> Option<(Statement<'t>, Cursor<'t>)>
+    ensures gives { Gives (with_rest record_view) result (read (left (right plain_statement)) (rest_of cursor.entry)) }
     ensures later { IfSome result (λ x. IsLater cursor.entry x.1) }
     ensures lent { IfSome result (λ x. StatementIn cursor.entry.tokens.text.now x.0) }
 {
@@ -81,13 +81,35 @@ pub fn top_at<'t>(cursor: Cursor<'t>) -> Option<(Statement<'t>, Cursor<'t>)>
         Some((Statement::Units(number), cursor))
     } else if is_word(word.bytes, b"END") {
         Some((Statement::EndDesign, later.key(b"DESIGN")?))
-    } else if Section::of_word(word.bytes).is_some() {
-        let ((section, number), cursor) = header_at(cursor)?;
-        Some((Statement::Header(section, number), cursor))
     } else if begins_none(word.bytes) {
         None
     } else {
         let (others, cursor) = later.tail();
         Some((Statement::Kept(word, others), cursor))
+    }
+}
+
+/// Whether the word of a section is next.
+fn next_is_section<'t>(cursor: Cursor<'t>) -> bool
+    ensures { result ≡ next_passes is_section (rest_of cursor.entry) }
+{
+    match cursor.peek() {
+        Some(word) => Section::of_word(word.bytes).is_some(),
+        None => false,
+    }
+}
+
+/// A statement outside of all sections.
+#[tactic(auto, unfolding(def_grammar::specs::Top::top_statement))]
+pub fn top_at<'t>(cursor: Cursor<'t>) -> Option<(Statement<'t>, Cursor<'t>)>
+    ensures gives { Gives (with_rest record_view) result (read (left top_statement) (rest_of cursor.entry)) }
+    ensures later { IfSome result (λ x. IsLater cursor.entry x.1) }
+    ensures lent { IfSome result (λ x. StatementIn cursor.entry.tokens.text.now x.0) }
+{
+    if next_is_section(cursor) {
+        let ((section, number), cursor) = header_at(cursor)?;
+        Some((Statement::Header(section, number), cursor))
+    } else {
+        plain_at(cursor)
     }
 }

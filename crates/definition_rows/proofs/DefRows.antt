@@ -16,7 +16,7 @@ use Rattle.statement_model.specs.Reading.{fault_at, repeats, read_on, read_text}
 use Rattle.def_grammar.specs.Numbers.{is_int, is_scale, is_count}
 use Rattle.def_grammar.specs.Parts.{point, orient}
 use Rattle.def_grammar.specs.Components.{placed, placement, clause, component_form}
-use Rattle.def_grammar.specs.Top.{units, header, end_design, kept, units_statement, header_statement, kept_statement, top_statement}
+use Rattle.def_grammar.specs.Top.{units, header, end_design, kept, units_statement, header_statement, kept_statement, plain_statement, top_statement}
 use Rattle.def_grammar.specs.Records.{Record, top, end_section, entry, component, entries_form, statement, entry_key, key_of, read_def}
 
 -- the text has this fault
@@ -60,59 +60,59 @@ two_is_252_long = refl
 
 -- an empty text ends before END DESIGN
 empty_text : IsRefused [] Unfinished 0
-unfolding read_text read_on lex last_of repeat split_at number_at is_int is_scale is_count whole orient_word status_word section_word point orient placement clause component_form entries_form units_statement header_statement kept_statement top_statement statement
+unfolding read_text read_on lex last_of repeat split_at number_at is_int is_scale is_count whole orient_word status_word section_word point orient placement clause component_form entries_form units_statement header_statement kept_statement plain_statement top_statement statement
 empty_text = refl
 
 -- UNITS missing
 no_units : IsRefused (codes "END DESIGN\n") NoUnits 11
-unfolding read_text read_on lex last_of repeat split_at number_at is_int is_scale is_count whole orient_word status_word section_word point orient placement clause component_form entries_form units_statement header_statement kept_statement top_statement statement
+unfolding read_text read_on lex last_of repeat split_at number_at is_int is_scale is_count whole orient_word status_word section_word point orient placement clause component_form entries_form units_statement header_statement kept_statement plain_statement top_statement statement
 no_units = refl
 
 -- the least text
 least : read_def (units_line ++ codes "END DESIGN\n") ≡ Ok (top (units (codes "1000")) ∷ top end_design ∷ [])
-unfolding read_text read_on lex last_of repeat split_at number_at is_int is_scale is_count whole orient_word status_word section_word point orient placement clause component_form entries_form units_statement header_statement kept_statement top_statement statement
+unfolding read_text read_on lex last_of repeat split_at number_at is_int is_scale is_count whole orient_word status_word section_word point orient placement clause component_form entries_form units_statement header_statement kept_statement plain_statement top_statement statement
 least = refl
 
 -- the text reads, and also without its last byte
 two_read : (read_def two ≡ Ok two_records) × (read_def (take 251 two) ≡ Ok two_records)
-unfolding read_text read_on lex last_of repeat split_at number_at is_int is_scale is_count whole orient_word status_word section_word point orient placement clause component_form entries_form units_statement header_statement kept_statement top_statement statement
+unfolding read_text read_on lex last_of repeat split_at number_at is_int is_scale is_count whole orient_word status_word section_word point orient placement clause component_form entries_form units_statement header_statement kept_statement plain_statement top_statement statement
 two_read = (refl, refl)
 
 -- cut off within the words of END COMPONENTS and END DESIGN
 cut_within_an_end : IsRefused (take 231 two) NoForm 226 × IsRefused (take 239 two) NoForm 226 × IsRefused (take 246 two) NoForm 241 × IsRefused (take 250 two) NoForm 241
-unfolding read_text read_on lex last_of repeat split_at number_at is_int is_scale is_count whole orient_word status_word section_word point orient placement clause component_form entries_form units_statement header_statement kept_statement top_statement statement
+unfolding read_text read_on lex last_of repeat split_at number_at is_int is_scale is_count whole orient_word status_word section_word point orient placement clause component_form entries_form units_statement header_statement kept_statement plain_statement top_statement statement
 cut_within_an_end = (refl, refl, refl, refl)
 
 -- cut off within a string
 cut_within_a_string : IsRefused (take 27 two) OpenString 26 × IsRefused (take 45 two) OpenString 44
-unfolding read_text read_on lex last_of repeat split_at number_at is_int is_scale is_count whole orient_word status_word section_word point orient placement clause component_form entries_form units_statement header_statement kept_statement top_statement statement
+unfolding read_text read_on lex last_of repeat split_at number_at is_int is_scale is_count whole orient_word status_word section_word point orient placement clause component_form entries_form units_statement header_statement kept_statement plain_statement top_statement statement
 cut_within_a_string = (refl, refl)
 
 -- cut off within a statement
 cut_within_a_statement : IsRefused (take 230 two) Unfinished 226 × IsRefused (take 100 two) Unfinished 94
-unfolding read_text read_on lex last_of repeat split_at number_at is_int is_scale is_count whole orient_word status_word section_word point orient placement clause component_form entries_form units_statement header_statement kept_statement top_statement statement
+unfolding read_text read_on lex last_of repeat split_at number_at is_int is_scale is_count whole orient_word status_word section_word point orient placement clause component_form entries_form units_statement header_statement kept_statement plain_statement top_statement statement
 cut_within_a_statement = (refl, refl)
 
 -- a control byte in place of the sixth byte
 control_byte : IsRefused (take 5 two ++ 127 ∷ drop 6 two) RefusedByte 5
-unfolding read_text read_on lex last_of repeat split_at number_at is_int is_scale is_count whole orient_word status_word section_word point orient placement clause component_form entries_form units_statement header_statement kept_statement top_statement statement
+unfolding read_text read_on lex last_of repeat split_at number_at is_int is_scale is_count whole orient_word status_word section_word point orient placement clause component_form entries_form units_statement header_statement kept_statement plain_statement top_statement statement
 control_byte = refl
 
 -- a component of a name that stands right before, and of one that stands further before
 name_taken : IsRefused (front ++ codes "- u1 INV + PLACED ( 920 0 ) N ;\nEND COMPONENTS\nEND DESIGN\n") NameTaken 194 × IsRefused (front ++ codes "- u2 INV ;\n- u1 INV ;\nEND COMPONENTS\nEND DESIGN\n") NameTaken 205
-unfolding read_text read_on lex last_of repeat split_at number_at is_int is_scale is_count whole orient_word status_word section_word point orient placement clause component_form entries_form units_statement header_statement kept_statement top_statement statement
+unfolding read_text read_on lex last_of repeat split_at number_at is_int is_scale is_count whole orient_word status_word section_word point orient placement clause component_form entries_form units_statement header_statement kept_statement plain_statement top_statement statement
 name_taken = (refl, refl)
 
 -- a second statement of which a text has one
 repeated : IsRefused (units_line ++ units_line ++ codes "END DESIGN\n") Repeated 30 × IsRefused (units_line ++ diearea_line ++ diearea_line ++ codes "END DESIGN\n") Repeated 62
-unfolding read_text read_on lex last_of repeat split_at number_at is_int is_scale is_count whole orient_word status_word section_word point orient placement clause component_form entries_form units_statement header_statement kept_statement top_statement statement
+unfolding read_text read_on lex last_of repeat split_at number_at is_int is_scale is_count whole orient_word status_word section_word point orient placement clause component_form entries_form units_statement header_statement kept_statement plain_statement top_statement statement
 repeated = (refl, refl)
 
 -- a second section of a kind, and a statement without meaning again, which is no repeat
 section_repeated : IsRefused (units_line ++ codes "COMPONENTS 0 ;\nEND COMPONENTS\nCOMPONENTS 0 ;\nEND COMPONENTS\nEND DESIGN\n") Repeated 60
     × (read_def (units_line ++ codes "ROW a ;\nROW a ;\nEND DESIGN\n")
     ≡ Ok (top (units (codes "1000")) ∷ top (kept (codes "ROW") (codes "a" ∷ codes ";" ∷ [])) ∷ top (kept (codes "ROW") (codes "a" ∷ codes ";" ∷ [])) ∷ top end_design ∷ []))
-unfolding read_text read_on lex last_of repeat split_at number_at is_int is_scale is_count whole orient_word status_word section_word point orient placement clause component_form entries_form units_statement header_statement kept_statement top_statement statement
+unfolding read_text read_on lex last_of repeat split_at number_at is_int is_scale is_count whole orient_word status_word section_word point orient placement clause component_form entries_form units_statement header_statement kept_statement plain_statement top_statement statement
 section_repeated = (refl, refl)
 
 -- what of a record a text has once: UNITS, DIEAREA, a section, and a name in its section; of other records nothing
@@ -154,21 +154,21 @@ named_as_section : read_def (units_line ++ codes "COMPONENTS 1 ;\n- COMPONENTS I
     ∷ end_section Components
     ∷ top end_design
     ∷ [])
-unfolding read_text read_on lex last_of repeat split_at number_at is_int is_scale is_count whole orient_word status_word section_word point orient placement clause component_form entries_form units_statement header_statement kept_statement top_statement statement
+unfolding read_text read_on lex last_of repeat split_at number_at is_int is_scale is_count whole orient_word status_word section_word point orient placement clause component_form entries_form units_statement header_statement kept_statement plain_statement top_statement statement
 named_as_section = refl
 
 -- a word that is no number, and a number out of its range
 bad_number : IsRefused (codes "UNITS DISTANCE MICRONS x ;") Number 23 × IsRefused (codes "UNITS DISTANCE MICRONS 0 ;") Number 23
-unfolding read_text read_on lex last_of repeat split_at number_at is_int is_scale is_count whole orient_word status_word section_word point orient placement clause component_form entries_form units_statement header_statement kept_statement top_statement statement
+unfolding read_text read_on lex last_of repeat split_at number_at is_int is_scale is_count whole orient_word status_word section_word point orient placement clause component_form entries_form units_statement header_statement kept_statement plain_statement top_statement statement
 bad_number = (refl, refl)
 
 -- a - does not stand for a number
 no_number : IsRefused (codes "UNITS DISTANCE MICRONS - ;") NoForm 0
-unfolding read_text read_on lex last_of repeat split_at number_at is_int is_scale is_count whole orient_word status_word section_word point orient placement clause component_form entries_form units_statement header_statement kept_statement top_statement statement
+unfolding read_text read_on lex last_of repeat split_at number_at is_int is_scale is_count whole orient_word status_word section_word point orient placement clause component_form entries_form units_statement header_statement kept_statement plain_statement top_statement statement
 no_number = refl
 
 -- a statement that a string cuts off, and one that has no form; and which fault of two comes first: that of a whole
 -- statement, where white space ends it, and that of the byte, where it stands in the statement's last word
 first_fault : IsRefused (units_line ++ codes "END \"x\n") OpenString 34 × IsRefused (units_line ++ codes "END ;\n") NoForm 30 × IsRefused (codes ") ; " ++ 127 ∷ []) NoForm 0 × IsRefused (codes ") ;" ++ 127 ∷ []) RefusedByte 3
-unfolding read_text read_on lex last_of repeat split_at number_at is_int is_scale is_count whole orient_word status_word section_word point orient placement clause component_form entries_form units_statement header_statement kept_statement top_statement statement
+unfolding read_text read_on lex last_of repeat split_at number_at is_int is_scale is_count whole orient_word status_word section_word point orient placement clause component_form entries_form units_statement header_statement kept_statement plain_statement top_statement statement
 first_fault = (refl, refl, refl, refl)

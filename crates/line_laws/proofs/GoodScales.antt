@@ -1,5 +1,5 @@
 -- A text that reads has at least 1 and at most 100000 database units per micron.
-use Rattle.std.proofs.Common.{◌≡◌, ℕ, Bool, true, false, List, [], ◌∷◌, Option, Some, None, Result, Ok, Err, refl, ap, ◌∙◌, arith, ℤ, pos, nat_abs, if◌then◌else◌}
+use Rattle.std.proofs.Common.{◌≡◌, ℕ, Bool, true, false, List, [], ◌∷◌, Option, Some, None, Result, Ok, Err, inl, inr, refl, ap, ◌∙◌, arith, ℤ, pos, nat_abs, if◌then◌else◌}
 use Rattle.std.specs.Prelude.{◌&&◌}
 use Rattle.std.specs.Int.Signed.{le_z}
 use Rattle.std.proofs.lemmas.Int.{ints}
@@ -12,7 +12,7 @@ use Rattle.form_meanings.specs.Words.{Rest, start, ends}
 use Rattle.form_meanings.proofs.Steps.{some_same, both_read}
 use Rattle.statement_model.specs.Form.{Form, read, Fits, whole}
 use Rattle.def_grammar.specs.Numbers.{passes, number_or_0, is_scale}
-use Rattle.def_grammar.specs.Top.{units, end_design, header, kept, units_statement, top_statement}
+use Rattle.def_grammar.specs.Top.{units, plain, header, units_statement, plain_statement, top_statement}
 use Rattle.def_grammar.specs.Records.{Record, top, end_section, entry, statement, def}
 use Rattle.design_rules.specs.Boxes.{scale}
 use Rattle.line_laws.specs.ScaleLaws.{HasScale, ScalesAreGood}
@@ -43,7 +43,7 @@ good_unless_bad true left e = refl
 good_unless_bad false left e = absurd (cc)
 
 good_units : (m : Mode) (n : List ℕ) → Fits (statement m) (top (units n)) [] → None ≡ (statement m).of.bad (top (units n)) [] → is_scale n ≡ true
-unfolding statement top_statement units_statement
+unfolding statement top_statement plain_statement units_statement
 good_units Top n fits e = good_unless_bad (is_scale n) _ e
 good_units (In s) n fits e = absurd fits
 good_units Props n fits e = absurd fits
@@ -51,9 +51,8 @@ good_units After n fits e = absurd fits
 
 good_record : (m : Mode) (rec : Record) → Fits (statement m) rec [] → None ≡ (statement m).of.bad rec [] → IsGood rec
 good_record m (top (units n)) fits e = good_units m n fits e
-good_record m (top end_design) fits e = tt
+good_record m (top (plain (inr other))) fits e = tt
 good_record m (top (header s n)) fits e = tt
-good_record m (top (kept w ws)) fits e = tt
 good_record m (end_section s) fits e = tt
 good_record m (entry x) fits e = tt
 
@@ -74,9 +73,8 @@ scale_of n h = number_between (number_of n) h
 good_scale : (design : List Record) → Each IsGood design → HasScale (scale design)
 good_scale [] h = record { some = omega arith; few = omega arith }
 good_scale (top (units n) ∷ rs) h = scale_of n h.0
-good_scale (top end_design ∷ rs) h = good_scale rs h.1
+good_scale (top (plain (inr other)) ∷ rs) h = good_scale rs h.1
 good_scale (top (header s n) ∷ rs) h = good_scale rs h.1
-good_scale (top (kept w ws) ∷ rs) h = good_scale rs h.1
 good_scale (end_section s ∷ rs) h = good_scale rs h.1
 good_scale (entry x ∷ rs) h = good_scale rs h.1
 
