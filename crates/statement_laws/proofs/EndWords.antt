@@ -9,7 +9,7 @@ use Rattle.design_model.specs.declared.mode.Section.TheVariants.{Components}
 use Rattle.design_model.specs.EnumWords.{section_word}
 use Rattle.form_meanings.specs.Words.{is_word, is_quoted}
 use Rattle.statement_model.specs.Form.{whole}
-use Rattle.def_grammar.specs.Top.{top_statement}
+use Rattle.def_grammar.specs.Top.{plain_statement, top_statement}
 use Rattle.def_grammar.specs.Records.{Record, statement}
 
 pub same_word : (word w : List ℕ) → is_word word w ≡ true → word ≡ w
@@ -33,7 +33,7 @@ abbrev IsEnd : Mode → List (List ℕ) → Type 0
 IsEnd m ws = (x : Record × Option ℕ) → whole (statement m) (codes "END" ∷ ws) ≡ Some x → PlainEnd ws
 
 end_of_design : (ws : List (List ℕ)) → IsEnd Top ws
-unfolding statement top_statement
+unfolding statement top_statement plain_statement section_word
 end_of_design [] x e = absurd (cc)
 end_of_design (v ∷ []) x e = ⊎_elim
     (λ is. (v, refl, not_quoted (codes "DESIGN") v is refl))
