@@ -1,4 +1,7 @@
 //! Tests of the command line and of the lines on standard error, which no stored run shows, and nothing else.
+//!
+//! `command_lines` tries requests, and what clap says of those that are none; `outcomes` has the status of each outcome
+//! and the line of each reason to stop.
 #![tactic(auto)]
 
 #[cfg(test)]

@@ -1,8 +1,12 @@
 //! The lines of a script: what each asks, and the texts of its answers (own).
 //!
-//! Begin with `line::next_line` and `command::parse`; `answer` has the texts. The definitions are `Script` and `Output` of
-//! `design_rules`: a parsed line asks exactly what they say, and an answer is exactly the defined line. A command borrows
-//! its names from its line. Parsing takes no memory and refuses nothing: a line that is no command is `Command::Bad`.
+//! Begin with `line::next_line` and `command::parse`; `answer` has the texts, and `escape` the bytes that a `text` line
+//! puts. The definitions are `Script` and `Output` of `design_rules`: a parsed line asks exactly what they say, and an
+//! answer is exactly the defined line. `docs/SCRIPT.md` says it to those who write scripts.
+//!
+//! A command borrows its names from its line. Parsing takes no memory and refuses nothing: a line that is no command is
+//! `Command::Bad`, and one with an invalid range `Command::Refused`. The texts of answers, and escaped bytes, answer
+//! `AllocError` where memory is refused.
 #![tactic(auto)]
 
 pub mod answer;

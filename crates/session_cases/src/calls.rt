@@ -7,6 +7,7 @@ use counted_devices::counted::Counted;
 use design_model::edit::{Done, Edit, EditCode, EditRefusal};
 use design_model::geometry::Orient;
 use edit_session::session::Session;
+use std::alloc::Global;
 use std::test::Fail;
 
 #[test]
@@ -67,5 +68,31 @@ fn a_session_from_its_opening_to_its_text(rt: HostRuntime) -> Result<(), Fail> {
     let mut out = Counted::new(Vec::new(rt.alloc()));
     assert!(rt; session.write_to(&mut out).is_ok());
     assert_eq!(rt; out.into_inner().len(), 271);
+    Ok(())
+}
+
+/// What the README shows of the library.
+fn placed(alloc: Global, lef: &[u8], def: &[u8]) -> Result<(usize, Vec<u8>), Fail> {
+    let mut lefs = LefTexts::new(alloc);
+    lefs.push(lef)?;
+    let library = Library::read(alloc, &lefs)?;
+    let mut session = Session::open(alloc, &library, def)?;
+    session.edit(&Edit::Place {
+        component: b"u1",
+        x: 919,
+        y: 0,
+        orient: Orient::N,
+    })?;
+    let lines = session.diagnostics()?;
+    let mut out = Counted::new(Vec::new(alloc));
+    session.write_to(&mut out)?;
+    Ok((lines.len(), out.into_inner()))
+}
+
+#[test]
+fn the_calls_that_the_readme_shows(rt: HostRuntime) -> Result<(), Fail> {
+    let (diagnostics, text) = placed(rt.alloc(), INVERTER, TWO_INVERTERS)?;
+    assert_eq!(rt; diagnostics, 1);
+    assert_eq!(rt; text.len(), 273);
     Ok(())
 }
