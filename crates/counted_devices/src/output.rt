@@ -1,7 +1,8 @@
 //! Writing all, within a number of interruptions.
 
-ghost use Rattle.std.specs.Prelude.{◌+◌, ◌^◌, ◌<◌, ◌≤◌, OnErr, OnOk};
+ghost use Rattle.std.specs.Prelude.{◌≡◌, ◌+◌, ◌^◌, ◌<◌, ◌≤◌, OnErr, OnOk};
 ghost use Rattle.std.specs.Io.KnownBytes.{Appends};
+ghost use Rattle.counted_devices.specs.Counting.{HasFailed};
 ghost use Rattle.counted_devices.specs.Known.{WritesPart};
 
 use crate::counted::{CountedWrite, Failures};
@@ -24,10 +25,11 @@ pub fn write_whole<W: CountedWrite>(
     requires { W.failed out.old + patience.old < 2 ^ 63 + 2 ^ 32 }
     ensures ok { OnOk result (Appends (W.contents out.old) (W.contents out.new) bytes.now) }
     ensures err { OnErr result (WritesPart (W.contents out.old) (W.contents out.new) bytes.now) }
-    ensures failed { OnErr result (W.failed out.old < W.failed out.new) }
+    ensures failed { OnErr result (HasFailed (W.failed_hard out.old) (W.failed_hard out.new) (W.failed out.old) (W.failed out.new) patience.old) }
+    ensures hard_ok { OnOk result (W.failed_hard out.new ≡ W.failed_hard out.old) }
     ensures rises { W.failed out.old ≤ W.failed out.new }
-    ensures few { W.failed out.new + patience.new ≤ W.failed out.old + patience.old + 1 }
-    ensures few_ok { OnOk result (W.failed out.new + patience.new ≤ W.failed out.old + patience.old) }
+    ensures spent { OnErr result (W.failed out.new + patience.new ≡ W.failed out.old + patience.old + 1) }
+    ensures spent_ok { OnOk result (W.failed out.new + patience.new ≡ W.failed out.old + patience.old) }
 {
     let mut rest = bytes;
     while !rest.is_empty() {

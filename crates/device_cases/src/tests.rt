@@ -72,6 +72,7 @@ fn whole_inputs_within_their_turns(rt: HostRuntime) -> Result<(), Fail> {
                 assert!(rt; error.is_none());
                 assert_eq!(rt; all.as_slice(), bytes);
                 assert_eq!(rt; reader.failures(), 4);
+                assert_eq!(rt; reader.hard_failures(), 0);
             }
             Err(fault) => assert_eq!(rt; Some(fault), error),
         }
@@ -128,4 +129,5 @@ fn flushes_reach_the_device(rt: HostRuntime) {
     let mut out = Counted::new(Unflushed);
     assert!(rt; out.flush().is_err());
     assert_eq!(rt; out.failures(), 1);
+    assert_eq!(rt; out.hard_failures(), 1);
 }

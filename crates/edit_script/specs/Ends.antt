@@ -1,11 +1,11 @@
 -- How a run ends, and what it has written then. `o` and `d` are what the writers of the answers and of the text held
 -- before, `o'` and `d'` what they hold after, where that is known.
-use Rattle.std.specs.Prelude.{◌≡◌, ◌<◌, ◌⊎◌, ℕ, List, [], ◌++◌, Option, IfSome, Ok, Err, IsOk, length}
+use Rattle.std.specs.Prelude.{◌≡◌, ◌<◌, ◌≤◌, ◌⊎◌, ℕ, List, [], ◌++◌, Option, IfSome, Result, Ok, Err, IsOk, length}
 use Rattle.std.specs.Io.KnownBytes.{Appends}
+use Rattle.counted_devices.specs.Counting.{one_more}
 use Rattle.lef_grammar.specs.Library.{Library, library_of}
 use Rattle.def_grammar.specs.Records.{read_def}
 use Rattle.design_rules.specs.Output.{Counts, Output, IsRun, no_lines}
-use Rattle.edit_script.specs.declared.run.TheConstants.{MAX_SCRIPT}
 use Rattle.edit_script.specs.declared.run.RunFault.{RunFault}
 use Rattle.edit_script.specs.declared.run.RunFault.TheVariants.{Lef, Def, Memory, Read, Write, TooLong, Endless}
 use Rattle.edit_script.specs.declared.run.Stop.{Stop}
@@ -46,11 +46,12 @@ abbrev pub AnswersPart : Library → List ℕ → List ℕ → Known → Known �
 AnswersPart library text script o o' d d' stop.Memory = AnswersSome library text script o o' d d'
 AnswersPart library text script o o' d d' stop.Write = AnswersCut library text script o o' d d'
 
--- the LEF texts give this library, the DEF text reads, and the script has these bytes
+-- the LEF texts give this library, the DEF text reads, and the script has these bytes, at most 16777216
 pub record HasRead (lefs : List (List ℕ)) (def : List ℕ) (input : Known) (library : Library) (script : List ℕ) : Type 0 where
   pub lefs_read : library_of lefs ≡ Ok library
   pub def_reads : IsOk (read_def def)
   pub script_is : IfSome input (λ xs. xs ≡ script)
+  pub script_fits : length script ≤ 16777216
 
 -- a run to its end: the writers got an output of the script over the library and the text, and nothing else
 abbrev pub RunsWhole : List (List ℕ) → List ℕ → Known → Known → Known → Known → Known → Counts → Type 0
@@ -61,8 +62,13 @@ RunsWhole lefs def input o o' d d' counts = (library : Library) × (script : Lis
 abbrev pub StopsBy : List (List ℕ) → List ℕ → Known → Known → Known → Known → Known → RunFault → Type 0
 StopsBy lefs def input o o' d d' (Lef file fault) = (library_of lefs ≡ Err (record { file = file; fault = fault })) × WritesNothing o o' d d'
 StopsBy lefs def input o o' d d' (Def fault) = IsOk (library_of lefs) × (read_def def ≡ Err fault) × WritesNothing o o' d d'
-StopsBy lefs def input o o' d d' TooLong = IsOk (library_of lefs) × IsOk (read_def def) × IfSome input (λ xs. MAX_SCRIPT < length xs) × WritesNothing o o' d d'
+StopsBy lefs def input o o' d d' TooLong = IsOk (library_of lefs) × IsOk (read_def def) × IfSome input (λ xs. 16777216 < length xs) × WritesNothing o o' d d'
 StopsBy lefs def input o o' d d' Read = IsOk (library_of lefs) × IsOk (read_def def) × WritesNothing o o' d d'
 StopsBy lefs def input o o' d d' Endless = IsOk (library_of lefs) × IsOk (read_def def) × WritesNothing o o' d d'
 StopsBy lefs def input o o' d d' Memory = WritesNothing o o' d d' ⊎ ((library : Library) × (script : List ℕ) × HasRead lefs def input library script × AnswersSome library def script o o' d d')
 StopsBy lefs def input o o' d d' Write = (library : Library) × (script : List ℕ) × HasRead lefs def input library script × AnswersCut library def script o o' d d'
+
+-- the hard failures of the script's reader after a run, which answers `Read` at the first
+abbrev pub hard_after_run : {T : Type 0} → Result T RunFault → ℕ → ℕ
+hard_after_run (Err Read) n = one_more n
+hard_after_run r n = n

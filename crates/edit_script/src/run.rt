@@ -1,12 +1,13 @@
 //! A script's run over a library and a design.
 
-ghost use Rattle.std.specs.Prelude.{◌≡◌, ◌<◌, ◌^◌, ◌⊎◌, IfErr, IfOk, IsErrOf, IsOk, OnErr, length};
+ghost use Rattle.std.specs.Prelude.{◌≡◌, ◌+◌, ◌<◌, ◌≤◌, ◌^◌, ◌⊎◌, IfErr, IfOk, IsErrOf, IsOk, OnErr, length};
+ghost use Rattle.counted_devices.specs.Counting.{HasFailed};
 ghost use Rattle.design_rules.specs.Output.{LineAnswers, counted, reply_line};
 ghost use Rattle.design_rules.specs.Script.{order_of, script_lines, unescaped};
 ghost use Rattle.def_grammar.specs.Records.{read_def};
 ghost use Rattle.edit_script.specs.Answered.{AnswersText, Grows, HasRoom, RefusesText, Says, counts_of};
 ghost use Rattle.script_lines.specs.Orders.{question_seen};
-ghost use Rattle.edit_script.specs.Ends.{AnswersPart, AnswersWhole, RunsWhole, StopsBy, WritesRun, WritesRunPart};
+ghost use Rattle.edit_script.specs.Ends.{AnswersPart, AnswersWhole, RunsWhole, StopsBy, WritesRun, WritesRunPart, hard_after_run};
 
 use cell_library::lef_texts::LefTexts;
 use cell_library::library::{Library, LibraryError};
@@ -184,7 +185,8 @@ fn answer_lines<A: Allocator + Copy, W: CountedWrite>(
     requires reads { IsOk (read_def session.old.text) }
     ensures ok { IfOk result (λ tally. WritesRun session.old.library session.old.text (script_lines script.now) (W.contents out.old) (W.contents out.new) session.new.text (counts_of tally)) }
     ensures err { OnErr result (WritesRunPart session.old.library session.old.text (script_lines script.now) (W.contents out.old) (W.contents out.new)) }
-    ensures failed { IsErrOf result Stop.Write → W.failed out.old < W.failed out.new }
+    ensures failed { IsErrOf result Stop.Write → HasFailed (W.failed_hard out.old) (W.failed_hard out.new) (W.failed out.old) (W.failed out.new) 33554431 }
+    ensures few { W.failed out.new ≤ W.failed out.old + 33554432 }
 {
     let mut patience = MAX_INTERRUPTIONS;
     let mut tally = Tally {
@@ -222,7 +224,9 @@ fn answer_all<A: Allocator + Copy, W: CountedWrite, V: CountedWrite>(
     requires reads { IsOk (read_def session.old.text) }
     ensures ok { IfOk result (λ tally. AnswersWhole session.old.library session.old.text script.now (W.contents out.old) (W.contents out.new) (V.contents def_out.old) (V.contents def_out.new) (counts_of tally)) }
     ensures fault { IfErr result (λ e. AnswersPart session.old.library session.old.text script.now (W.contents out.old) (W.contents out.new) (V.contents def_out.old) (V.contents def_out.new) e) }
-    ensures write { IsErrOf result Stop.Write → (W.failed out.old < W.failed out.new) ⊎ (V.failed def_out.old < V.failed def_out.new) }
+    ensures write { IsErrOf result Stop.Write → HasFailed (W.failed_hard out.old) (W.failed_hard out.new) (W.failed out.old) (W.failed out.new) 33554431 ⊎ HasFailed (V.failed_hard def_out.old) (V.failed_hard def_out.new) (V.failed def_out.old) (V.failed def_out.new) 33554431 }
+    ensures few { W.failed out.new ≤ W.failed out.old + 33554432 }
+    ensures def_few { V.failed def_out.new ≤ V.failed def_out.old + 33554432 }
 {
     let tally = match answer_lines(alloc, session, script, out) {
         Ok(tally) => tally,
@@ -261,9 +265,16 @@ where
     // The texts are to blame, with nothing written, or the first part of an output was written.
     ensures fault { IfErr result (λ e. StopsBy lefs.now def.now (R.remaining script.old) (W.contents out.old) (W.contents out.new) (V.contents def_out.old) (V.contents def_out.new) e) }
 
-    // A device is blamed only where it has failed.
+    // A device is blamed only where it has failed: for good, or a writer by 33554432 interruptions.
     ensures read { IsErrOf result RunFault.Read → R.failed script.old < R.failed script.new }
-    ensures write { IsErrOf result RunFault.Write → (W.failed out.old < W.failed out.new) ⊎ (V.failed def_out.old < V.failed def_out.new) }
+    ensures read_hard { R.failed_hard script.new ≡ hard_after_run result (R.failed_hard script.old) }
+    ensures write { IsErrOf result RunFault.Write → HasFailed (W.failed_hard out.old) (W.failed_hard out.new) (W.failed out.old) (W.failed out.new) 33554431 ⊎ HasFailed (V.failed_hard def_out.old) (V.failed_hard def_out.new) (V.failed def_out.old) (V.failed def_out.new) 33554431 }
+    ensures write_few { W.failed out.new ≤ W.failed out.old + 33554432 }
+    ensures def_few { V.failed def_out.new ≤ V.failed def_out.old + 33554432 }
+
+    // The script is read in 33554432 turns, each of which brings one of at most 16777216 bytes or fails.
+    ensures read_few { R.failed script.new ≤ R.failed script.old + 33554432 }
+    ensures endless { IsErrOf result RunFault.Endless → R.failed script.old + 16777216 ≤ R.failed script.new }
 {
     let library = match Library::read(alloc, lefs) {
         Ok(library) => library,

@@ -1,7 +1,8 @@
 //! The session: a library and the present text of a design.
 
-ghost use Rattle.std.specs.Prelude.{◌≡◌, ◌≤◌, ◌<◌, ◌^◌, OnErr, OnOk, IfOk, IsOk, length};
+ghost use Rattle.std.specs.Prelude.{◌≡◌, ◌+◌, ◌≤◌, ◌<◌, ◌^◌, OnErr, OnOk, IfOk, IsOk, length};
 ghost use Rattle.std.specs.Io.KnownBytes.{Appends};
+ghost use Rattle.counted_devices.specs.Counting.{HasFailed};
 ghost use Rattle.counted_devices.specs.Known.{WritesPart};
 ghost use Rattle.def_grammar.specs.Records.{read_def};
 ghost use Rattle.design_rules.specs.Edits.{change_of};
@@ -104,7 +105,8 @@ impl<'s, 'l, A: Allocator + Copy> Session<'s, 'l, A> {
         requires { W.failed out.old < 2 ^ 63 }
         ensures ok { OnOk result (Appends (W.contents out.old) (W.contents out.new) self.now.text) }
         ensures err { OnErr result (WritesPart (W.contents out.old) (W.contents out.new) self.now.text) }
-        ensures failed { OnErr result (W.failed out.old < W.failed out.new) }
+        ensures failed { OnErr result (HasFailed (W.failed_hard out.old) (W.failed_hard out.new) (W.failed out.old) (W.failed out.new) 33554431) }
+        ensures few { W.failed out.new ≤ W.failed out.old + 33554432 }
     {
         let mut patience = MAX_INTERRUPTIONS;
         write_whole(out, self.text.as_slice(), &mut patience)

@@ -1,21 +1,22 @@
 use Rattle.std.proofs.Common.{rules, arith}
-use Rattle.std.proofs.KnownBytes.{Consumes-trans}
-use Rattle.counted_devices.proofs.TurnSteps.{turn_read, spends_known}
-use Rattle.counted_devices.proofs.input.read_whole.Goals.{in-Ok+in_default+else-len-limit, in-Err+else-ne}
+use Rattle.counted_devices.proofs.TurnSteps.{so_far_bytes, so_far_interrupted, spends_known}
+use Rattle.counted_devices.proofs.input.read_whole.Goals.{in-Bytes+else-len-limit, in-Interrupted}
 use Rattle.counted_devices.proofs.input.read_whole.Goals as goal
 
 pub loop-preserved : goal.loop-preserved
 loop-preserved g c =
-    elim c.match-read_counted.branch [
-      | in-Ok+in_default+else-len-limit w ↦ record {
-        taken = rw (w.all-is, w.in_default.ensures.items) (Consumes-trans _ _ _ _ _ c.loop.invariant.taken w.in-Ok.ensures.bytes.0);
-        small = rw w.all-is (omega (arith, w.len.ensures, w.if-len-limit.false));
-        spent = rw (w.all-is, w.in_default.ensures.items) (turn_read _ _ _ _ _ _ _ c.loop.invariant.spent w.in-Ok.ensures.count w.in-Ok.ensures.bound.1 (search rules));
-        few = search rules;
-        rises = search rules;
+    elim c.match-branch-2.branch [
+      | in-Bytes+else-len-limit w ↦ record {
+        so_far = so_far_bytes _ _ _ _ _ _ _ _ _ _ c.loop.invariant.so_far (search rules) (search rules) (search rules);
+        hard = search rules;
+        room = search rules;
       }
-      | in-Err+else-ne w ↦ record { taken = search rules; spent = search rules; small = search rules; few = search rules; rises = search rules }
+      | in-Interrupted w ↦ record {
+        so_far = so_far_interrupted _ _ _ _ _ _ _ _ _ _ c.loop.invariant.so_far (search rules) (search rules) (search rules);
+        hard = search rules;
+        room = search rules;
+      }
     ]
 
-pub returns-clause-endless : goal.returns-clause-endless
-returns-clause-endless g c = λ _. spends_known _ _ _ _ _ _ c.loop.invariant.taken (omega (arith, c.loop-test.false, c.loop.invariant.spent))
+pub returns-clause-endless_known : goal.returns-clause-endless_known
+returns-clause-endless_known g c = λ _. spends_known _ _ _ _ _ _ c.loop.invariant.so_far.taken (omega (arith, c.loop-test.false, c.loop.invariant.so_far.spent))

@@ -13,8 +13,9 @@ loop-rest-preserved-in-Ok g c =
     let (done, split, appended) = c.loop-rest.invariant.written in
     record {
       written = writes_more_left _ _ _ _ done _ c.in-Ok.n split appended c.in-Ok.ensures.bytes;
-      few = search rules;
+      spent = search rules;
       rises = search rules;
+      hard = search rules;
     }
 
 pub returns-then-ne-clause-err : goal.returns-then-ne-clause-err

@@ -12,8 +12,9 @@ invariant-loop-rest g l = record {
   library : l.session.library ≡ l.initial.session.library;
   reads : IsOk (read_def l.session.text);
   few_lines : l.number + length (lines_left l.rest) ≤ length l.script + 1;
-  few : g.W.Failures.failed l.out + l.patience ≤ g.W.Failures.failed l.initial.out + 33554431;
+  spent : g.W.Failures.failed l.out + l.patience ≡ g.W.Failures.failed l.initial.out + 33554431;
   rises : g.W.Failures.failed l.initial.out ≤ g.W.Failures.failed l.out;
+  hard : g.W.Failures.failed_hard l.out ≡ g.W.Failures.failed_hard l.initial.out;
   accepted : l.tally.accepted ≤ l.number;
   refused : l.tally.refused ≤ l.number;
   bad : l.tally.bad ≤ l.number;

@@ -3,4 +3,4 @@ use Rattle.edit_script.proofs.run.run.Goals as goal
 
 pub returns-in-Err-Memory-answer_all-clause-fault : goal.returns-in-Err-Memory-answer_all-clause-fault
 returns-in-Err-Memory-answer_all-clause-fault g c =
-    inr (c.in-Ok.library, c.as_slice.result.now, record { lefs_read = search rules; def_reads = search rules; script_is = search rules }, search rules)
+    inr (c.in-Ok.library, c.as_slice.result.now, record { lefs_read = search rules; def_reads = search rules; script_is = search rules; script_fits = search rules }, search rules)
