@@ -1,5 +1,5 @@
 -- The cut of a placement, and why it is refused.
-use Rattle.std.proofs.Common.{◌≡◌, ◌≢◌, ◌==◌, ◌||◌, ◌+◌, ◌-◌, ◌<◌, ◌++◌, ℕ, ℤ, Bool, true, false, List, [], ◌∷◌, Option, Some, None, Result, Ok, Err, length, take, drop, codes, inl, inr, refl, subst, sym, ap, ◌∙◌, arith, length-append}
+use Rattle.std.proofs.Common.{◌≡◌, ◌==◌, ◌||◌, ◌+◌, ◌-◌, ◌<◌, ◌++◌, ℕ, ℤ, true, false, List, [], ◌∷◌, Option, Some, None, Result, Ok, Err, length, codes, inl, inr, refl, subst, sym, ap, ◌∙◌, arith, length-append}
 use Rattle.std.specs.Prelude.{IfOk, IsOk, MatchOption}
 use Rattle.std.specs.Option.{option_map}
 use Rattle.design_model.specs.declared.fault.Fault.{Fault}
@@ -9,21 +9,20 @@ use Rattle.std.proofs.lemmas.List.{length-map}
 use Rattle.std.proofs.lemmas.Bool.Decides.{nat_tests}
 use Rattle.design_model.specs.EnumWords.{orient_word, status_word}
 use Rattle.def_grammar.specs.Parts.{orient, point}
-use Rattle.design_model.specs.declared.edit.EditCode.TheVariants.{UnknownName, Fixed, Number, TooLong}
+use Rattle.design_model.specs.declared.edit.EditCode.TheVariants.{Fixed, Number, TooLong}
 use Rattle.design_model.specs.declared.geometry.Orient.{Orient}
-use Rattle.form_meanings.specs.Words.{first}
 use Rattle.form_meanings.specs.Meaning.{spell_all}
 use Rattle.statement_model.specs.Tokens.{Piece}
-use Rattle.statement_model.specs.Cuts.{Cut, end_of, end_of_all, put_at, with_cuts}
+use Rattle.statement_model.specs.Cuts.{Cut, end_of, end_of_all, with_cuts}
 use Rattle.statement_model.specs.Form.{spell}
 use Rattle.statement_model.specs.Reading.{pos_of}
 use Rattle.def_grammar.specs.Components.{Clause, placed, unplaced, Component, clause, component_form, is_placing, placement}
 use Rattle.def_grammar.specs.Placing.{placing, is_held}
-use Rattle.design_rules.specs.Edits.{cut_of, fixed_part, is_long, is_out, place_change, place_cuts, placed_text, placing_change, tokens_of}
+use Rattle.design_rules.specs.Edits.{cut_of, fixed_part, is_long, is_out, place_change, place_cuts, placed_text, tokens_of}
 use Rattle.lefdef_tokens.specs.Pieces.{end_after, pieces_of, span_of, words_of}
 use Rattle.lefdef_tokens.specs.declared.token_run.TokenRun.{TokenRun}
-use Rattle.def_reader.specs.PlacingViews.{IsPlacing, before_word}
-use Rattle.def_splice.specs.SpliceViews.{clause_cut}
+use Rattle.def_reader.specs.PlacingViews.{IsPlacing}
+use Rattle.def_splice.specs.SpliceViews.{MayWantMemory, clause_cut}
 
 end_is : (p : Piece) (ps : List Piece) → end_after (end_of p) ps ≡ end_of_all (p ∷ ps)
 end_is p [] = refl
@@ -107,6 +106,15 @@ module _ (text : List ℕ) (x y : ℤ) (o : Orient) (ps : List Piece) (c : Compo
 
     pub placed_so : is_long (with_cuts (cut ∷ []) text) ≡ false → place_cuts text x y o (Some (ps, c)) ≡ Ok (cut ∷ [])
     placed_so h = let k = rw is at h in rw (free, good, k, is) refl
+
+  -- where a component may be moved to these coordinates, a placement is refused for nothing but its length
+  pub may_want : is_held (placing c.clauses) ≡ false → (is_out x || is_out y) ≡ false → MayWantMemory (place_cuts text x y o (Some (ps, c)))
+  may_want free good =
+      let cut = cut_of text ps (place_change x y o c) in
+      elim (cases_Bool (is_long (with_cuts (cut ∷ []) text))) [
+        | inl long ↦ rw (too_long free good cut refl long) refl
+        | inr short ↦ rw (placed_so free good cut refl short) tt
+      ]
 
 -- the design of a text that reads
 pub design_of : (r : Result (List Record) Fault) → IsOk r → (design : List Record) × (r ≡ Ok design)

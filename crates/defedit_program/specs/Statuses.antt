@@ -1,5 +1,10 @@
 -- How the program ends, and its exit statuses.
-use Rattle.std.specs.Prelude.{ℕ, ◌+◌, ◌==◌, if◌then◌else◌}
+use denote.Ref.{Bor}
+use Rattle.std.specs.Prelude.{ℕ, List, ◌+◌, ◌==◌, if◌then◌else◌}
+use Rattle.clap.specs.declared.error.kind.ErrorKind.{ErrorKind}
+use Rattle.clap.specs.declared.error.kind.ErrorKind.TheVariants.{OutOfMemory}
+use Rattle.counted_devices.specs.declared.input.InputError.{InputError}
+use Rattle.counted_devices.specs.declared.input.InputError.TheVariants as inputs
 use Rattle.design_rules.specs.Output.{Counts}
 use Rattle.edit_script.specs.declared.run.RunFault.{RunFault}
 use Rattle.edit_script.specs.declared.run.RunFault.TheVariants as faults
@@ -37,3 +42,15 @@ ends (stops.CannotWrite path) = Device
 ends stops.WriteFailed = Device
 ends stops.Memory = Memory
 ends (stops.Run fault) = run_ends fault
+
+-- why the program ends where a file isn't read
+abbrev pub unreadable : Bor (List ℕ) → InputError → Stop
+unreadable path inputs.Memory = stops.Memory
+unreadable path inputs.Read = stops.CannotRead path
+unreadable path inputs.TooLong = stops.CannotRead path
+unreadable path inputs.Endless = stops.CannotRead path
+
+-- how a command line that is no request ends the program
+abbrev pub refused_ends : ErrorKind → Outcome
+refused_ends OutOfMemory = Memory
+refused_ends other = Usage

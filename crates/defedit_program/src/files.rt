@@ -1,17 +1,41 @@
 //! Files, read whole and written whole.
 
-use counted_devices::counted::Counted;
+ghost use Rattle.std.specs.Prelude.{◌<◌, ◌^◌, IfOk, OnOk};
+ghost use Rattle.std.specs.Io.KnownBytes.{Appends};
+ghost use Rattle.defedit_program.specs.Files.{IsText};
+
+use crate::outcome::Stop;
+use counted_devices::counted::{Counted, CountedRead, Failures};
 use counted_devices::input::{InputError, read_up_to};
 use design_model::MAX_TEXT;
 use edit_script::run::MAX_TURNS;
 use std::alloc::Global;
 use std::fs;
+use std::io::{Read, Write};
 use std::rt::Files;
 
-/// A file, whole or, where it is longer than a text may be, up to where that shows.
+/// What a file holds: whole or, where it is longer than a text may be, up to where that shows.
+fn text_of<R: CountedRead>(alloc: Global, file: &mut R) -> Result<Vec<u8>, InputError>
+    requires { R.failed file.old < 2 ^ 63 }
+    ensures { IfOk result (λ v. IsText (R.remaining file.old) (R.remaining file.new) v.items) }
+{
+    read_up_to(alloc, file, MAX_TEXT + 1, MAX_TURNS)
+}
+
+/// Reads the text of a file.
 pub fn read_text<R: Files>(alloc: Global, rt: &R, path: &str) -> Result<Vec<u8>, InputError> {
     let Ok(file) = fs::open(rt, path) else {
         return Err(InputError::Read);
     };
-    read_up_to(alloc, &mut Counted::new(file), MAX_TEXT + 1, MAX_TURNS)
+    text_of(alloc, &mut Counted::new(file))
+}
+
+/// Writes a text into a file.
+pub fn fill_file<'a, W: Write>(file: &mut W, text: &[u8]) -> Result<(), Stop<'a>>
+    ensures { OnOk result (Appends (W.contents file.old) (W.contents file.new) text.now) }
+{
+    match file.write_all(text) {
+        Ok(()) => Ok(()),
+        Err(_) => Err(Stop::WriteFailed),
+    }
 }

@@ -1,20 +1,26 @@
 //! The program: its command line, its files and what it says on standard error.
 
+ghost use Rattle.std.specs.Prelude.{◌≡◌};
+ghost use Rattle.clap.specs.Values.{kind_of};
+ghost use Rattle.defedit_program.specs.Statuses.{ends, refused_ends, unreadable};
+
 use crate::command_line::{Request, read_request};
 use crate::ending::run_to_end;
-use crate::files::read_text;
+use crate::files::{fill_file, read_text};
 use crate::outcome::{Outcome, Stop};
 use cell_library::lef_texts::LefTexts;
+use clap::Error;
 use clap::error::ErrorKind;
 use counted_devices::counted::Counted;
 use counted_devices::input::InputError;
 use std::alloc::Global;
-use std::io::Write;
 use std::rt::{Env, Files};
 use std::{env, fs, io};
 
 /// A file that can't be opened, or can't be read.
-fn unreadable(path: &str, error: InputError) -> Stop<'_> {
+fn unreadable(path: &str, error: InputError) -> Stop<'_>
+    ensures { result ≡ unreadable path.entry error }
+{
     match error {
         InputError::Memory => Stop::Memory,
         InputError::Read | InputError::TooLong | InputError::Endless => Stop::CannotRead(path),
@@ -65,16 +71,26 @@ fn write_text<'a, R: Files>(rt: &R, path: &'a str, text: &[u8]) -> Result<(), St
     let Ok(mut file) = fs::create(rt, path) else {
         return Err(Stop::CannotWrite(path));
     };
-    match file.write_all(text) {
-        Ok(()) => Ok(()),
-        Err(_) => Err(Stop::WriteFailed),
-    }
+    fill_file(&mut file, text)
 }
 
 /// Says on standard error why the program ends.
-fn say<R: Eprint>(rt: &R, stop: Stop<'_>) -> Outcome {
+fn say<R: Eprint>(rt: &R, stop: Stop<'_>) -> Outcome
+    ensures { result ≡ ends stop.entry }
+{
     let _ = eprintln!(rt; "{stop}");
     stop.outcome()
+}
+
+/// Says on standard error why a command line is no request, or shows its help.
+fn refuse<R: Eprint>(rt: &R, error: &Error) -> Outcome
+    ensures { result ≡ refused_ends (kind_of error.now) }
+{
+    if error.kind() == ErrorKind::OutOfMemory {
+        return say(rt, Stop::Memory);
+    }
+    let _ = rt.eprint(error);
+    Outcome::Usage
 }
 
 /// Runs the program, and says how it ends.
@@ -100,12 +116,6 @@ pub fn end_of<R: Files + Env + AllocGlobal + Print + Eprint>(rt: &R) -> Outcome 
             Ok(outcome) => outcome,
             Err(stop) => say(rt, stop),
         },
-        Err(error) => {
-            if error.kind() == ErrorKind::OutOfMemory {
-                return say(rt, Stop::Memory);
-            }
-            let _ = rt.eprint(&error);
-            Outcome::Usage
-        }
+        Err(error) => refuse(rt, &error),
     }
 }

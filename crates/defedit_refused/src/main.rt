@@ -1,4 +1,4 @@
-//! The program on a refused and a bad line.
+//! The program on a refused and a bad line, and on two LEF texts with a macro of the same name.
 #![tactic(auto)]
 
 use defedit_program::program::end_of;

@@ -15,6 +15,7 @@ use Rattle.design_rules.specs.Diagnostics.{diagnostics}
 use Rattle.design_rules.specs.Edits.{Change, applied, is_long}
 use Rattle.design_rules.specs.Runs.{Makes, new_text, text_outcome}
 use Rattle.splicing_laws.specs.KeepingLaws.{IsOneCut}
+use Rattle.def_splice.specs.SpliceViews.{WantsMemory}
 
 -- what opening a text says: it reads, or has this fault; refused memory says nothing
 abbrev pub OpensAs : {S : Type 0} → List ℕ → Result S ReadError → Type 0
@@ -30,13 +31,12 @@ Reports library text lines = (design : List Record) × (read_def text ≡ Ok des
 pub record HaveTheirKinds {A : Type 0} (lines : List (DiagLine A)) : Type 0 where
   pub each : All IsOfItsKind lines
 
--- what making the text after an edit says: it is that of the edit's cuts, or refused as the edit is; refused memory says
--- nothing
+-- what making the text after an edit says: it is that of the edit's cuts, or refused as the edit is
 abbrev pub MakesText : {V : Type 0} → (V → List ℕ) → Library → List ℕ → Change → Result V EditRefusal → Type 0
 MakesText items library old change (Ok v) = (cuts : List Cut) × Makes library old change (Ok cuts) × (items v ≡ with_cuts cuts old)
 MakesText items library old change (Err (Refused code)) = Makes library old change (Err code)
 MakesText items library old change (Err (Unreadable fault)) = ⊥
-MakesText items library old change (Err Memory) = Unit {0}
+MakesText items library old change (Err Memory) = WantsMemory library old change
 
 -- the text after an accepted edit reads as the edited design
 abbrev pub ReadsEdited : List ℕ → Change → List ℕ → Type 0

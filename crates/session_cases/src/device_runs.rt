@@ -4,7 +4,7 @@ use crate::devices::{Fails, Interrupted, OneByte, TakesNone};
 use crate::texts::{INVERTER, TWO_INVERTERS};
 use cell_library::lef_texts::LefTexts;
 use counted_devices::counted::Counted;
-use edit_script::run::{MAX_SCRIPT, RunFault, Tally, run};
+use edit_script::run::{RunFault, Tally, run};
 use std::alloc::{AllocError, Global};
 use std::io;
 use std::io::{Read, Write};
@@ -17,6 +17,9 @@ struct Outputs {
     answers: Vec<u8>,
     text: Vec<u8>,
 }
+
+/// How long a script may be, in bytes.
+const MOST: u64 = 16777216;
 
 const SCRIPT: &[u8] = b"place u1 0 0 N\nundo\nplace u3 0 0 N\ncheck\n";
 
@@ -89,8 +92,7 @@ fn a_reader_that_fails_at_each_turn(rt: HostRuntime) -> Result<(), Fail> {
 
 #[test]
 fn a_script_of_most_bytes_and_one_more(rt: HostRuntime) -> Result<(), Fail> {
-    let most = MAX_SCRIPT as u64;
-    let got = read_by(rt.alloc(), io::repeat(b'#').take(most))?;
+    let got = read_by(rt.alloc(), io::repeat(b'#').take(MOST))?;
     let none = Tally {
         accepted: 0,
         refused: 0,
@@ -99,7 +101,9 @@ fn a_script_of_most_bytes_and_one_more(rt: HostRuntime) -> Result<(), Fail> {
     assert_eq!(rt; got.result, Ok(none));
     assert!(rt; got.answers.is_empty());
     assert_eq!(rt; got.text.as_slice(), TWO_INVERTERS);
-    let got = read_by(rt.alloc(), io::repeat(b'#').take(most + 1))?;
+    let got = read_by(rt.alloc(), OneByte(io::repeat(b'#').take(100000)))?;
+    assert_eq!(rt; got.result, Ok(none));
+    let got = read_by(rt.alloc(), io::repeat(b'#').take(MOST + 1))?;
     assert_eq!(rt; got.result, Err(RunFault::TooLong));
     assert!(rt; got.answers.is_empty() && got.text.is_empty());
     Ok(())

@@ -1,8 +1,7 @@
-use Rattle.std.proofs.Common.{◌≡◌, ◌-◌, length, take, ap, sym, ◌∙◌}
+use Rattle.std.proofs.Common.{◌-◌, length, take, ap, ◌∙◌}
 use Rattle.std.proofs.lemmas.List.{length-map}
 use Rattle.lefdef_tokens.specs.Pieces.{span_of}
-use Rattle.lefdef_tokens.specs.Views.{pieces_of, words_of}
-use Rattle.def_splice.specs.SpliceViews.{cut_view}
+use Rattle.lefdef_tokens.specs.Views.{pieces_of}
 use Rattle.def_splice.proofs.PlaceLemmas.{if_ok, span_end, span_start}
 use Rattle.def_splice.proofs.place.clause_splice.Goals as goal
 

@@ -1,4 +1,5 @@
 use Rattle.std.proofs.Common.{rules, ◌≡◌, Ok, map, sym, subst}
+use Rattle.std.proofs.lemmas.Result.{err_from_is_err_and}
 use Rattle.statement_model.specs.Cuts.{with_cuts}
 use Rattle.design_rules.specs.Edits.{change_of}
 use Rattle.design_rules.specs.Runs.{Makes}
@@ -28,3 +29,10 @@ returns-clause-reads g c = edited_reads c.args.text.now (change_of c.args.edit.n
 
 pub returns-clause-fits : goal.returns-clause-fits
 returns-clause-fits g c = read_fits c.in_ok-new.new.items (returns-clause-reads g c)
+
+pub returns-in_err-new-clause-makes : goal.returns-in_err-new-clause-makes
+returns-in_err-new-clause-makes g c =
+    let cuts = map cut_view c.in_ok-splices.splices in
+    let made : Makes c.args.library.now c.args.text.now (change_of c.args.edit.now) (Ok cuts) = search rules in
+    let p = err_from_is_err_and c.from_residual-in_err-new.result c.from_residual-in_err-new.ensures.1 in
+    rw (p.1, p.2) (Ok cuts, made, tt)
