@@ -22,7 +22,8 @@ use Rattle.design_rules.specs.Edits.{cut_of, fixed_part, is_long, is_out, place_
 use Rattle.lefdef_tokens.specs.Pieces.{end_after, pieces_of, span_of, words_of}
 use Rattle.lefdef_tokens.specs.declared.token_run.TokenRun.{TokenRun}
 use Rattle.def_reader.specs.PlacingViews.{IsPlacing}
-use Rattle.def_splice.specs.SpliceViews.{MayWantMemory, clause_cut}
+use Rattle.design_rules.specs.Runs.{MayWantMemory}
+use Rattle.def_splice.specs.SpliceViews.{clause_cut}
 
 end_is : (p : Piece) (ps : List Piece) → end_after (end_of p) ps ≡ end_of_all (p ∷ ps)
 end_is p [] = refl

@@ -2,7 +2,7 @@
 use Rattle.std.specs.Prelude.{◌≡◌, ◌≤◌, ◌-◌, ◌++◌, ℕ, ℤ, true, false, List, [], ◌∷◌, codes, length, map, take, Option, Some, None, Result, Ok, Err}
 use Rattle.std.specs.Option.{option_map}
 use Rattle.design_model.specs.declared.edit.EditCode.{EditCode}
-use Rattle.design_model.specs.declared.edit.EditCode.TheVariants.{Fixed, TooLong}
+use Rattle.design_model.specs.declared.edit.EditCode.TheVariants.{Fixed}
 use Rattle.design_model.specs.declared.edit.EditRefusal.{EditRefusal}
 use Rattle.design_model.specs.declared.edit.EditRefusal.TheVariants.{Refused, Unreadable, Memory}
 use Rattle.design_model.specs.declared.edit.Splice.{Splice}
@@ -15,7 +15,7 @@ use Rattle.def_grammar.specs.Placing.{is_held}
 use Rattle.def_grammar.specs.Records.{Record, read_def}
 use Rattle.lef_grammar.specs.Library.{Library}
 use Rattle.design_rules.specs.Edits.{Change, component_at, located, place_cuts}
-use Rattle.design_rules.specs.Runs.{Makes}
+use Rattle.design_rules.specs.Runs.{Makes, MayWantMemory, WantsMemory}
 
 abbrev pub cut_view : {A : Type 0} → Splice A → Cut
 cut_view s = record { lo = s.lo; hi = s.hi; put = s.put }
@@ -43,21 +43,12 @@ Moves view placing (Err refusal) = (is_held (option_map (λ p. view p.0) placing
 abbrev pub PlacesAs : List ℕ → List ℕ → ℤ → ℤ → Orient → Result (List Cut) EditCode → Type 0
 PlacesAs text name x y o outcome = (design : List Record) × (read_def text ≡ Ok design) × (place_cuts text x y o (component_at name (located text design)) ≡ outcome)
 
--- want of memory may stand in the place of this answer: of none that needs no memory
-abbrev pub MayWantMemory : Result (List Cut) EditCode → Type 0
-MayWantMemory (Ok cuts) = Unit {0}
-MayWantMemory (Err code) = code ≡ TooLong
-
 -- the splice is its one cut, or it is refused so
 abbrev pub PlacesSplice : {A : Type 0} → List ℕ → List ℕ → ℤ → ℤ → Orient → Result (Splice A) EditRefusal → Type 0
 PlacesSplice text name x y o (Ok s) = PlacesAs text name x y o (Ok (cut_view s ∷ []))
 PlacesSplice text name x y o (Err (Refused code)) = PlacesAs text name x y o (Err code)
 PlacesSplice text name x y o (Err (Unreadable fault)) = ⊥
 PlacesSplice text name x y o (Err Memory) = (outcome : Result (List Cut) EditCode) × PlacesAs text name x y o outcome × MayWantMemory outcome
-
--- an edit of a text that reads may be answered by want of memory
-abbrev pub WantsMemory : Library → List ℕ → Change → Type 0
-WantsMemory library text change = (outcome : Result (List Cut) EditCode) × Makes library text change outcome × MayWantMemory outcome
 
 -- the splices are the cuts of an edit of a text that reads, or the edit is refused so
 abbrev pub MakesSplices : {A : Type 0} → Library → List ℕ → Change → Result (List (Splice A)) EditRefusal → Type 0

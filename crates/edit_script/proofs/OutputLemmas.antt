@@ -13,11 +13,13 @@ use Rattle.design_model.specs.declared.edit.Done.{Done}
 use Rattle.design_model.specs.declared.edit.EditCode.TheVariants.{Range, TooLong}
 use Rattle.design_model.specs.declared.edit.EditRefusal.{EditRefusal}
 use Rattle.design_model.specs.declared.edit.EditRefusal.TheVariants.{Refused, Memory}
-use Rattle.design_rules.specs.Edits.{is_long}
+use Rattle.design_model.specs.declared.edit.EditCode.{EditCode}
+use Rattle.statement_model.specs.Cuts.{Cut}
+use Rattle.design_rules.specs.Edits.{Change, cuts_of, is_long}
 use Rattle.lef_grammar.specs.Library.{Library}
 use Rattle.def_grammar.specs.Records.{Record}
 use Rattle.def_grammar.specs.Records.{read_def}
-use Rattle.design_rules.specs.Runs.{Step, design_edit, text_edit, Answers, new_text}
+use Rattle.design_rules.specs.Runs.{Step, design_edit, text_edit, Answers, Makes, new_text}
 use Rattle.design_rules.specs.Script.{Question, Order, nothing, make, refuse, ask, bad, order_of, trimmed_lines, script_lines}
 use Rattle.design_rules.specs.Output.{Counts, LineAnswers, Output, reply_line, refusal_line, counted, answer_to, bad_line, no_lines}
 use Rattle.edit_script.specs.Ends.{WritesRun, WritesRunPart}
@@ -46,10 +48,21 @@ is_le a b e = grind (arith, nat_tests)
 never : false ≡ true → ⊥
 never e = cc
 
+some_design : (r : Result (List Record) Fault) → IsOk r → (design : List Record) × (r ≡ Ok design)
+some_design (Ok design) reads = (design, refl)
+some_design (Err fault) reads = absurd (never reads)
+
+some_outcome : (library : Library) (text : List ℕ) (change : Change) (outcome : Result (List Cut) EditCode) → Makes library text change outcome
+    → (reply : Result Done EditRefusal) × Answers library text (design_edit change) reply text
+some_outcome library text change (Ok cuts) makes = (Err Memory, (refl, Ok cuts, makes, tt))
+some_outcome library text change (Err code) makes = (Err (Refused code), (refl, makes))
+
 -- some answer to any edit, that leaves the text as it was
-some_answer : (library : Library) (text : List ℕ) (step : Step) → (reply : Result Done EditRefusal) × Answers library text step reply text
-some_answer library text (design_edit change) = (Err Memory, refl)
-some_answer library text (text_edit a b put) =
+some_answer : (library : Library) (text : List ℕ) (step : Step) → IsOk (read_def text) → (reply : Result Done EditRefusal) × Answers library text step reply text
+some_answer library text (design_edit change) reads =
+    let (design, is) = some_design (read_def text) reads in
+    some_outcome library text change (cuts_of library text design change) (design, is, refl)
+some_answer library text (text_edit a b put) reads =
     elim (nat_le a b) as (λ r. nat_le a b ≡ r → (reply : Result Done EditRefusal) × Answers library text (text_edit a b put) reply text) [
       | false ↦ λ d. (Err (Refused Range), (refl, rw d refl))
       | true ↦ λ d. elim (nat_le b (length text)) as (λ r. nat_le b (length text) ≡ r → (reply : Result Done EditRefusal) × Answers library text (text_edit a b put) reply text) [
@@ -61,14 +74,10 @@ some_answer library text (text_edit a b put) =
       ] refl
     ] refl
 
-some_design : (r : Result (List Record) Fault) → IsOk r → (design : List Record) × (r ≡ Ok design)
-some_design (Ok design) reads = (design, refl)
-some_design (Err fault) reads = absurd (never reads)
-
 some_line : (library : Library) (n : ℕ) (order : Order) (old : List ℕ) (t : Counts) → IsOk (read_def old) → (bytes : List ℕ) × (u : Counts) × LineAnswers library n order old t bytes old u
 some_line library n nothing old t reads = ([], t, (refl, refl, refl))
 some_line library n (make step) old t reads =
-    let (reply, answer) = some_answer library old step in
+    let (reply, answer) = some_answer library old step reads in
     (reply_line n reply, counted reply t, (reply, answer, refl, refl))
 some_line library n (refuse code) old t reads = (refusal_line n (Refused code), record t { refused = t.refused + 1 }, (refl, refl, refl))
 some_line library n (ask question) old t reads =

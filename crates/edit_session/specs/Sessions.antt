@@ -13,9 +13,8 @@ use Rattle.def_grammar.specs.Records.{Record, read_def}
 use Rattle.lef_grammar.specs.Library.{Library}
 use Rattle.design_rules.specs.Diagnostics.{diagnostics}
 use Rattle.design_rules.specs.Edits.{Change, applied, is_long}
-use Rattle.design_rules.specs.Runs.{Makes, new_text, text_outcome}
+use Rattle.design_rules.specs.Runs.{Makes, WantsMemory, new_text, text_outcome}
 use Rattle.splicing_laws.specs.KeepingLaws.{IsOneCut}
-use Rattle.def_splice.specs.SpliceViews.{WantsMemory}
 
 -- what opening a text says: it reads, or has this fault; refused memory says nothing
 abbrev pub OpensAs : {S : Type 0} → List ℕ → Result S ReadError → Type 0

@@ -1,13 +1,12 @@
 //! The session: a library and the present text of a design.
 
-ghost use Rattle.std.specs.Prelude.{◌≡◌, ◌+◌, ◌≤◌, ◌<◌, ◌^◌, OnErr, OnOk, IfOk, IsErrOf, IsOk, length};
+ghost use Rattle.std.specs.Prelude.{◌≡◌, ◌+◌, ◌≤◌, ◌<◌, ◌^◌, OnErr, OnOk, IfOk, IsOk, length};
 ghost use Rattle.std.specs.Io.KnownBytes.{Appends};
 ghost use Rattle.counted_devices.specs.Counting.{HasFailed};
 ghost use Rattle.counted_devices.specs.Known.{WritesPart};
 ghost use Rattle.def_grammar.specs.Records.{read_def};
 ghost use Rattle.design_rules.specs.Edits.{change_of};
 ghost use Rattle.design_rules.specs.Runs.{Answers, design_edit, text_edit};
-ghost use Rattle.def_splice.specs.SpliceViews.{WantsMemory};
 ghost use Rattle.edit_session.specs.Sessions.{HaveTheirKinds, KeepsTheRest, MakesText, OpensAs, ReadsEdited, ReplacesText, Reports};
 
 use crate::report::report;
@@ -65,7 +64,6 @@ impl<'s, 'l, A: Allocator + Copy> Session<'s, 'l, A> {
     /// Makes an edit, or refuses it and leaves the text as it was.
     pub fn edit(&mut self, edit: &Edit<'_>) -> Result<Done, EditRefusal>
         ensures answer { Answers self.old.library self.old.text (design_edit (change_of edit.now)) result self.new.text }
-        ensures memory { IsErrOf result EditRefusal.Memory → WantsMemory self.old.library self.old.text (change_of edit.now) }
         ensures applied { IfOk result (λ _. ReadsEdited self.old.text (change_of edit.now) self.new.text) }
         ensures keeps { IfOk result (λ _. KeepsTheRest self.old.library self.old.text (change_of edit.now) self.new.text) }
         ensures library { self.new.library ≡ self.old.library }
