@@ -1,5 +1,6 @@
 pub mod DefRows
 pub mod EditRows
 pub mod LefRows
+pub mod LibraryRows
 pub mod TextRows
 pub mod TokenRows

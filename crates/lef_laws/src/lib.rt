@@ -1,6 +1,9 @@
 //! Laws of the statements of a LEF text: those of `statement_laws` that take a grammar, at that of LEF.
 //!
-//! Each law is an empty function that ensures it; call it to use it.
+//! Each law is an empty function that ensures it; call it to use it. Begin with `lef_forms_are_spelled`: what reads as
+//! a statement is what the statement is spelled with. `lef_reading_goes_on` and `lef_reading_joins` have the records of
+//! tokens and then more. The statements are in `statement_laws/specs/FormLaws` and `ReadingLaws`, over `lef` of
+//! `lef_grammar`.
 #![tactic(auto)]
 
 ghost use Rattle.lef_grammar.specs.LefRecords.{lef};
