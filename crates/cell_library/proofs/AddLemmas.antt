@@ -1,120 +1,68 @@
--- The macros of a text, as a loop over its statements finds them.
-use Rattle.std.proofs.Common.{◌≡◌, ℕ, ◌≤◌, List, [], ◌∷◌, ◌++◌, length, refl, sym, ap, ◌∙◌, append_assoc, OnOk, IfErr, Option, Some, None, Result, Ok, Err}
-use Rattle.std.specs.Option.{option_or}
-use Rattle.std.specs.List.{filter_map, cons_option}
+-- What a text defines, as a loop over its statements finds it.
+use Rattle.std.proofs.Common.{◌≡◌, ℕ, ◌≤◌, List, [], ◌∷◌, ◌++◌, length, refl, sym, ap, ◌∙◌, append_assoc, OnOk, Result, Ok, Err, Some, None}
 use Rattle.std.proofs.lemmas.List.{append-nil}
 use Rattle.design_model.specs.declared.TheConstants.{MAX_TEXT}
 use Rattle.design_model.specs.declared.fault.Fault.{Fault}
-use Rattle.design_model.specs.declared.fault.ReadError.{ReadError}
-use Rattle.design_model.specs.declared.fault.ReadError.TheVariants.{Memory}
-use Rattle.form_meanings.specs.Words.{first}
 use Rattle.statement_model.specs.Tokens.{Lexed, left_from}
 use Rattle.statement_model.specs.Reading.{read_at}
 use Rattle.statement_reader.proofs.SoFar.{SoFar, so_far_start, so_far_on, so_far_fault, so_far_ends}
-use Rattle.lef_grammar.specs.Outermost.{OutermostRecord, end_library, opens_site, opens_macro, kept_outside}
-use Rattle.lef_grammar.specs.MacroBlock.{MacroRecord, class_of, size_of}
-use Rattle.lef_grammar.specs.LefRecords.{Block, outermost, LefRecord, outside, in_site, in_macro, lef, read_lef}
-use Rattle.lef_grammar.specs.Library.{Library, Macro, of_macro, macros_of, with_first, with_all, with_text}
-use Rattle.cell_library.specs.LibraryViews.{with_record, opened_by, closed, noted, AddsText}
+use Rattle.lef_grammar.specs.LefRecords.{Block, outermost, LefRecord, outside, in_layer, in_site, in_via, in_rule, in_rule_layer, in_macro, in_pin, in_port, in_kept, lef, read_lef}
+use Rattle.lef_grammar.specs.Library.{Library, with_text}
+use Rattle.cell_library.specs.LibraryViews.{noted}
+use Rattle.cell_library.proofs.JoinLemmas.{texts_join}
 
--- the open macro with what the statements after it say, and the macros after it
-abbrev completed : Macro → List MacroRecord → Macro
-completed m rs = record { name = m.name; class = option_or m.class (first (filter_map class_of rs)); size = option_or m.size (first (filter_map size_of rs)) }
+-- a library with the statements that wait, and those that are left
+abbrev all_of : Library × List LefRecord → List LefRecord → Library
+all_of s recs = with_text s.0 (s.1 ++ recs)
 
-abbrev pending : Option Macro → List LefRecord → List Macro
-pending None recs = macros_of recs
-pending (Some m) recs = completed m (of_macro recs) ∷ macros_of recs
+later : (r : LefRecord) (l : Library) (group recs : List LefRecord) → with_text l (group ++ (r ∷ recs)) ≡ with_text l ((group ++ r ∷ []) ++ recs)
+later r l group recs = ap (with_text l) (sym (append_assoc group (r ∷ []) recs))
 
--- all macros, where some are complete and one may be open
-abbrev all_of : Library × Option Macro → List LefRecord → List Macro
-all_of s recs = with_all s.0.macros (pending s.1 recs)
+step : (r : LefRecord) (l : Library) (group recs : List LefRecord) → all_of (l, group) (r ∷ recs) ≡ all_of (noted r (l, group)) recs
+step (outside r) l group recs = texts_join l group r recs
+step (in_layer r) l group recs = later (in_layer r) l group recs
+step (in_site r) l group recs = later (in_site r) l group recs
+step (in_via r) l group recs = later (in_via r) l group recs
+step (in_rule r) l group recs = later (in_rule r) l group recs
+step (in_rule_layer r) l group recs = later (in_rule_layer r) l group recs
+step (in_macro r) l group recs = later (in_macro r) l group recs
+step (in_pin r) l group recs = later (in_pin r) l group recs
+step (in_port r) l group recs = later (in_port r) l group recs
+step (in_kept r) l group recs = later (in_kept r) l group recs
 
-first_of : {A : Type 0} (o : Option A) (all : List A) → first (cons_option o all) ≡ option_or o (first all)
-first_of None all = refl
-first_of (Some a) all = refl
-
-or_assoc : {A : Type 0} (a b c : Option A) → option_or a (option_or b c) ≡ option_or (option_or a b) c
-or_assoc None b c = refl
-or_assoc (Some x) b c = refl
-
-or_none : {A : Type 0} (a : Option A) → option_or a None ≡ a
-or_none None = refl
-or_none (Some x) = refl
-
--- what a statement of the open macro says comes before what those after it say
-inside : (m : Macro) (r : MacroRecord) (rs : List MacroRecord) → completed m (r ∷ rs) ≡ completed (with_record r m) rs
-inside m r rs =
-    let class = ap (option_or m.class) (first_of (class_of r) (filter_map class_of rs)) ∙ or_assoc m.class (class_of r) (first (filter_map class_of rs)) in
-    let size = ap (option_or m.size) (first_of (size_of r) (filter_map size_of rs)) ∙ or_assoc m.size (size_of r) (first (filter_map size_of rs)) in
-    rw (class, size) refl
-
-nothing_inside : (m : Macro) → completed m [] ≡ m
-nothing_inside m = rw (or_none m.class, or_none m.size) refl
-
-complete : (l : Library) (m : Macro) (ms : List Macro) → with_all l.macros (completed m [] ∷ ms) ≡ with_all (with_first l.macros m) ms
-unfolding with_all
-complete l m ms = ap (λ (x : Macro). with_all (with_first l.macros x) ms) (nothing_inside m)
-
-opens : (r : OutermostRecord) (recs : List LefRecord) → macros_of (outside r ∷ recs) ≡ pending (opened_by r) recs
-opens end_library recs = refl
-opens (opens_site name) recs = refl
-opens (opens_macro name) recs = refl
-opens (kept_outside w ws) recs = refl
-
-step : (rec : LefRecord) (l : Library) (o : Option Macro) (recs : List LefRecord) → all_of (l, o) (rec ∷ recs) ≡ all_of (noted rec (l, o)) recs
-step (outside r) l None recs = ap (with_all l.macros) (opens r recs)
-step (outside r) l (Some m) recs = complete l m (macros_of (outside r ∷ recs)) ∙ ap (with_all (with_first l.macros m)) (opens r recs)
-step (in_site r) l None recs = refl
-step (in_site r) l (Some m) recs = complete l m (macros_of recs)
-step (in_macro r) l None recs = refl
-step (in_macro r) l (Some m) recs = ap (λ (x : Macro). with_all l.macros (x ∷ macros_of recs)) (inside m r (of_macro recs))
-
-at_end : (l : Library) (o : Option Macro) → record { macros = all_of (l, o) [] } ≡ closed l o
-unfolding with_all
-at_end l None = refl
-at_end l (Some m) = ap (λ (x : Macro). record { macros = with_first l.macros x }) (nothing_inside m)
-
--- What was read of a text, and that its macros besides old ones are those so far and those of what is left.
-pub record Adding (text : List ℕ) (old now : Library) (o : Option Macro) (b : Block) (pos : ℕ) : Type 0 where
+-- What was read of a text, and that it and what is left define what is defined so far with the statements that wait and
+-- those that are left.
+pub record Adding (text : List ℕ) (old now : Library) (group : List LefRecord) (b : Block) (pos : ℕ) : Type 0 where
   pub front : List LefRecord
   pub so_far : SoFar lef outermost text front b [] pos
-  pub same : (recs : List LefRecord) → all_of (old, None) (front ++ recs) ≡ all_of (now, o) recs
+  pub same : (recs : List LefRecord) → with_text old (front ++ recs) ≡ with_text now (group ++ recs)
 
-pub adding_start : (text : List ℕ) (old : Library) → length text ≤ MAX_TEXT → Adding text old old None outermost 0
+pub adding_start : (text : List ℕ) (old : Library) → length text ≤ MAX_TEXT → Adding text old old [] outermost 0
 adding_start text old fits = record { front = []; so_far = so_far_start lef outermost text fits; same = λ recs. refl }
 
-module _ (text : List ℕ) (old now : Library) (o : Option Macro) (b : Block) (pos : ℕ) (a : Adding text old now o b pos) where
-  pub adding_on : (next : Library) (later : Option Macro) (after : Block) (end : ℕ) (rec : LefRecord)
+module _ (text : List ℕ) (old now : Library) (group : List LefRecord) (b : Block) (pos : ℕ) (a : Adding text old now group b pos) where
+  pub adding_on : (next : Library) (waiting : List LefRecord) (after : Block) (end : ℕ) (rec : LefRecord)
       → read_at lef b (left_from text pos) ≡ Ok (Some (rec, after, left_from text end))
-      → (next, later) ≡ noted rec (now, o)
-      → Adding text old next later after end
-  adding_on next later after end rec h e = record {
+      → (next, waiting) ≡ noted rec (now, group)
+      → Adding text old next waiting after end
+  adding_on next waiting after end rec h e = record {
     front = a.front ++ rec ∷ [];
     so_far = so_far_on lef outermost text a.front b [] pos a.so_far after end rec h refl;
     same = λ recs.
-        ap (all_of (old, None)) (append_assoc a.front (rec ∷ []) recs) ∙ a.same (rec ∷ recs) ∙ step rec now o recs
-        ∙ ap (λ (s : Library × Option Macro). all_of s recs) (sym e);
+        ap (with_text old) (append_assoc a.front (rec ∷ []) recs) ∙ a.same (rec ∷ recs) ∙ step rec now group recs
+        ∙ ap (λ (s : Library × List LefRecord). all_of s recs) (sym e);
   }
 
   pub adding_fault : (f : Fault) → read_at lef b (left_from text pos) ≡ Err f → read_lef text ≡ Err f
   adding_fault f h = so_far_fault lef outermost text a.front b [] pos a.so_far f h
 
-  adding_ends : (new : Library)
+  -- the text ends, and what waits is added
+  pub adding_ends : (new : Library)
       → left_from text pos ≡ record { pieces = []; end = Ok (length text) }
       → read_at lef b (left_from text pos) ≡ Ok None
-      → new ≡ closed now o
+      → new ≡ with_text now group
       → (recs : List LefRecord) × (read_lef text ≡ Ok recs) × (new ≡ with_text old recs)
   adding_ends new left none e =
       let end = ap (λ (l : Lexed). l.end) left in
-      let all = ap (all_of (old, None)) (sym (append-nil a.front)) ∙ a.same [] in
-      (a.front, so_far_ends lef outermost text a.front b [] pos a.so_far (length text) end none refl, e ∙ sym (at_end now o) ∙ ap (λ (ms : List Macro). record { macros = ms }) (sym all))
-
-  -- the text ends, and what was open is closed, or memory is refused
-  pub adding_closes : (new : Library) (r : Result (Unit {0}) ReadError)
-      → left_from text pos ≡ record { pieces = []; end = Ok (length text) }
-      → read_at lef b (left_from text pos) ≡ Ok None
-      → OnOk r (new ≡ closed now o)
-      → IfErr r (λ e. e ≡ Memory)
-      → AddsText text old new r
-  adding_closes new (Ok u) left none closes refused = adding_ends new left none closes
-  adding_closes new (Err e) left none closes refused = rw refused tt
+      let all = ap (with_text old) (sym (append-nil a.front)) ∙ a.same [] ∙ ap (with_text now) (append-nil group) in
+      (a.front, so_far_ends lef outermost text a.front b [] pos a.so_far (length text) end none refl, e ∙ sym all)

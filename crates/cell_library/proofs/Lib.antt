@@ -1,3 +1,9 @@
 pub mod AddLemmas
-pub mod LibraryLemmas
+pub mod AddingLemmas
+pub mod CollectingLemmas
+pub mod GroupLemmas
+pub mod JoinLemmas
+pub mod LayerLemmas
+pub mod NamedLemmas
 pub mod ReadLemmas
+pub mod ShapeLemmas

@@ -1,1 +1,11 @@
+pub mod LayerViews
 pub mod LibraryViews
+pub mod MacroViews
+pub mod Naming
+pub mod Numbers
+pub mod PinViews
+pub mod Records
+pub mod RuleViews
+pub mod ShapeViews
+pub mod SiteViews
+pub mod ViaViews

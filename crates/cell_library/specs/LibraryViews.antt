@@ -1,62 +1,36 @@
--- The library of the program, and the macro that is open, as those of the definitions.
-use Rattle.std.specs.Prelude.{◌≡◌, ℕ, List, [], Option, Some, None, Result, Ok, Err, map}
-use Rattle.std.specs.Option.{option_map, option_or}
+-- The library of the program as that of the definitions.
+use Rattle.std.specs.Prelude.{◌≡◌, ℕ, List, [], ◌∷◌, ◌++◌, Result, Ok, Err}
 use denote.Ref.{Bor}
 use Rattle.design_model.specs.declared.fault.ReadError.{ReadError}
 use Rattle.design_model.specs.declared.fault.ReadError.TheVariants as read_errors
-use Rattle.lef_grammar.specs.Outermost.{OutermostRecord, opens_macro}
-use Rattle.lef_grammar.specs.MacroBlock.{MacroRecord, class_of, size_of}
-use Rattle.lef_grammar.specs.LefRecords.{LefRecord, outside, in_site, in_macro, read_lef}
-use Rattle.lef_grammar.specs.Library.{Library, Macro, with_first, with_text, macro_with, library_of}
-use Rattle.cell_library.specs.declared.library.Macro as code_macro
-use Rattle.cell_library.specs.declared.library.Extent as code_extent
-use Rattle.cell_library.specs.declared.library.OpenMacro as code_open
+use Rattle.lef_grammar.specs.LefRecords.{LefRecord, outside, read_lef}
+use Rattle.lef_grammar.specs.Library.{Library, with_text, library_of}
+use Rattle.cell_library.specs.LayerViews.{layers_view}
+use Rattle.cell_library.specs.MacroViews.{macros_view}
+use Rattle.cell_library.specs.RuleViews.{rules_view}
+use Rattle.cell_library.specs.SiteViews.{sites_view}
+use Rattle.cell_library.specs.ViaViews.{vias_view}
+use Rattle.cell_library.specs.declared.layer.Layer.{Layer}
+use Rattle.cell_library.specs.declared.site.Site.{Site}
+use Rattle.cell_library.specs.declared.via.Via.{Via}
+use Rattle.cell_library.specs.declared.rule.Rule.{Rule}
+use Rattle.cell_library.specs.declared.macro_view.Macro.{Macro}
 use Rattle.cell_library.specs.declared.library.LibraryError.{LibraryError}
 use Rattle.cell_library.specs.declared.library.LibraryError.TheVariants as library_errors
 
-abbrev pub class_view : Option (Bor (List ℕ)) → Option (List ℕ)
-class_view = option_map (λ w. w.now)
+abbrev pub library_view : {A : Type 0} → List (List ℕ × Layer) → List (List ℕ × Site) → List (List ℕ × Via A) → List (List ℕ × Rule A) → List (List ℕ × Macro A) → Library
+library_view layers sites vias rules macros = record { layers = layers_view layers; sites = sites_view sites; vias = vias_view vias; rules = rules_view rules; macros = macros_view macros }
 
-abbrev pub size_view : Option code_extent.Extent → Option (List ℕ × List ℕ)
-size_view = option_map (λ x. (x.width.now, x.height.now))
+-- a definition of this name, as it is lent
+abbrev pub seen_by : {D C : Type 0} → (List ℕ × D → C) → List ℕ → Bor D → C
+seen_by view name d = view (name, d.now)
 
--- a macro of this name
-abbrev pub macro_view : List ℕ → code_macro.Macro → Macro
-macro_view name m = record { name = name; class = class_view m.class; size = size_view m.size }
+-- a library and the statements from the last outside of all blocks on, after a statement
+abbrev pub noted : LefRecord → Library × List LefRecord → Library × List LefRecord
+noted (outside r) s = (with_text s.0 s.1, outside r ∷ [])
+noted r s = (s.0, s.1 ++ r ∷ [])
 
-abbrev pub entry_view : Bor (List ℕ) × code_macro.Macro → Macro
-entry_view e = macro_view e.0.now e.1
-
-abbrev pub library_view : List (Bor (List ℕ) × code_macro.Macro) → Library
-library_view es = record { macros = map entry_view es }
-
-abbrev pub found_view : List ℕ → Option code_macro.Macro → Option Macro
-found_view name = option_map (macro_view name)
-
-abbrev pub open_view : code_open.OpenMacro → Macro
-open_view o = macro_view o.name.now o.body
-
--- the macro that a statement outside of all blocks opens
-abbrev pub opened_by : OutermostRecord → Option Macro
-opened_by (opens_macro name) = Some (macro_with name [])
-opened_by _ = None
-
--- an open macro after a statement in it
-abbrev pub with_record : MacroRecord → Macro → Macro
-with_record r m = record { name = m.name; class = option_or m.class (class_of r); size = option_or m.size (size_of r) }
-
--- a library with the macro that was open
-abbrev pub closed : Library → Option Macro → Library
-closed l None = l
-closed l (Some m) = record { macros = with_first l.macros m }
-
--- a library and the macro that is open, after a statement
-abbrev pub noted : LefRecord → Library × Option Macro → Library × Option Macro
-noted (outside r) s = (closed s.0 s.1, opened_by r)
-noted (in_site r) s = (closed s.0 s.1, None)
-noted (in_macro r) s = (s.0, option_map (with_record r) s.1)
-
--- what adding the macros of a text says; refused memory says nothing
+-- what adding a text says; refused memory says nothing
 abbrev pub AddsText : List ℕ → Library → Library → Result (Unit {0}) ReadError → Type 0
 AddsText text old new (Ok u) = (recs : List LefRecord) × (read_lef text ≡ Ok recs) × (new ≡ with_text old recs)
 AddsText text old new (Err (read_errors.Fault f)) = read_lef text ≡ Err f

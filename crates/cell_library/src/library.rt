@@ -1,38 +1,33 @@
 //! The library that LEF texts define.
 
-ghost use Rattle.std.specs.Prelude.{◌≡◌, OnOk, IfErr, IfOk};
+ghost use Rattle.std.specs.Prelude.{◌≡◌, IfErr, OnOk, slice_get};
 ghost use Rattle.std.specs.Option.{option_map};
-ghost use Rattle.lef_reader.specs.MacroViews.{macro_view as statement_view};
-ghost use Rattle.lef_reader.specs.OutermostViews.{outermost_view};
+ghost use Rattle.lef_grammar.specs.Library.{layer_named, macro_named, rule_named, site_named, via_named, with_text};
+ghost use Rattle.lef_grammar.specs.Measures.{place_among};
 ghost use Rattle.lef_reader.specs.StatementViews.{lef_view};
-ghost use Rattle.cell_library.specs.LibraryViews.{open_view, opened_by, with_record};
+ghost use Rattle.cell_library.specs.LayerViews.{layer_name, layer_view};
+ghost use Rattle.cell_library.specs.LibraryViews.{AddsText, ReadsLibrary, noted, seen_by};
+ghost use Rattle.cell_library.specs.MacroViews.{macro_view};
+ghost use Rattle.cell_library.specs.Records.{records_view, word_view};
+ghost use Rattle.cell_library.specs.RuleViews.{rule_view};
+ghost use Rattle.cell_library.specs.SiteViews.{site_view};
+ghost use Rattle.cell_library.specs.ViaViews.{via_view};
 
+use crate::layer::{Layer, add_layers};
 use crate::lef_texts::LefTexts;
+use crate::macro_view::{Macro, add_macros};
+use crate::named::Named;
+use crate::rule::{Rule, add_rules};
+use crate::site::{Site, add_sites};
+use crate::via::{Via, add_vias};
 use design_model::MAX_TEXT;
 use design_model::fault::{Fault, FaultCode, ReadError};
-use indexmap::IndexMap;
+use design_model::identifier::LayerId;
 use lef_reader::block::Block;
-use lef_reader::macro_block::MacroStatement;
-use lef_reader::outermost::OutermostStatement;
 use lef_reader::read_lef::read_lef_statement;
 use lef_reader::statement::LefStatement;
-use std::alloc::{Allocator, Global};
-use std::hash::{BuildHasherDefault, FoldHasher};
+use std::alloc::{AllocError, Allocator, Global};
 use std::marker::Model;
-
-/// Width and height of a macro, in microns as written.
-#[derive(Clone, Copy)]
-pub struct Extent<'l> {
-    pub width: &'l [u8],
-    pub height: &'l [u8],
-}
-
-/// A macro: the first word of its first `CLASS`, and its first `SIZE`.
-#[derive(Clone, Copy)]
-pub struct Macro<'l> {
-    pub class: Option<&'l [u8]>,
-    pub size: Option<Extent<'l>>,
-}
 
 /// Why a library is not read: the fault of a text, with the text's number from 1, or memory that was refused.
 #[derive(Clone, Copy, Debug, PartialEq, Eq)]
@@ -41,10 +36,14 @@ pub enum LibraryError {
     Memory,
 }
 
-/// The first macro of each name, borrowed from the texts.
+/// The first definition of each name, with names borrowed from the texts.
 #[derive(Drop)]
 pub struct Library<'l, A: Allocator = Global> {
-    macros: IndexMap<&'l [u8], Macro<'l>, BuildHasherDefault<FoldHasher>, A>,
+    layers: Named<'l, Layer, A>,
+    sites: Named<'l, Site, A>,
+    vias: Named<'l, Via<'l, A>, A>,
+    rules: Named<'l, Rule<'l, A>, A>,
+    macros: Named<'l, Macro<'l, A>, A>,
 }
 
 impl<'l, A: Allocator> Model for Library<'l, A> {
@@ -53,59 +52,10 @@ impl<'l, A: Allocator> Model for Library<'l, A> {
 
     ghost Value = { TheLibrary };
 
-    ghost view = { λ t. library_view t.macros.entries };
-}
-
-/// The macro whose statements are read, with what they said so far.
-#[derive(Clone, Copy)]
-struct OpenMacro<'l> {
-    name: &'l [u8],
-    body: Macro<'l>,
-}
-
-/// The macro that a statement opens, where it is the header of one.
-fn opened_by<'l>(statement: &OutermostStatement<'l>) -> Option<OpenMacro<'l>>
-    ensures { option_map open_view result ≡ opened_by (outermost_view statement.now) }
-{
-    match statement {
-        OutermostStatement::OpensMacro(name) => Some(OpenMacro {
-            name: name.bytes,
-            body: Macro {
-                class: None,
-                size: None,
-            },
-        }),
-        _ => None,
-    }
-}
-
-/// An open macro after a statement in it. Of each kind the first counts.
-fn with_statement<'l>(opened: OpenMacro<'l>, statement: &MacroStatement<'l>) -> OpenMacro<'l>
-    ensures { open_view result ≡ with_record (statement_view statement.now) (open_view opened.entry) }
-{
-    let mut body = opened.body;
-    match statement {
-        MacroStatement::Class(word, _) => body.class = body.class.or(Some(word.bytes)),
-        MacroStatement::Size(width, height) => {
-            let size = Extent {
-                width: width.bytes,
-                height: height.bytes,
-            };
-            body.size = body.size.or(Some(size));
-        }
-        MacroStatement::End | MacroStatement::Kept(_, _) => {}
-    }
-    OpenMacro {
-        name: opened.name,
-        body,
-    }
+    ghost view = { λ t. library_view t.layers t.sites t.vias t.rules t.macros };
 }
 
 impl<'l, A: Allocator + Copy> Library<'l, A> {
-    ghost use Rattle.lef_grammar.specs.Library.{macro_named};
-    ghost use Rattle.design_model.specs.declared.fault.ReadError.TheVariants.{Memory};
-    ghost use Rattle.cell_library.specs.LibraryViews.{AddsText, ReadsLibrary, closed, found_view, noted};
-
     /// Reads the texts in their order.
     pub fn read<B: Allocator + Copy>(
         alloc: A,
@@ -114,10 +64,14 @@ impl<'l, A: Allocator + Copy> Library<'l, A> {
         ensures { ReadsLibrary texts.now result }
     {
         let mut library = Library {
-            macros: IndexMap::with_hasher(alloc, BuildHasherDefault::new()),
+            layers: Named::new(alloc),
+            sites: Named::new(alloc),
+            vias: Named::new(alloc),
+            rules: Named::new(alloc),
+            macros: Named::new(alloc),
         };
         for (number, text) in texts.as_slice().iter().enumerate() {
-            match library.add_text(text.as_slice()) {
+            match library.add_text(alloc, text.as_slice()) {
                 Ok(()) => {}
                 Err(ReadError::Fault(fault)) => return Err(LibraryError::Fault {
                     file: number + 1,
@@ -129,15 +83,87 @@ impl<'l, A: Allocator + Copy> Library<'l, A> {
         Ok(library)
     }
 
-    /// The macro of a name.
-    pub fn macro_of(&self, name: &[u8]) -> Option<Macro<'l>>
-        ensures { found_view name.now result ≡ macro_named self.now name.now }
+    /// The place of a layer among the others, from the bottom up.
+    #[tactic(auto, using(crate::proofs::LayerLemmas::placed_among))]
+    pub fn layer(&self, name: &[u8]) -> Option<LayerId>
+        ensures { option_map (λ l. l.0) result ≡ place_among self.now.layers name.now }
     {
-        self.macros.get(name).copied()
+        let place = self.layers.place_of(name)?;
+        Some(LayerId(place))
     }
 
-    /// Adds the macros of a text to those before.
-    fn add_text(&mut self, text: &'l [u8]) -> Result<(), ReadError>
+    /// The name of a layer by its place.
+    pub fn layer_name(&self, layer: LayerId) -> Option<&'l [u8]>
+        ensures { option_map word_view result ≡ option_map layer_name (slice_get self.now.layers layer.0) }
+    {
+        self.layers.name_at(layer.0)
+    }
+
+    /// The layer of a name.
+    pub fn layer_named(&self, name: &[u8]) -> Option<&Layer>
+        ensures { option_map (seen_by layer_view name.now) result ≡ layer_named self.now name.now }
+    {
+        self.layers.get(name)
+    }
+
+    /// The site of a name.
+    pub fn site(&self, name: &[u8]) -> Option<&Site>
+        ensures { option_map (seen_by site_view name.now) result ≡ site_named self.now name.now }
+    {
+        self.sites.get(name)
+    }
+
+    /// The via of a name.
+    pub fn via(&self, name: &[u8]) -> Option<&Via<'l, A>>
+        ensures { option_map (seen_by via_view name.now) result ≡ via_named self.now name.now }
+    {
+        self.vias.get(name)
+    }
+
+    /// The rule of a name.
+    pub fn rule(&self, name: &[u8]) -> Option<&Rule<'l, A>>
+        ensures { option_map (seen_by rule_view name.now) result ≡ rule_named self.now name.now }
+    {
+        self.rules.get(name)
+    }
+
+    /// The macro of a name.
+    pub fn macro_of(&self, name: &[u8]) -> Option<&Macro<'l, A>>
+        ensures { option_map (seen_by macro_view name.now) result ≡ macro_named self.now name.now }
+    {
+        self.macros.get(name)
+    }
+
+    /// Adds what the statements of a text define from one outside of all blocks up to the next.
+    fn add_group(&mut self, alloc: A, group: &[LefStatement<'l>]) -> Result<(), AllocError>
+        ensures { OnOk result (self.new ≡ with_text self.old (records_view group.now)) }
+    {
+        add_layers(&mut self.layers, group)?;
+        add_sites(&mut self.sites, group)?;
+        add_vias(alloc, &mut self.vias, group)?;
+        add_rules(alloc, &mut self.rules, group)?;
+        add_macros(alloc, &mut self.macros, group)
+    }
+
+    /// Notes a statement. One outside of all blocks completes the statements before it.
+    fn note(
+        &mut self,
+        alloc: A,
+        group: &mut Vec<LefStatement<'l>, A>,
+        statement: LefStatement<'l>,
+    ) -> Result<(), AllocError>
+        ensures { OnOk result ((self.new, records_view group.new.items) ≡ noted (lef_view statement.entry) (self.old, records_view group.old.items)) }
+    {
+        if let LefStatement::Outside(_) = statement {
+            self.add_group(alloc, group.as_slice())?;
+            group.clear();
+        }
+        group.push(statement)?;
+        Ok(())
+    }
+
+    /// Adds what a text defines to what others before it do.
+    fn add_text(&mut self, alloc: A, text: &'l [u8]) -> Result<(), ReadError>
         ensures { AddsText text.now self.old self.new result }
     {
         if text.len() > MAX_TEXT {
@@ -146,55 +172,15 @@ impl<'l, A: Allocator + Copy> Library<'l, A> {
                 pos: 0,
             }));
         }
+        let mut group = Vec::new(alloc);
         let mut block = Block::Outermost;
-        let mut opened = None;
         let mut pos = 0;
         while let Some(read) = read_lef_statement(block, text, pos)? {
-            opened = self.note(opened, &read.statement)?;
+            self.note(alloc, &mut group, read.statement)?;
             block = read.place;
             pos = read.end;
         }
-        self.close(opened)
-    }
-
-    /// Notes a statement, and gives the macro that is open after it. One that was open is complete where a statement
-    /// doesn't stand in it.
-    fn note(
-        &mut self,
-        opened: Option<OpenMacro<'l>>,
-        statement: &LefStatement<'l>,
-    ) -> Result<Option<OpenMacro<'l>>, ReadError>
-        ensures ok { IfOk result (λ later. (self.new, option_map open_view later) ≡ noted (lef_view statement.now) (self.old, option_map open_view opened.entry)) }
-        ensures err { IfErr result (λ e. e ≡ Memory) }
-    {
-        match statement {
-            LefStatement::InMacro(statement) => match opened {
-                Some(before) => Ok(Some(with_statement(before, statement))),
-                None => Ok(None),
-            },
-            LefStatement::Outside(statement) => {
-                self.close(opened)?;
-                Ok(opened_by(statement))
-            }
-            LefStatement::InSite(_) => {
-                self.close(opened)?;
-                Ok(None)
-            }
-        }
-    }
-
-    /// Adds a macro that is complete, unless its name is taken.
-    fn close(&mut self, opened: Option<OpenMacro<'l>>) -> Result<(), ReadError>
-        ensures ok { OnOk result (self.new ≡ closed self.old (option_map open_view opened.entry)) }
-        ensures err { IfErr result (λ e. e ≡ Memory) }
-    {
-        let Some(done) = opened else {
-            return Ok(());
-        };
-        if self.macros.contains_key(done.name) {
-            return Ok(());
-        }
-        self.macros.insert(done.name, done.body)?;
+        self.add_group(alloc, group.as_slice())?;
         Ok(())
     }
 }

@@ -1,17 +1,16 @@
 -- The boxes of the components that take part in the place checks (own).
-use Rattle.std.specs.Prelude.{ℕ, Bool, false, List, [], ◌∷◌, Option, Some, None, Result, Ok, Err, ℤ, pos, nat_abs, codes, if◌then◌else◌}
+use Rattle.std.specs.Prelude.{ℕ, Bool, false, List, Option, Some, None, pos, nat_abs, codes, if◌then◌else◌}
 use Rattle.std.specs.List.{filter_map}
 use Rattle.design_model.specs.declared.geometry.Orient.{Orient}
-use Rattle.design_model.specs.declared.geometry.Status.{Status}
-use Rattle.design_model.specs.declared.geometry.Status.TheVariants.{Placed, Fixed, Cover}
-use Rattle.design_model.specs.declared.number.NumFault.{NumFault}
-use Rattle.design_model.specs.Units.{Distance, distance, nearest}
+use Rattle.design_model.specs.declared.geometry.Status.TheVariants.{Placed, Fixed}
 use Rattle.design_model.specs.Geometry.{Rectangle, placed_box}
+use Rattle.design_model.specs.Units.{nearest}
 use Rattle.form_meanings.specs.Words.{◌>>=◌, is_word, first}
 use Rattle.def_grammar.specs.Numbers.{int_of}
 use Rattle.def_grammar.specs.Parts.{Coordinates}
 use Rattle.def_grammar.specs.Components.{Clause, placed, Component}
 use Rattle.def_grammar.specs.Records.{Record, component_of, units_of}
+use Rattle.lef_grammar.specs.Definitions.{Distances}
 use Rattle.lef_grammar.specs.Library.{Macro, Library, macro_named}
 use Rattle.def_grammar.specs.Placing.{placing}
 
@@ -23,18 +22,10 @@ units_or_1 (Some n) = nat_abs (int_of n)
 abbrev pub scale : List Record → ℕ
 scale design = units_or_1 (first (filter_map units_of design))
 
--- a distance of a LEF text in database units
-abbrev pub or_zero : ℕ → Result Distance NumFault → ℤ
-or_zero u (Ok d) = nearest d u
-or_zero u (Err e) = pos 0
-
-abbrev pub in_units : ℕ → List ℕ → ℤ
-in_units u word = or_zero u (distance word)
-
 -- a macro's boundary: one without SIZE is a point
-abbrev pub boundary_of : ℕ → Option (List ℕ × List ℕ) → Rectangle
+abbrev pub boundary_of : ℕ → Option Distances → Rectangle
 boundary_of u None = record { x1 = pos 0; y1 = pos 0; x2 = pos 0; y2 = pos 0 }
-boundary_of u (Some size) = record { x1 = pos 0; y1 = pos 0; x2 = in_units u size.0; y2 = in_units u size.1 }
+boundary_of u (Some size) = record { x1 = pos 0; y1 = pos 0; x2 = nearest size.0 u; y2 = nearest size.1 u }
 
 abbrev pub is_cover : Option (List ℕ) → Bool
 is_cover None = false

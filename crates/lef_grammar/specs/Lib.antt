@@ -1,6 +1,15 @@
+pub mod Definitions
 pub mod Extents
+pub mod Firsts
+pub mod KeptBlocks
+pub mod LayerBlock
 pub mod LefRecords
 pub mod Library
 pub mod MacroBlock
+pub mod Measures
 pub mod Outermost
+pub mod PinBlock
+pub mod PortBlock
+pub mod RuleBlock
 pub mod SiteBlock
+pub mod ViaBlock

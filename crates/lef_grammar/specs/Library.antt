@@ -1,55 +1,32 @@
 -- What LEF texts define: the first definition of each name.
-use Rattle.std.specs.Prelude.{ℕ, ◌+◌, Bool, List, [], ◌∷◌, ◌++◌, Option, Some, None, Result, Ok, Err, if◌then◌else◌}
-use Rattle.std.specs.List.{list_any, filter_map}
-use Rattle.std.specs.Str.{bytes_eq}
+use Rattle.std.specs.Prelude.{ℕ, ◌+◌, List, [], ◌∷◌, Option, Result, Ok, Err, map, sum}
 use Rattle.design_model.specs.declared.fault.Fault.{Fault}
-use Rattle.form_meanings.specs.Words.{first}
 use Rattle.statement_model.specs.Folds.{◌>>◌}
-use Rattle.lef_grammar.specs.Outermost.{opens_macro}
-use Rattle.lef_grammar.specs.MacroBlock.{MacroRecord, class_of, size_of}
-use Rattle.lef_grammar.specs.LefRecords.{LefRecord, outside, in_macro, read_lef}
+use Rattle.lef_grammar.specs.LefRecords.{LefRecord, read_lef}
+use Rattle.lef_grammar.specs.Firsts.{find_named, with_all}
+pub use Rattle.lef_grammar.specs.Definitions.{Layer, Site, Via, Rule, Macro, Pin}
+use Rattle.lef_grammar.specs.Definitions.{layers_of, sites_of, vias_of, rules_of, macros_of}
 
--- a macro: its name, the first word of its first CLASS, and width and height of its first SIZE, in microns as written
-pub record Macro : Type 0 where
-  pub name : List ℕ
-  pub class : Option (List ℕ)
-  pub size : Option (List ℕ × List ℕ)
-
--- the records of the macro that is open
-abbrev pub of_macro : List LefRecord → List MacroRecord
-of_macro (in_macro r ∷ rs) = r ∷ of_macro rs
-of_macro _ = []
-
-abbrev pub macro_with : List ℕ → List MacroRecord → Macro
-macro_with name rs = record { name = name; class = first (filter_map class_of rs); size = first (filter_map size_of rs) }
-
--- the macros of a text, in order
-abbrev pub macros_of : List LefRecord → List Macro
-macros_of [] = []
-macros_of (outside (opens_macro name) ∷ rs) = macro_with name (of_macro rs) ∷ macros_of rs
-macros_of (_ ∷ rs) = macros_of rs
-
--- a library: its macros, each the first of its name, in order
+-- a library: of each kind the definitions in order, each the first of its name; layers stand from the bottom up
 pub record Library : Type 0 where
+  pub layers : List Layer
+  pub sites : List Site
+  pub vias : List Via
+  pub rules : List Rule
   pub macros : List Macro
 
 abbrev pub empty_library : Library
-empty_library = record { macros = [] }
-
-abbrev pub is_named : List ℕ → Macro → Bool
-is_named name m = bytes_eq m.name name
-
--- a second definition of a name is ignored
-abbrev pub with_first : List Macro → Macro → List Macro
-with_first before m = if list_any (is_named m.name) before then before else before ++ m ∷ []
-
-unfoldable pub with_all : List Macro → List Macro → List Macro
-with_all before [] = before
-with_all before (m ∷ ms) = with_all (with_first before m) ms
+empty_library = record { layers = []; sites = []; vias = []; rules = []; macros = [] }
 
 -- a library with what a text defines besides
 abbrev pub with_text : Library → List LefRecord → Library
-with_text l recs = record { macros = with_all l.macros (macros_of recs) }
+with_text l recs = record {
+  layers = with_all (λ (d : Layer). d.name) l.layers (layers_of recs);
+  sites = with_all (λ (d : Site). d.name) l.sites (sites_of recs);
+  vias = with_all (λ (d : Via). d.name) l.vias (vias_of recs);
+  rules = with_all (λ (d : Rule). d.name) l.rules (rules_of recs);
+  macros = with_all (λ (d : Macro). d.name) l.macros (macros_of recs);
+}
 
 -- a fault of a LEF text: the text's number, from 1, and the fault
 pub record LefFault : Type 0 where
@@ -68,10 +45,25 @@ library_from n before (t ∷ ts) = in_file n (read_lef t) >> λ recs. library_fr
 abbrev pub library_of : List (List ℕ) → Result Library LefFault
 library_of texts = library_from 1 empty_library texts
 
--- the macro of a name
-abbrev pub named_in : List Macro → List ℕ → Option Macro
-named_in [] name = None
-named_in (m ∷ ms) name = if is_named name m then Some m else named_in ms name
+-- the definition of a name
+abbrev pub layer_named : Library → List ℕ → Option Layer
+layer_named l name = find_named (λ (d : Layer). d.name) l.layers name
+
+abbrev pub site_named : Library → List ℕ → Option Site
+site_named l name = find_named (λ (d : Site). d.name) l.sites name
+
+abbrev pub via_named : Library → List ℕ → Option Via
+via_named l name = find_named (λ (d : Via). d.name) l.vias name
+
+abbrev pub rule_named : Library → List ℕ → Option Rule
+rule_named l name = find_named (λ (d : Rule). d.name) l.rules name
 
 abbrev pub macro_named : Library → List ℕ → Option Macro
-macro_named l name = named_in l.macros name
+macro_named l name = find_named (λ (d : Macro). d.name) l.macros name
+
+abbrev pub pin_named : Macro → List ℕ → Option Pin
+pin_named m name = find_named (λ (p : Pin). p.name) m.pins name
+
+-- how many parts of a macro's pins have no checked shape
+abbrev pub unchecked_of : Macro → ℕ
+unchecked_of m = sum (map (λ (p : Pin). p.unchecked) m.pins)

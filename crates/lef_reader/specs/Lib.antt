@@ -1,5 +1,13 @@
+pub mod BlockViews
+pub mod Events
+pub mod KeptViews
+pub mod LayerViews
 pub mod MacroViews
 pub mod OutermostViews
 pub mod Parts
+pub mod PinViews
+pub mod PortViews
+pub mod RuleViews
 pub mod SiteViews
 pub mod StatementViews
+pub mod ViaViews

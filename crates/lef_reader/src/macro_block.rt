@@ -3,15 +3,26 @@
 ghost use Rattle.std.specs.Prelude.{◌≡◌, IfSome};
 ghost use Rattle.form_meanings.specs.Words.{Gives};
 ghost use Rattle.statement_model.specs.Form.{read};
-ghost use Rattle.lef_grammar.specs.MacroBlock.{class_statement, is_inner_header, is_macro_header, macro_ending, macro_statement, size_statement};
-ghost use Rattle.lefdef_tokens.specs.Views.{IsIn, IsLater, rest_of};
+ghost use Rattle.lef_grammar.specs.MacroBlock.{class_statement, ends_macro, inner_header, is_inner_header, is_macro_header, macro_ending, macro_site_statement, macro_statement, origin_statement};
+ghost use Rattle.lefdef_tokens.specs.Views.{IsLater, rest_of};
 ghost use Rattle.statement_reader.specs.Endings.{ending_view};
-ghost use Rattle.lef_reader.specs.Parts.{with_rest};
-ghost use Rattle.lef_reader.specs.MacroViews.{MacroIn, class_view, macro_view, size_view};
+ghost use Rattle.lef_reader.specs.Parts.{PointIn, WordsIn, point_view, with_rest, words_view};
+ghost use Rattle.lef_reader.specs.MacroViews.{HeaderIn, MacroIn, header_view, macro_view};
 
-use crate::parts::{extent_at, is_kept_word};
-use lefdef_tokens::{Cursor, Token, TokenRun, is_semicolon, is_word};
+use crate::parts::{block_ending, is_kept_word, kept_at, name_to_end_at, size_at, to_end_at};
+use crate::point::{Point, point_at};
+use lefdef_tokens::{Cursor, Token, TokenRun, is_word};
 use statement_reader::boundary::Ending;
+
+/// The header of a block within the block.
+#[derive(Clone, Copy, Drop)]
+pub enum InnerHeader<'l> {
+    /// With its name.
+    Pin(Token<'l>),
+    /// OBS.
+    Obstruction,
+    Density,
+}
 
 /// A statement in a block MACRO.
 #[derive(Clone, Copy, Drop)]
@@ -21,8 +32,21 @@ pub enum MacroStatement<'l> {
     Class(Token<'l>, TokenRun<'l>),
     /// Width and height, in microns as written.
     Size(Token<'l>, Token<'l>),
+    Origin(Point<'l>),
+    /// The name of a site, and what stands behind it.
+    Site(Token<'l>, TokenRun<'l>),
+    Opens(InnerHeader<'l>),
     /// A statement without meaning, by its first token and the others.
     Kept(Token<'l>, TokenRun<'l>),
+}
+
+impl<'l> MacroStatement<'l> {
+    /// Whether it ends the block.
+    pub(crate) fn is_end(&self) -> bool
+        ensures { result ≡ ends_macro (macro_view self.now) }
+    {
+        matches!(self, MacroStatement::End)
+    }
 }
 
 /// Whether a word is the header of a block within the block that stands alone.
@@ -39,52 +63,78 @@ fn is_inner_header(word: &[u8]) -> bool
     is_word(word, b"PIN") || is_macro_header(word)
 }
 
-/// How a statement ends, by its first token.
+/// How a statement ends, by its first token. A header has no `;`.
 pub(crate) fn macro_ending(first: &[u8]) -> Ending
     ensures { ending_view result ≡ macro_ending first.now }
 {
-    if is_word(first, b"END") || is_word(first, b"PIN") {
+    if is_word(first, b"PIN") {
         Ending::WithNext
-    } else if is_macro_header(first) || is_semicolon(first) {
+    } else if is_macro_header(first) {
         Ending::Alone
     } else {
-        Ending::UpTo(b";")
+        block_ending(first)
     }
 }
 
 /// `word any* ;`, after `CLASS`
 #[tactic(auto, unfolding(lef_grammar::specs::MacroBlock::class_statement))]
 fn class_at<'l>(cursor: Cursor<'l>) -> Option<((Token<'l>, TokenRun<'l>), Cursor<'l>)>
-    ensures gives { Gives (with_rest class_view) result (read class_statement (rest_of cursor.entry)) }
+    ensures gives { Gives (with_rest words_view) result (read class_statement (rest_of cursor.entry)) }
     ensures later { IfSome result (λ x. IsLater cursor.entry x.1) }
-    ensures lent { IfSome result (λ x. IsIn cursor.entry.tokens.text.now x.0.0) }
-    ensures others { IfSome result (λ x. x.0.1.text.now ≡ cursor.entry.tokens.text.now) }
+    ensures lent { IfSome result (λ x. WordsIn cursor.entry.tokens.text.now x.0) }
 {
     let (word, cursor) = cursor.next()?;
     if !is_kept_word(word.bytes) {
         return None;
     }
-    let (others, cursor) = cursor.up_to_semicolon();
-    let cursor = cursor.key(b";")?;
+    let (others, cursor) = to_end_at(cursor)?;
     Some(((word, others), cursor))
 }
 
-/// `dec BY dec ;`, after `SIZE`
-#[tactic(auto, unfolding(lef_grammar::specs::MacroBlock::size_statement))]
-fn size_at<'l>(cursor: Cursor<'l>) -> Option<((Token<'l>, Token<'l>), Cursor<'l>)>
-    ensures gives { Gives (with_rest size_view) result (read size_statement (rest_of cursor.entry)) }
+/// `p ;`, after `ORIGIN`
+#[tactic(auto, unfolding(lef_grammar::specs::MacroBlock::origin_statement))]
+fn origin_at<'l>(cursor: Cursor<'l>) -> Option<(Point<'l>, Cursor<'l>)>
+    ensures gives { Gives (with_rest point_view) result (read origin_statement (rest_of cursor.entry)) }
     ensures later { IfSome result (λ x. IsLater cursor.entry x.1) }
-    ensures lent { IfSome result (λ x. IsIn cursor.entry.tokens.text.now x.0.0 × IsIn cursor.entry.tokens.text.now x.0.1) }
+    ensures lent { IfSome result (λ x. PointIn cursor.entry.tokens.text.now x.0) }
 {
-    let (width, cursor) = extent_at(cursor)?;
-    let cursor = cursor.key(b"BY")?;
-    let (height, cursor) = extent_at(cursor)?;
+    let (point, cursor) = point_at(cursor)?;
     let cursor = cursor.key(b";")?;
-    Some(((width, height), cursor))
+    Some((point, cursor))
+}
+
+/// `name any* ;`, after `SITE`
+#[tactic(auto, unfolding(lef_grammar::specs::MacroBlock::macro_site_statement))]
+fn site_at<'l>(cursor: Cursor<'l>) -> Option<((Token<'l>, TokenRun<'l>), Cursor<'l>)>
+    ensures gives { Gives (with_rest words_view) result (read macro_site_statement (rest_of cursor.entry)) }
+    ensures later { IfSome result (λ x. IsLater cursor.entry x.1) }
+    ensures lent { IfSome result (λ x. WordsIn cursor.entry.tokens.text.now x.0) }
+{
+    name_to_end_at(cursor)
+}
+
+/// The header of a block within the block
+#[tactic(auto, unfolding(lef_grammar::specs::MacroBlock::inner_header))]
+fn header_at<'l>(cursor: Cursor<'l>) -> Option<(InnerHeader<'l>, Cursor<'l>)>
+    ensures gives { Gives (with_rest header_view) result (read inner_header (rest_of cursor.entry)) }
+    ensures later { IfSome result (λ x. IsLater cursor.entry x.1) }
+    ensures lent { IfSome result (λ x. HeaderIn cursor.entry.tokens.text.now x.0) }
+{
+    let (word, later) = cursor.next()?;
+    if is_word(word.bytes, b"PIN") {
+        let (name, cursor) = later.name()?;
+        Some((InnerHeader::Pin(name), cursor))
+    } else if is_word(word.bytes, b"OBS") {
+        Some((InnerHeader::Obstruction, later))
+    } else if is_word(word.bytes, b"DENSITY") {
+        Some((InnerHeader::Density, later))
+    } else {
+        None
+    }
 }
 
 /// A statement in the block of this name.
-#[tactic(auto, unfolding(lef_grammar::specs::MacroBlock::macro_statement))]
+#[tactic(auto, unfolding(lef_grammar::specs::MacroBlock::macro_statement, lef_grammar::specs::Extents::kept_statement))]
 pub(crate) fn macro_at<'l>(
     name: &[u8],
     cursor: Cursor<'l>,
@@ -102,10 +152,17 @@ pub(crate) fn macro_at<'l>(
     } else if is_word(word.bytes, b"SIZE") {
         let ((width, height), cursor) = size_at(later)?;
         Some((MacroStatement::Size(width, height), cursor))
-    } else if is_kept_word(word.bytes) && !is_inner_header(word.bytes) {
-        let (others, cursor) = later.tail();
-        Some((MacroStatement::Kept(word, others), cursor))
+    } else if is_word(word.bytes, b"ORIGIN") {
+        let (point, cursor) = origin_at(later)?;
+        Some((MacroStatement::Origin(point), cursor))
+    } else if is_word(word.bytes, b"SITE") {
+        let ((name, others), cursor) = site_at(later)?;
+        Some((MacroStatement::Site(name, others), cursor))
+    } else if is_inner_header(word.bytes) {
+        let (header, cursor) = header_at(cursor)?;
+        Some((MacroStatement::Opens(header), cursor))
     } else {
-        None
+        let ((word, others), cursor) = kept_at(cursor)?;
+        Some((MacroStatement::Kept(word, others), cursor))
     }
 }

@@ -3,24 +3,46 @@
 ghost use Rattle.std.specs.Prelude.{◌≡◌, IfSome};
 ghost use Rattle.form_meanings.specs.Words.{Gives};
 ghost use Rattle.statement_model.specs.Form.{read};
-ghost use Rattle.lef_grammar.specs.Outermost.{is_bare_header, is_header, is_named_header, outermost_ending, outermost_statement};
+ghost use Rattle.lef_grammar.specs.Outermost.{bare_header, is_bare_header, is_named_header, named_header, outermost_ending, outermost_statement};
 ghost use Rattle.lefdef_tokens.specs.Views.{IsLater, rest_of};
 ghost use Rattle.statement_reader.specs.Endings.{ending_view};
 ghost use Rattle.lef_reader.specs.Parts.{with_rest};
-ghost use Rattle.lef_reader.specs.OutermostViews.{OutermostIn, outermost_view};
+ghost use Rattle.lef_reader.specs.OutermostViews.{NamedIn, OutermostIn, bare_view, named_view, outermost_view};
 
-use crate::parts::is_kept_word;
-use lefdef_tokens::{Cursor, Token, TokenRun, is_semicolon, is_word};
+use crate::parts::{block_ending, kept_at};
+use lefdef_tokens::{Cursor, Token, TokenRun, is_word};
 use statement_reader::boundary::Ending;
+
+/// The header of a block with a name, and that name.
+#[derive(Clone, Copy, Drop)]
+pub enum NamedHeader<'l> {
+    Layer(Token<'l>),
+    Site(Token<'l>),
+    Macro(Token<'l>),
+    /// NONDEFAULTRULE.
+    Rule(Token<'l>),
+    Via(Token<'l>),
+    /// VIARULE.
+    GeneratingRule(Token<'l>),
+}
+
+/// The header of a block without a name.
+#[derive(Clone, Copy, Drop)]
+pub enum BareHeader {
+    Units,
+    Spacing,
+    /// PROPERTYDEFINITIONS.
+    Properties,
+    /// BEGINEXT.
+    Extension,
+}
 
 /// A statement outside of all blocks.
 #[derive(Clone, Copy, Drop)]
 pub enum OutermostStatement<'l> {
     EndLibrary,
-    /// The header of a block SITE, with its name.
-    OpensSite(Token<'l>),
-    /// The header of a block MACRO, with its name.
-    OpensMacro(Token<'l>),
+    Named(NamedHeader<'l>),
+    Bare(BareHeader),
     /// A statement without meaning, by its first token and the others.
     Kept(Token<'l>, TokenRun<'l>),
 }
@@ -47,28 +69,67 @@ fn is_bare_header(word: &[u8]) -> bool
         || is_word(word, b"BEGINEXT")
 }
 
-/// Whether a word is a header.
-fn is_header(word: &[u8]) -> bool
-    ensures { result ≡ is_header word.now }
-{
-    is_named_header(word) || is_bare_header(word)
-}
-
 /// How a statement ends, by its first token. A header has no `;`.
 pub(crate) fn outermost_ending(first: &[u8]) -> Ending
     ensures { ending_view result ≡ outermost_ending first.now }
 {
-    if is_word(first, b"END") || is_named_header(first) {
+    if is_named_header(first) {
         Ending::WithNext
-    } else if is_bare_header(first) || is_semicolon(first) {
+    } else if is_bare_header(first) {
         Ending::Alone
     } else {
-        Ending::UpTo(b";")
+        block_ending(first)
+    }
+}
+
+/// The header of a block with a name.
+#[tactic(auto, unfolding(lef_grammar::specs::Outermost::named_header))]
+fn named_at<'l>(cursor: Cursor<'l>) -> Option<(NamedHeader<'l>, Cursor<'l>)>
+    ensures gives { Gives (with_rest named_view) result (read named_header (rest_of cursor.entry)) }
+    ensures later { IfSome result (λ x. IsLater cursor.entry x.1) }
+    ensures lent { IfSome result (λ x. NamedIn cursor.entry.tokens.text.now x.0) }
+{
+    let (word, later) = cursor.next()?;
+    let (name, cursor) = later.name()?;
+    if is_word(word.bytes, b"LAYER") {
+        Some((NamedHeader::Layer(name), cursor))
+    } else if is_word(word.bytes, b"SITE") {
+        Some((NamedHeader::Site(name), cursor))
+    } else if is_word(word.bytes, b"MACRO") {
+        Some((NamedHeader::Macro(name), cursor))
+    } else if is_word(word.bytes, b"NONDEFAULTRULE") {
+        Some((NamedHeader::Rule(name), cursor))
+    } else if is_word(word.bytes, b"VIA") {
+        Some((NamedHeader::Via(name), cursor))
+    } else if is_word(word.bytes, b"VIARULE") {
+        Some((NamedHeader::GeneratingRule(name), cursor))
+    } else {
+        None
+    }
+}
+
+/// The header of a block without a name.
+#[tactic(auto, unfolding(lef_grammar::specs::Outermost::bare_header))]
+fn bare_at<'l>(cursor: Cursor<'l>) -> Option<(BareHeader, Cursor<'l>)>
+    ensures gives { Gives (with_rest bare_view) result (read bare_header (rest_of cursor.entry)) }
+    ensures later { IfSome result (λ x. IsLater cursor.entry x.1) }
+{
+    let (word, later) = cursor.next()?;
+    if is_word(word.bytes, b"UNITS") {
+        Some((BareHeader::Units, later))
+    } else if is_word(word.bytes, b"SPACING") {
+        Some((BareHeader::Spacing, later))
+    } else if is_word(word.bytes, b"PROPERTYDEFINITIONS") {
+        Some((BareHeader::Properties, later))
+    } else if is_word(word.bytes, b"BEGINEXT") {
+        Some((BareHeader::Extension, later))
+    } else {
+        None
     }
 }
 
 /// A statement outside of all blocks.
-#[tactic(auto, unfolding(lef_grammar::specs::Outermost::outermost_statement))]
+#[tactic(auto, unfolding(lef_grammar::specs::Outermost::outermost_statement, lef_grammar::specs::Extents::kept_statement))]
 pub(crate) fn outermost_at<'l>(cursor: Cursor<'l>) -> Option<(OutermostStatement<'l>, Cursor<'l>)>
     ensures gives { Gives (with_rest outermost_view) result (read outermost_statement (rest_of cursor.entry)) }
     ensures later { IfSome result (λ x. IsLater cursor.entry x.1) }
@@ -77,16 +138,14 @@ pub(crate) fn outermost_at<'l>(cursor: Cursor<'l>) -> Option<(OutermostStatement
     let (word, later) = cursor.next()?;
     if is_word(word.bytes, b"END") {
         Some((OutermostStatement::EndLibrary, later.key(b"LIBRARY")?))
-    } else if is_word(word.bytes, b"SITE") {
-        let (name, cursor) = later.name()?;
-        Some((OutermostStatement::OpensSite(name), cursor))
-    } else if is_word(word.bytes, b"MACRO") {
-        let (name, cursor) = later.name()?;
-        Some((OutermostStatement::OpensMacro(name), cursor))
-    } else if is_kept_word(word.bytes) && !is_header(word.bytes) {
-        let (others, cursor) = later.tail();
-        Some((OutermostStatement::Kept(word, others), cursor))
+    } else if is_named_header(word.bytes) {
+        let (header, cursor) = named_at(cursor)?;
+        Some((OutermostStatement::Named(header), cursor))
+    } else if is_bare_header(word.bytes) {
+        let (header, cursor) = bare_at(cursor)?;
+        Some((OutermostStatement::Bare(header), cursor))
     } else {
-        None
+        let ((word, others), cursor) = kept_at(cursor)?;
+        Some((OutermostStatement::Kept(word, others), cursor))
     }
 }

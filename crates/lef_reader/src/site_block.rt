@@ -3,39 +3,35 @@
 ghost use Rattle.std.specs.Prelude.{◌≡◌, IfSome};
 ghost use Rattle.form_meanings.specs.Words.{Gives};
 ghost use Rattle.statement_model.specs.Form.{read};
-ghost use Rattle.lef_grammar.specs.SiteBlock.{site_ending, site_statement};
+ghost use Rattle.lef_grammar.specs.SiteBlock.{ends_site, site_statement};
 ghost use Rattle.lefdef_tokens.specs.Views.{IsLater, rest_of};
-ghost use Rattle.statement_reader.specs.Endings.{ending_view};
 ghost use Rattle.lef_reader.specs.Parts.{with_rest};
 ghost use Rattle.lef_reader.specs.SiteViews.{SiteIn, site_view};
 
-use crate::parts::is_kept_word;
-use lefdef_tokens::{Cursor, Token, TokenRun, is_semicolon, is_word};
-use statement_reader::boundary::Ending;
+use crate::parts::{kept_at, size_at};
+use lefdef_tokens::{Cursor, Token, TokenRun, is_word};
 
 /// A statement in a block SITE.
 #[derive(Clone, Copy, Drop)]
 pub enum SiteStatement<'l> {
     End,
+    /// Width and height, in microns as written.
+    Size(Token<'l>, Token<'l>),
     /// A statement without meaning, by its first token and the others.
     Kept(Token<'l>, TokenRun<'l>),
 }
 
-/// How a statement ends, by its first token.
-pub(crate) fn site_ending(first: &[u8]) -> Ending
-    ensures { ending_view result ≡ site_ending first.now }
-{
-    if is_word(first, b"END") {
-        Ending::WithNext
-    } else if is_semicolon(first) {
-        Ending::Alone
-    } else {
-        Ending::UpTo(b";")
+impl<'l> SiteStatement<'l> {
+    /// Whether it ends the block.
+    pub(crate) fn is_end(&self) -> bool
+        ensures { result ≡ ends_site (site_view self.now) }
+    {
+        matches!(self, SiteStatement::End)
     }
 }
 
 /// A statement in the block of this name.
-#[tactic(auto, unfolding(lef_grammar::specs::SiteBlock::site_statement))]
+#[tactic(auto, unfolding(lef_grammar::specs::SiteBlock::site_statement, lef_grammar::specs::Extents::kept_statement))]
 pub(crate) fn site_at<'l>(
     name: &[u8],
     cursor: Cursor<'l>,
@@ -47,10 +43,11 @@ pub(crate) fn site_at<'l>(
     let (word, later) = cursor.next()?;
     if is_word(word.bytes, b"END") {
         Some((SiteStatement::End, later.key(name)?))
-    } else if is_kept_word(word.bytes) {
-        let (others, cursor) = later.tail();
-        Some((SiteStatement::Kept(word, others), cursor))
+    } else if is_word(word.bytes, b"SIZE") {
+        let ((width, height), cursor) = size_at(later)?;
+        Some((SiteStatement::Size(width, height), cursor))
     } else {
-        None
+        let ((word, others), cursor) = kept_at(cursor)?;
+        Some((SiteStatement::Kept(word, others), cursor))
     }
 }

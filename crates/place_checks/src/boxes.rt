@@ -4,14 +4,19 @@ ghost use Rattle.std.specs.Prelude.{◌≡◌, ◌≤◌, ◌<◌, ℕ, List, If
 ghost use Rattle.std.specs.Option.{option_map};
 ghost use Rattle.design_model.specs.Geometry.{IsNearRectangle};
 ghost use Rattle.design_model.specs.Views.{rectangle_of};
-ghost use Rattle.design_rules.specs.Boxes.{boundary_of, box_at, box_of, boxes, in_units, is_cover, scale};
+ghost use Rattle.design_rules.specs.Boxes.{boundary_of, box_at, box_of, boxes, is_cover, scale};
 ghost use Rattle.def_reader.specs.PointViews.{point_view};
 ghost use Rattle.def_reader.specs.StatementViews.{record_view};
-ghost use Rattle.cell_library.specs.LibraryViews.{class_view, macro_view, size_view};
+ghost use Rattle.design_model.specs.Units.{nearest};
+ghost use Rattle.unit_numbers.specs.Distances.{distance_of};
+ghost use Rattle.cell_library.specs.MacroViews.{macro_view};
+ghost use Rattle.cell_library.specs.Numbers.{point_view};
+ghost use Rattle.cell_library.specs.Records.{word_view};
 ghost use Rattle.place_checks.specs.Corners.{corner, in_order};
 ghost use Rattle.place_checks.specs.Views.{boxed_view, records_view};
 
-use cell_library::library::{Library, Macro};
+use cell_library::library::Library;
+use cell_library::macro_view::Macro;
 use def_reader::components::{Clause, Placement};
 use def_reader::number::int_of;
 use def_reader::read_statement::Read;
@@ -20,7 +25,7 @@ use design_model::geometry::{Point, Rect, Status};
 use lefdef_tokens::is_word;
 use orient_geom::place_box;
 use std::alloc::{AllocError, Allocator};
-use unit_numbers::microns;
+use unit_numbers::Microns;
 
 /// A component that takes part: its name and its box.
 #[derive(Clone, Copy)]
@@ -41,17 +46,14 @@ fn scale_of(records: &[Read<'_>]) -> u32
     1
 }
 
-/// A distance of a LEF text in database units.
-fn units_of(word: &[u8], scale: u32) -> i64
+/// A distance in database units.
+fn units_of(distance: Microns, scale: u32) -> i64
     requires some { 0 < scale }
     requires few { scale ≤ 100000 }
-    ensures units { result ≡ in_units scale word.now }
+    ensures units { result ≡ nearest (distance_of distance) scale }
     ensures bound { nat_abs result ≤ 100000000000 }
 {
-    match microns(word) {
-        Ok(distance) => distance.units(scale).value,
-        Err(_) => 0,
-    }
+    distance.units(scale).value
 }
 
 /// The rectangle between the origin and a corner.
@@ -70,24 +72,21 @@ fn corner_box(width: i64, height: i64) -> Rect
 }
 
 /// The boundary of a macro, in database units: one without `SIZE` is a point.
-fn boundary_of(cell: &Macro<'_>, scale: u32) -> Rect
+fn boundary_of<A: Allocator + Copy>(cell: &Macro<'_, A>, scale: u32) -> Rect
     requires some { 0 < scale }
     requires few { scale ≤ 100000 }
-    ensures spans { rectangle_of result ≡ in_order (boundary_of scale (size_view cell.now.size)) }
+    ensures spans { rectangle_of result ≡ in_order (boundary_of scale (option_map point_view cell.now.size)) }
     ensures near { IsNearRectangle (rectangle_of result) }
 {
     match cell.size {
-        Some(extent) => corner_box(
-            units_of(extent.width, scale),
-            units_of(extent.height, scale),
-        ),
+        Some(size) => corner_box(units_of(size.x, scale), units_of(size.y, scale)),
         None => corner_box(0, 0),
     }
 }
 
 /// Whether a macro is a cover.
-fn is_cover(cell: &Macro<'_>) -> bool
-    ensures { result ≡ is_cover (class_view cell.now.class) }
+fn is_cover<A: Allocator + Copy>(cell: &Macro<'_, A>) -> bool
+    ensures { result ≡ is_cover (option_map word_view cell.now.class) }
 {
     match cell.class {
         Some(word) => is_word(word, b"COVER"),
@@ -96,8 +95,8 @@ fn is_cover(cell: &Macro<'_>) -> bool
 }
 
 /// The box of a component of this name that is placed so, where its macro is no cover: whatever the macro's name is.
-fn box_at<'t>(
-    cell: &Macro<'_>,
+fn box_at<'t, A: Allocator + Copy>(
+    cell: &Macro<'_, A>,
     scale: u32,
     name: &'t [u8],
     placement: Placement<'t>,
@@ -105,7 +104,7 @@ fn box_at<'t>(
     requires some { 0 < scale }
     requires few { scale ≤ 100000 }
     ensures { let placed = placement.entry in
-        (cell_name : List ℕ) → option_map boxed_view result ≡ box_at scale name.entry.now (point_view placed.at) placed.orient (macro_view cell_name cell.now) }
+        (cell_name : List ℕ) → option_map boxed_view result ≡ box_at scale name.entry.now (point_view placed.at) placed.orient (macro_view (cell_name, cell.now)) }
 {
     if is_cover(cell) {
         return None;
@@ -138,7 +137,7 @@ fn box_of<'t, A: Allocator + Copy>(
     };
     match placement.status {
         Status::Placed | Status::Fixed => {
-            box_at(&library.macro_of(cell)?, scale, name, placement)
+            box_at(library.macro_of(cell)?, scale, name, placement)
         }
         Status::Cover => None,
     }

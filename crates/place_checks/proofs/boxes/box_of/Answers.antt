@@ -1,5 +1,5 @@
 use Rattle.def_reader.specs.ComponentViews.{component_view}
-use Rattle.cell_library.specs.LibraryViews.{macro_view}
+use Rattle.cell_library.specs.MacroViews.{macro_view}
 use Rattle.place_checks.proofs.StepLemmas.{known_box}
 use Rattle.place_checks.proofs.boxes.box_of.Goals as goal
 
@@ -8,5 +8,5 @@ returns-in_ok-macro_of-in-Placed g c =
     let cell = c.in-Component.parts.cell.bytes.now in
     let placed = rw c.in-Some-Placed.field-0-is at c.in-Some-Placed.ensures.gives in
     rw c.in-Component.is
-    (known_box c.args.library.now c.args.scale (component_view c.in-Component.parts) _ _ _ (macro_view cell c.in_ok-macro_of-in-Placed.field-0) _
+    (known_box c.args.library.now c.args.scale (component_view c.in-Component.parts) _ _ _ (macro_view (cell, c.in_ok-macro_of-in-Placed.field-0.now)) _
     placed c.in-Placed.is c.in_ok-macro_of-in-Placed.ensures (c.box_at.ensures cell))

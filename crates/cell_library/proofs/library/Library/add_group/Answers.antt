@@ -1,0 +1,7 @@
+use Rattle.std.proofs.Common.{Ok, Err, refl}
+use Rattle.cell_library.proofs.GroupLemmas.{all_added}
+use Rattle.cell_library.proofs.library.Library.add_group.Goals as goal
+
+pub returns : goal.returns
+returns g c =
+    rw (← c.self.view_is) (all_added c.self.inside.layers c.self.inside.sites c.self.inside.vias c.self.inside.rules c.self.inside.macros _ _ _ _ _ _ c.add_macros.result c.in_ok-add_layers.ensures c.in_ok-add_sites.ensures c.in_ok-add_vias.ensures c.in_ok-add_rules.ensures c.add_macros.ensures)

@@ -1,0 +1,20 @@
+-- Definitions with their names.
+use Rattle.std.specs.Prelude.{ℕ, suc, List, [], ◌∷◌, map, Option, Some, None, if◌then◌else◌}
+use Rattle.std.specs.Option.{option_map}
+use denote.Ref.{Bor}
+use Rattle.lef_grammar.specs.Firsts.{find_named, has_name}
+
+abbrev pub name_of : {D : Type 0} → List ℕ × D → List ℕ
+name_of e = e.0
+
+abbrev pub entries_view : {D : Type 0} → List (Bor (List ℕ) × D) → List (List ℕ × D)
+entries_view es = map (λ e. (e.0.now, e.1)) es
+
+-- what a name stands for
+abbrev pub named : {D : Type 0} → List (List ℕ × D) → List ℕ → Option D
+named es name = option_map (λ e. e.1) (find_named name_of es name)
+
+-- the place of a name
+abbrev pub place_of : {D : Type 0} → List (List ℕ × D) → List ℕ → Option ℕ
+place_of [] name = None
+place_of (e ∷ es) name = if has_name name_of name e then Some 0 else option_map suc (place_of es name)

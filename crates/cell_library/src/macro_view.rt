@@ -1,0 +1,130 @@
+//! Macros.
+
+ghost use Rattle.std.specs.Prelude.{◌≡◌, List, ℕ, IfOk, OnOk, map};
+ghost use Rattle.std.specs.List.{filter_map};
+ghost use Rattle.std.specs.Option.{option_map};
+ghost use Rattle.lef_grammar.specs.Definitions.{both_read, inner_record, macro_record, macro_with, macros_of, opened_macro, point_read};
+ghost use Rattle.lef_grammar.specs.Firsts.{first_of, front, with_all};
+ghost use Rattle.lef_grammar.specs.MacroBlock.{class_of, origin_of, site_of, size_of};
+ghost use Rattle.lef_reader.specs.StatementViews.{lef_view};
+ghost use Rattle.cell_library.specs.MacroViews.{macro_name, macro_view, macros_view};
+ghost use Rattle.cell_library.specs.Numbers.{point_view};
+ghost use Rattle.cell_library.specs.Records.{records_view, word_view};
+
+use crate::group::inner_of;
+use crate::named::Named;
+use crate::numbers::{MicronPoint, read_both, read_point};
+use crate::pin::{Pin, read_pins};
+use design_model::sequence::Sequence;
+use lef_reader::macro_block::MacroStatement;
+use lef_reader::outermost::{NamedHeader, OutermostStatement};
+use lef_reader::statement::LefStatement;
+use std::alloc::{AllocError, Allocator, Global};
+
+/// A macro: the first word of its first `CLASS`, its first `SIZE` and `ORIGIN`, the names of its sites, and the first of its
+/// pins of each name.
+#[derive(Drop)]
+pub struct Macro<'l, A: Allocator = Global> {
+    pub class: Option<&'l [u8]>,
+    pub size: Option<MicronPoint>,
+    pub origin: Option<MicronPoint>,
+    pub sites: Sequence<&'l [u8], A>,
+    pub pins: Named<'l, Pin<'l, A>, A>,
+}
+
+/// The first word of the first `CLASS` in a macro.
+fn class_of<'l>(inner: &[LefStatement<'l>]) -> Option<&'l [u8]>
+    ensures { option_map word_view result ≡ first_of class_of (filter_map macro_record (records_view inner.now)) }
+{
+    for statement in inner {
+        if let LefStatement::InMacro(MacroStatement::Class(word, _)) = statement {
+            return Some(word.bytes);
+        }
+    }
+    None
+}
+
+/// The first `SIZE` in a macro.
+fn size_of(inner: &[LefStatement<'_>]) -> Option<MicronPoint>
+    ensures { option_map point_view result ≡ option_map both_read (first_of size_of (filter_map macro_record (records_view inner.now))) }
+{
+    for statement in inner {
+        if let LefStatement::InMacro(MacroStatement::Size(width, height)) = statement {
+            return Some(read_both(*width, *height));
+        }
+    }
+    None
+}
+
+/// The first `ORIGIN` in a macro.
+fn origin_of(inner: &[LefStatement<'_>]) -> Option<MicronPoint>
+    ensures { option_map point_view result ≡ option_map point_read (first_of origin_of (filter_map macro_record (records_view inner.now))) }
+{
+    for statement in inner {
+        if let LefStatement::InMacro(MacroStatement::Origin(point)) = statement {
+            return Some(read_point(*point));
+        }
+    }
+    None
+}
+
+/// The names of the sites in a macro.
+fn sites_of<'l, A: Allocator + Copy>(
+    alloc: A,
+    inner: &[LefStatement<'l>],
+) -> Result<Sequence<&'l [u8], A>, AllocError>
+    ensures { IfOk result (λ names. map word_view names ≡ filter_map site_of (filter_map macro_record (records_view inner.now))) }
+{
+    let mut names = Sequence::new(alloc);
+    for statement in inner {
+        if let LefStatement::InMacro(MacroStatement::Site(name, _)) = statement {
+            names.push(name.bytes)?;
+        }
+    }
+    Ok(names)
+}
+
+/// The macro of the statements behind its header.
+fn read_macro<'l, A: Allocator + Copy>(
+    alloc: A,
+    behind: &[LefStatement<'l>],
+) -> Result<Macro<'l, A>, AllocError>
+    ensures { IfOk result (λ cell. (name : List ℕ) → macro_view (name, cell) ≡ macro_with (name, front inner_record (records_view behind.now))) }
+{
+    let inner = inner_of(behind);
+    Ok(Macro {
+        class: class_of(inner),
+        size: size_of(inner),
+        origin: origin_of(inner),
+        sites: sites_of(alloc, inner)?,
+        pins: read_pins(alloc, inner)?,
+    })
+}
+
+/// The name of the macro that a statement opens.
+fn opened_macro<'l>(statement: &LefStatement<'l>) -> Option<&'l [u8]>
+    ensures { option_map word_view result ≡ opened_macro (lef_view statement.now) }
+{
+    match statement {
+        LefStatement::Outside(OutermostStatement::Named(NamedHeader::Macro(name))) =>
+            Some(name.bytes),
+        _ => None,
+    }
+}
+
+/// Adds the macros that these statements define.
+pub(crate) fn add_macros<'l, A: Allocator + Copy>(
+    alloc: A,
+    macros: &mut Named<'l, Macro<'l, A>, A>,
+    statements: &[LefStatement<'l>],
+) -> Result<(), AllocError>
+    ensures { OnOk result (macros_view macros.new ≡ with_all macro_name (macros_view macros.old) (macros_of (records_view statements.now))) }
+{
+    for place in 0..statements.len() {
+        if let Some(name) = opened_macro(&statements[place]) {
+            let cell = read_macro(alloc, &statements[place + 1..])?;
+            macros.add(name, cell)?;
+        }
+    }
+    Ok(())
+}

@@ -1,0 +1,73 @@
+//! Definitions by name.
+
+ghost use Rattle.std.specs.Prelude.{◌≡◌, [], OnOk, OnErr, slice_get};
+ghost use Rattle.std.specs.Prelude.{option_copied};
+ghost use Rattle.std.specs.Option.{option_map};
+ghost use Rattle.lef_grammar.specs.Firsts.{with_first};
+ghost use Rattle.cell_library.specs.Naming.{place_of, name_of, named};
+ghost use Rattle.cell_library.specs.Records.{word_view};
+
+use indexmap::IndexMap;
+use std::alloc::{AllocError, Allocator, Global};
+use std::hash::{BuildHasherDefault, FoldHasher};
+use std::marker::Model;
+
+/// Definitions with their names, in the order in which they came: the first of each name.
+#[derive(Drop)]
+pub struct Named<'l, D: Drop, A: Allocator = Global> {
+    entries: IndexMap<&'l [u8], D, BuildHasherDefault<FoldHasher>, A>,
+}
+
+impl<'l, D: Drop, A: Allocator> Model for Named<'l, D, A> {
+    ghost use Rattle.std.specs.Prelude.{List, ℕ};
+    ghost use Rattle.cell_library.specs.Naming.{entries_view};
+
+    ghost Value = { List (List ℕ × D) };
+
+    ghost view = { λ t. entries_view t.entries.entries };
+}
+
+impl<'l, D: Drop, A: Allocator + Copy> Named<'l, D, A> {
+    /// No definition. It takes no memory.
+    pub fn new(alloc: A) -> Named<'l, D, A>
+        ensures { result ≡ [] }
+    {
+        Named {
+            entries: IndexMap::with_hasher(alloc, BuildHasherDefault::new()),
+        }
+    }
+
+    /// The definition of a name.
+    pub fn get(&self, name: &[u8]) -> Option<&D>
+        ensures { option_copied result ≡ named self.now name.now }
+    {
+        self.entries.get(name)
+    }
+
+    /// The place of a name among the others.
+    pub fn place_of(&self, name: &[u8]) -> Option<usize>
+        ensures { result ≡ place_of self.now name.now }
+    {
+        self.entries.get_index_of(name)
+    }
+
+    /// The name at a place.
+    pub fn name_at(&self, place: usize) -> Option<&'l [u8]>
+        ensures { option_map word_view result ≡ option_map name_of (slice_get self.now place) }
+    {
+        let (name, _) = self.entries.get_index(place)?;
+        Some(*name)
+    }
+
+    /// Adds a definition at the end, unless its name is taken. Where memory is refused nothing changes.
+    pub fn add(&mut self, name: &'l [u8], definition: D) -> Result<(), AllocError>
+        ensures ok { OnOk result (self.new ≡ with_first name_of self.old (name.now, definition)) }
+        ensures err { OnErr result (self.new ≡ self.old) }
+    {
+        if self.entries.contains_key(name) {
+            return Ok(());
+        }
+        self.entries.insert(name, definition)?;
+        Ok(())
+    }
+}

@@ -1,0 +1,75 @@
+//! Numbers of LEF texts, as they are read.
+
+ghost use Rattle.std.specs.Prelude.{◌≡◌};
+ghost use Rattle.lef_reader.specs.Parts.{corners_view as written_corners, point_view as written_point};
+ghost use Rattle.lef_grammar.specs.Definitions.{both_read, corners_read, distance_read, point_read, whole_read};
+ghost use Rattle.unit_numbers.specs.Distances.{distance_of};
+ghost use Rattle.cell_library.specs.Numbers.{point_view, rectangle_view};
+
+use lef_reader::point::{Corners, Point};
+use lefdef_tokens::Token;
+use unit_numbers::{Microns, microns, whole};
+
+/// A point in microns, or a width and a height.
+#[derive(Clone, Copy)]
+pub struct MicronPoint {
+    pub x: Microns,
+    pub y: Microns,
+}
+
+/// Two corners of a rectangle, in microns.
+#[derive(Clone, Copy)]
+pub struct MicronRect {
+    pub from: MicronPoint,
+    pub to: MicronPoint,
+}
+
+/// The distance that a word of a text is.
+pub(crate) fn read_distance(word: &[u8]) -> Microns
+    ensures { distance_of result ≡ distance_read word.now }
+{
+    match microns(word) {
+        Ok(distance) => distance,
+        Err(_) => Microns {
+            value: 0,
+            places: 0,
+        },
+    }
+}
+
+/// The whole number that a word of a text is.
+pub(crate) fn read_whole(word: &[u8]) -> i32
+    ensures { result ≡ whole_read word.now }
+{
+    match whole(word) {
+        Ok(number) => number,
+        Err(_) => 0,
+    }
+}
+
+/// The point that two words of a text are.
+pub(crate) fn read_both(x: Token<'_>, y: Token<'_>) -> MicronPoint
+    ensures { point_view result ≡ both_read (x.entry.bytes.now, y.entry.bytes.now) }
+{
+    MicronPoint {
+        x: read_distance(x.bytes),
+        y: read_distance(y.bytes),
+    }
+}
+
+/// A point of a text.
+pub(crate) fn read_point(point: Point<'_>) -> MicronPoint
+    ensures { point_view result ≡ point_read (written_point point.entry) }
+{
+    read_both(point.x, point.y)
+}
+
+/// Two corners of a text.
+pub(crate) fn read_corners(corners: &Corners<'_>) -> MicronRect
+    ensures { rectangle_view result ≡ corners_read (written_corners corners.now) }
+{
+    MicronRect {
+        from: read_point(corners.from),
+        to: read_point(corners.to),
+    }
+}

@@ -1,0 +1,5 @@
+//! Tests of `LefEvents`, which no program calls.
+#![tactic(auto)]
+
+#[cfg(test)]
+mod tests;

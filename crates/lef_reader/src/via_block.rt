@@ -1,0 +1,352 @@
+//! The block VIA (LEF/DEF 5.8 Language Reference, "Via").
+
+ghost use Rattle.std.specs.Prelude.{◌≡◌, IfSome};
+ghost use Rattle.form_meanings.specs.Words.{Gives};
+ghost use Rattle.statement_model.specs.Form.{◌◂◌, ◌⨟◌, read};
+ghost use Rattle.std.specs.Prelude.{codes};
+ghost use Rattle.lef_grammar.specs.Extents.{array_count, dec, extent, name};
+ghost use Rattle.lef_grammar.specs.ViaBlock.{continues_via, ends_via, four_distances, is_via_cuts, is_via_metals, is_via_shape, is_via_word, stage_after, via_corners, via_cuts, via_ending, via_metals, via_shape, via_statement};
+ghost use Rattle.lefdef_tokens.specs.Views.{IsLater, rest_of, word_of};
+ghost use Rattle.statement_reader.specs.Endings.{ending_view};
+ghost use Rattle.lef_reader.specs.Parts.{CornersIn, PairIn, corners_view, pair_view, with_rest};
+ghost use Rattle.lef_reader.specs.ViaViews.{CutsIn, FourIn, MetalsIn, ShapeIn, ThreeIn, ViaIn, cuts_view, four_view, metals_view, shape_view, stage_view, three_view, via_view};
+
+use crate::parts::{
+    array_count_at, block_ending, dec_at, extent_at, kept_at, name_to_end_at, to_end_at,
+};
+use crate::point::{Corners, corners_at};
+use lefdef_tokens::{Cursor, Token, TokenRun, is_word};
+use statement_reader::boundary::Ending;
+
+/// What of a block was read: its header alone, statements without a `LAYER`, or with one.
+#[derive(Clone, Copy, Drop)]
+pub enum ViaStage {
+    InHeader,
+    WithoutLayer,
+    WithLayer,
+}
+
+/// A layer of a listed via, a rectangle on it, or a polygon.
+#[derive(Clone, Copy, Drop)]
+pub enum ViaShape<'l> {
+    /// By its name, and what stands behind it.
+    Layer(Token<'l>, TokenRun<'l>),
+    Rect(Corners<'l>),
+    Polygon(TokenRun<'l>),
+}
+
+/// The cuts of a generated via, in microns as written.
+#[derive(Clone, Copy, Drop)]
+pub enum ViaCuts<'l> {
+    /// The `VIARULE` that generates it.
+    Rule(Token<'l>),
+    Size(Token<'l>, Token<'l>),
+    Spacing(Token<'l>, Token<'l>),
+    /// Numbers of rows and columns.
+    RowCol(Token<'l>, Token<'l>),
+}
+
+/// Names of a bottom metal, a cut and a top metal.
+#[derive(Clone, Copy)]
+pub struct ViaLayers<'l> {
+    pub bottom: Token<'l>,
+    pub cut: Token<'l>,
+    pub top: Token<'l>,
+}
+
+/// Distances of a bottom metal and a top metal in x and y, in microns as written.
+#[derive(Clone, Copy)]
+pub struct MetalDistances<'l> {
+    pub bottom_x: Token<'l>,
+    pub bottom_y: Token<'l>,
+    pub top_x: Token<'l>,
+    pub top_y: Token<'l>,
+}
+
+/// The metals of a generated via.
+#[derive(Clone, Copy, Drop)]
+pub enum ViaMetals<'l> {
+    Layers(ViaLayers<'l>),
+    Enclosure(MetalDistances<'l>),
+    Origin(Token<'l>, Token<'l>),
+    Offset(MetalDistances<'l>),
+}
+
+/// A statement in a block VIA, or a word of its header.
+#[derive(Clone, Copy, Drop)]
+pub enum ViaStatement<'l> {
+    End,
+    /// `DEFAULT`, `GENERATED` or `TOPOFSTACKONLY`.
+    HeaderWord(Token<'l>),
+    Shape(ViaShape<'l>),
+    Cuts(ViaCuts<'l>),
+    Metals(ViaMetals<'l>),
+    /// A statement without meaning, by its first token and the others.
+    Kept(Token<'l>, TokenRun<'l>),
+}
+
+impl<'l> ViaStatement<'l> {
+    /// Whether it ends the block.
+    pub(crate) fn is_end(&self) -> bool
+        ensures { result ≡ ends_via (via_view self.now) }
+    {
+        matches!(self, ViaStatement::End)
+    }
+}
+
+impl ViaStage {
+    /// What of the block was read after a statement.
+    pub(crate) fn after(self, statement: &ViaStatement<'_>) -> ViaStage
+        ensures { stage_view result ≡ stage_after (stage_view self) (via_view statement.now) }
+    {
+        match statement {
+            ViaStatement::HeaderWord(_) => self,
+            ViaStatement::Shape(ViaShape::Layer(_, _)) => ViaStage::WithLayer,
+            _ => match self {
+                ViaStage::WithLayer => ViaStage::WithLayer,
+                _ => ViaStage::WithoutLayer,
+            },
+        }
+    }
+}
+
+/// Whether a word can stand in the header.
+fn is_via_word(word: &[u8]) -> bool
+    ensures { result ≡ is_via_word word.now }
+{
+    is_word(word, b"DEFAULT") || is_word(word, b"GENERATED") || is_word(word, b"TOPOFSTACKONLY")
+}
+
+/// Whether a word is one of the header, where the header goes on.
+fn continues_via(stage: ViaStage, word: &[u8]) -> bool
+    ensures { result ≡ continues_via (stage_view stage) word.now }
+{
+    match stage {
+        ViaStage::InHeader => is_via_word(word),
+        _ => false,
+    }
+}
+
+/// How a statement ends, by its first token. A word of the header stands alone.
+pub(crate) fn via_ending(stage: ViaStage, first: &[u8]) -> Ending
+    ensures { ending_view result ≡ via_ending (stage_view stage) first.now }
+{
+    if continues_via(stage, first) {
+        Ending::Alone
+    } else {
+        block_ending(first)
+    }
+}
+
+/// Whether a word begins a statement of the shapes of a listed via.
+fn is_via_shape(word: &[u8]) -> bool
+    ensures { result ≡ is_via_shape word.now }
+{
+    is_word(word, b"LAYER") || is_word(word, b"RECT") || is_word(word, b"POLYGON")
+}
+
+/// Whether a word begins a statement of the cuts of a generated via.
+fn is_via_cuts(word: &[u8]) -> bool
+    ensures { result ≡ is_via_cuts word.now }
+{
+    is_word(word, b"VIARULE")
+        || is_word(word, b"CUTSIZE")
+        || is_word(word, b"CUTSPACING")
+        || is_word(word, b"ROWCOL")
+}
+
+/// Whether a word begins a statement of the metals of a generated via.
+fn is_via_metals(word: &[u8]) -> bool
+    ensures { result ≡ is_via_metals word.now }
+{
+    is_word(word, b"LAYERS")
+        || is_word(word, b"ENCLOSURE")
+        || is_word(word, b"ORIGIN")
+        || is_word(word, b"OFFSET")
+}
+
+/// `[MASK word] p p ;`, after `RECT`, where a `LAYER` came before
+#[tactic(auto, unfolding(lef_grammar::specs::ViaBlock::via_corners))]
+fn via_corners_at<'l>(stage: ViaStage, cursor: Cursor<'l>) -> Option<(Corners<'l>, Cursor<'l>)>
+    ensures gives { Gives (with_rest corners_view) result (read (via_corners (stage_view stage)) (rest_of cursor.entry)) }
+    ensures later { IfSome result (λ x. IsLater cursor.entry x.1) }
+    ensures lent { IfSome result (λ x. CornersIn cursor.entry.tokens.text.now x.0) }
+{
+    match stage {
+        ViaStage::WithLayer => corners_at(cursor),
+        _ => None,
+    }
+}
+
+/// `LAYER`, `RECT` or `POLYGON`
+#[tactic(auto, unfolding(lef_grammar::specs::ViaBlock::via_shape))]
+fn shape_at<'l>(stage: ViaStage, cursor: Cursor<'l>) -> Option<(ViaShape<'l>, Cursor<'l>)>
+    ensures gives { Gives (with_rest shape_view) result (read (via_shape (stage_view stage)) (rest_of cursor.entry)) }
+    ensures later { IfSome result (λ x. IsLater cursor.entry x.1) }
+    ensures lent { IfSome result (λ x. ShapeIn cursor.entry.tokens.text.now x.0) }
+{
+    let (word, later) = cursor.next()?;
+    if is_word(word.bytes, b"LAYER") {
+        let ((name, others), cursor) = name_to_end_at(later)?;
+        Some((ViaShape::Layer(name, others), cursor))
+    } else if is_word(word.bytes, b"RECT") {
+        let (corners, cursor) = via_corners_at(stage, later)?;
+        Some((ViaShape::Rect(corners), cursor))
+    } else if is_word(word.bytes, b"POLYGON") {
+        let (others, cursor) = to_end_at(later)?;
+        Some((ViaShape::Polygon(others), cursor))
+    } else {
+        None
+    }
+}
+
+/// `dec dec ;`, neither below 0
+fn two_extents_at<'l>(cursor: Cursor<'l>) -> Option<((Token<'l>, Token<'l>), Cursor<'l>)>
+    ensures gives { Gives (with_rest pair_view) result (read (extent ⨟ extent ◂ codes ";") (rest_of cursor.entry)) }
+    ensures later { IfSome result (λ x. IsLater cursor.entry x.1) }
+    ensures lent { IfSome result (λ x. PairIn cursor.entry.tokens.text.now x.0) }
+{
+    let (x, cursor) = extent_at(cursor)?;
+    let (y, cursor) = extent_at(cursor)?;
+    let cursor = cursor.key(b";")?;
+    Some(((x, y), cursor))
+}
+
+/// `int int ;`, of rows and columns
+fn array_at<'l>(cursor: Cursor<'l>) -> Option<((Token<'l>, Token<'l>), Cursor<'l>)>
+    ensures gives { Gives (with_rest pair_view) result (read (array_count ⨟ array_count ◂ codes ";") (rest_of cursor.entry)) }
+    ensures later { IfSome result (λ x. IsLater cursor.entry x.1) }
+    ensures lent { IfSome result (λ x. PairIn cursor.entry.tokens.text.now x.0) }
+{
+    let (rows, cursor) = array_count_at(cursor)?;
+    let (columns, cursor) = array_count_at(cursor)?;
+    let cursor = cursor.key(b";")?;
+    Some(((rows, columns), cursor))
+}
+
+/// `VIARULE`, `CUTSIZE`, `CUTSPACING` or `ROWCOL`
+#[tactic(auto, unfolding(lef_grammar::specs::ViaBlock::via_cuts))]
+fn cuts_at<'l>(cursor: Cursor<'l>) -> Option<(ViaCuts<'l>, Cursor<'l>)>
+    ensures gives { Gives (with_rest cuts_view) result (read via_cuts (rest_of cursor.entry)) }
+    ensures later { IfSome result (λ x. IsLater cursor.entry x.1) }
+    ensures lent { IfSome result (λ x. CutsIn cursor.entry.tokens.text.now x.0) }
+{
+    let (word, later) = cursor.next()?;
+    if is_word(word.bytes, b"VIARULE") {
+        let (name, cursor) = later.name()?;
+        Some((ViaCuts::Rule(name), cursor.key(b";")?))
+    } else if is_word(word.bytes, b"CUTSIZE") {
+        let ((x, y), cursor) = two_extents_at(later)?;
+        Some((ViaCuts::Size(x, y), cursor))
+    } else if is_word(word.bytes, b"CUTSPACING") {
+        let ((x, y), cursor) = two_extents_at(later)?;
+        Some((ViaCuts::Spacing(x, y), cursor))
+    } else if is_word(word.bytes, b"ROWCOL") {
+        let ((rows, columns), cursor) = array_at(later)?;
+        Some((ViaCuts::RowCol(rows, columns), cursor))
+    } else {
+        None
+    }
+}
+
+/// `name name name ;`
+fn layers_at<'l>(cursor: Cursor<'l>) -> Option<(ViaLayers<'l>, Cursor<'l>)>
+    ensures gives { Gives (with_rest three_view) result (read (name ⨟ name ⨟ name ◂ codes ";") (rest_of cursor.entry)) }
+    ensures later { IfSome result (λ x. IsLater cursor.entry x.1) }
+    ensures lent { IfSome result (λ x. ThreeIn cursor.entry.tokens.text.now x.0) }
+{
+    let (bottom, cursor) = cursor.name()?;
+    let (cut, cursor) = cursor.name()?;
+    let (top, cursor) = cursor.name()?;
+    let cursor = cursor.key(b";")?;
+    Some((ViaLayers { bottom, cut, top }, cursor))
+}
+
+/// `dec dec dec dec ;`
+#[tactic(auto, unfolding(lef_grammar::specs::ViaBlock::four_distances))]
+fn four_at<'l>(cursor: Cursor<'l>) -> Option<(MetalDistances<'l>, Cursor<'l>)>
+    ensures gives { Gives (with_rest four_view) result (read four_distances (rest_of cursor.entry)) }
+    ensures later { IfSome result (λ x. IsLater cursor.entry x.1) }
+    ensures lent { IfSome result (λ x. FourIn cursor.entry.tokens.text.now x.0) }
+{
+    let (bottom_x, cursor) = dec_at(cursor)?;
+    let (bottom_y, cursor) = dec_at(cursor)?;
+    let (top_x, cursor) = dec_at(cursor)?;
+    let (top_y, cursor) = dec_at(cursor)?;
+    let cursor = cursor.key(b";")?;
+    let distances = MetalDistances {
+        bottom_x,
+        bottom_y,
+        top_x,
+        top_y,
+    };
+    Some((distances, cursor))
+}
+
+/// `dec dec ;`
+fn two_distances_at<'l>(cursor: Cursor<'l>) -> Option<((Token<'l>, Token<'l>), Cursor<'l>)>
+    ensures gives { Gives (with_rest pair_view) result (read (dec ⨟ dec ◂ codes ";") (rest_of cursor.entry)) }
+    ensures later { IfSome result (λ x. IsLater cursor.entry x.1) }
+    ensures lent { IfSome result (λ x. PairIn cursor.entry.tokens.text.now x.0) }
+{
+    let (x, cursor) = dec_at(cursor)?;
+    let (y, cursor) = dec_at(cursor)?;
+    let cursor = cursor.key(b";")?;
+    Some(((x, y), cursor))
+}
+
+/// `LAYERS`, `ENCLOSURE`, `ORIGIN` or `OFFSET`
+#[tactic(auto, unfolding(lef_grammar::specs::ViaBlock::via_metals))]
+fn metals_at<'l>(cursor: Cursor<'l>) -> Option<(ViaMetals<'l>, Cursor<'l>)>
+    ensures gives { Gives (with_rest metals_view) result (read via_metals (rest_of cursor.entry)) }
+    ensures later { IfSome result (λ x. IsLater cursor.entry x.1) }
+    ensures lent { IfSome result (λ x. MetalsIn cursor.entry.tokens.text.now x.0) }
+{
+    let (word, later) = cursor.next()?;
+    if is_word(word.bytes, b"LAYERS") {
+        let (layers, cursor) = layers_at(later)?;
+        Some((ViaMetals::Layers(layers), cursor))
+    } else if is_word(word.bytes, b"ENCLOSURE") {
+        let (distances, cursor) = four_at(later)?;
+        Some((ViaMetals::Enclosure(distances), cursor))
+    } else if is_word(word.bytes, b"ORIGIN") {
+        let ((x, y), cursor) = two_distances_at(later)?;
+        Some((ViaMetals::Origin(x, y), cursor))
+    } else if is_word(word.bytes, b"OFFSET") {
+        let (distances, cursor) = four_at(later)?;
+        Some((ViaMetals::Offset(distances), cursor))
+    } else {
+        None
+    }
+}
+
+/// A statement in the block of this name.
+#[tactic(auto, unfolding(lef_grammar::specs::ViaBlock::via_statement, lef_grammar::specs::Extents::kept_statement))]
+pub(crate) fn via_at<'l>(
+    name: &[u8],
+    stage: ViaStage,
+    cursor: Cursor<'l>,
+) -> Option<(ViaStatement<'l>, Cursor<'l>)>
+    ensures gives { Gives (with_rest via_view) result (read (via_statement name.now (stage_view stage)) (rest_of cursor.entry)) }
+    ensures later { IfSome result (λ x. IsLater cursor.entry x.1) }
+    ensures lent { IfSome result (λ x. ViaIn cursor.entry.tokens.text.now x.0) }
+{
+    let (word, later) = cursor.next()?;
+    if is_word(word.bytes, b"END") {
+        Some((ViaStatement::End, later.key(name)?))
+    } else if continues_via(stage, word.bytes) {
+        Some((ViaStatement::HeaderWord(word), later))
+    } else if is_via_shape(word.bytes) {
+        let (shape, cursor) = shape_at(stage, cursor)?;
+        Some((ViaStatement::Shape(shape), cursor))
+    } else if is_via_cuts(word.bytes) {
+        let (cuts, cursor) = cuts_at(cursor)?;
+        Some((ViaStatement::Cuts(cuts), cursor))
+    } else if is_via_metals(word.bytes) {
+        let (metals, cursor) = metals_at(cursor)?;
+        Some((ViaStatement::Metals(metals), cursor))
+    } else {
+        let ((word, others), cursor) = kept_at(cursor)?;
+        Some((ViaStatement::Kept(word, others), cursor))
+    }
+}
