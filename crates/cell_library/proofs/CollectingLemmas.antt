@@ -1,15 +1,11 @@
 -- Collecting what a list of statements gives, statement by statement.
-use Rattle.std.proofs.Common.{◌≡◌, ℕ, ◌+◌, ◌<◌, ◌≤◌, List, [], ◌∷◌, ◌++◌, map, length, get_or, drop, refl, sym, ap, ◌∙◌, append_assoc}
-use Rattle.std.proofs.lemmas.List.{append-nil, map-append}
-use Rattle.std.proofs.Math.ListN.{drop_of_length-le}
+use Rattle.std.proofs.Common.{◌≡◌, ℕ, ◌+◌, ◌<◌, List, [], ◌∷◌, ◌++◌, map, length, get_or, drop, refl, sym, ap, ◌∙◌, append_assoc}
+use Rattle.std.proofs.lemmas.List.{map-append}
 use Rattle.cell_library.proofs.AddingLemmas.{split_at}
 
 module _ {S R X Y : Type 0} (see : S → R) (show : X → Y) (gives : List R → List Y) where
   abbrev pub so_far : List X → List S → List Y
   so_far out ss = map show out ++ gives (map see ss)
-
-  pub finished : (ss : List S) (i : ℕ) (out : List X) → gives [] ≡ [] → length ss ≤ i → so_far out (drop i ss) ≡ map show out
-  finished ss i out h above = rw (drop_of_length-le ss above, h) (append-nil (map show out))
 
   module _ (ss : List S) (i : ℕ) (s : S) (below : i < length ss) (here : s ≡ get_or ss i s) where
     at : (out : List X) → so_far out (drop i ss) ≡ map show out ++ gives (see s ∷ map see (drop (i + 1) ss))
@@ -24,9 +20,3 @@ module _ {S R X Y : Type 0} (see : S → R) (show : X → Y) (gives : List R →
         ∙ ap (λ (ys : List Y). ys ++ gives (map see (drop (i + 1) ss))) (map-append show out (x ∷ []))
         ∙ append_assoc (map show out) (show x ∷ []) (gives (map see (drop (i + 1) ss)))
         ∙ ap (λ (ys : List Y). map show out ++ ys) (sym h) ∙ sym (at out)
-
-    pub passed : (out : List X) → gives (see s ∷ map see (drop (i + 1) ss)) ≡ gives (map see (drop (i + 1) ss)) → so_far out (drop (i + 1) ss) ≡ so_far out (drop i ss)
-    passed out h = ap (λ (ys : List Y). map show out ++ ys) (sym h) ∙ sym (at out)
-
-    pub stopped : (out : List X) → gives (see s ∷ map see (drop (i + 1) ss)) ≡ [] → so_far out (drop i ss) ≡ map show out
-    stopped out h = at out ∙ ap (λ (ys : List Y). map show out ++ ys) h ∙ append-nil (map show out)

@@ -7,3 +7,4 @@ pub mod LayerLemmas
 pub mod NamedLemmas
 pub mod ReadLemmas
 pub mod ShapeLemmas
+pub mod UnitLemmas

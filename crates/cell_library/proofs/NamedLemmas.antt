@@ -10,8 +10,7 @@ use Rattle.std.proofs.lemmas.Iterator.Adapters.{position_from-zero}
 use Rattle.std.proofs.lemmas.Slice.Eq.{bytes_eq-Decides}
 use Rattle.indexmap.specs.IndexMap.{insert_entry}
 use Rattle.lef_grammar.specs.Firsts.{find_named, has_name, with_first}
-use Rattle.cell_library.specs.LibraryViews.{seen_by}
-use Rattle.cell_library.specs.Naming.{entries_view, name_of, named, place_of}
+use Rattle.cell_library.specs.Naming.{entries_view, name_of, named, place_of, seen_by}
 use Rattle.cell_library.specs.Records.{word_view}
 
 bytes_eq_sym : (a b : List ℕ) → bytes_eq a b ≡ bytes_eq b a

@@ -1,6 +1,5 @@
 -- The library of the program as that of the definitions.
 use Rattle.std.specs.Prelude.{◌≡◌, ℕ, List, [], ◌∷◌, ◌++◌, Result, Ok, Err}
-use denote.Ref.{Bor}
 use Rattle.design_model.specs.declared.fault.ReadError.{ReadError}
 use Rattle.design_model.specs.declared.fault.ReadError.TheVariants as read_errors
 use Rattle.lef_grammar.specs.LefRecords.{LefRecord, outside, read_lef}
@@ -20,10 +19,6 @@ use Rattle.cell_library.specs.declared.library.LibraryError.TheVariants as libra
 
 abbrev pub library_view : {A : Type 0} → List (List ℕ × Layer) → List (List ℕ × Site) → List (List ℕ × Via A) → List (List ℕ × Rule A) → List (List ℕ × Macro A) → Library
 library_view layers sites vias rules macros = record { layers = layers_view layers; sites = sites_view sites; vias = vias_view vias; rules = rules_view rules; macros = macros_view macros }
-
--- a definition of this name, as it is lent
-abbrev pub seen_by : {D C : Type 0} → (List ℕ × D → C) → List ℕ → Bor D → C
-seen_by view name d = view (name, d.now)
 
 -- a library and the statements from the last outside of all blocks on, after a statement
 abbrev pub noted : LefRecord → Library × List LefRecord → Library × List LefRecord

@@ -18,3 +18,7 @@ named es name = option_map (λ e. e.1) (find_named name_of es name)
 abbrev pub place_of : {D : Type 0} → List (List ℕ × D) → List ℕ → Option ℕ
 place_of [] name = None
 place_of (e ∷ es) name = if has_name name_of name e then Some 0 else option_map suc (place_of es name)
+
+-- a definition of this name, as it is lent
+abbrev pub seen_by : {D C : Type 0} → (List ℕ × D → C) → List ℕ → Bor D → C
+seen_by view name d = view (name, d.now)

@@ -6,8 +6,9 @@ ghost use Rattle.lef_grammar.specs.Library.{layer_named, macro_named, rule_named
 ghost use Rattle.lef_grammar.specs.Measures.{place_among};
 ghost use Rattle.lef_reader.specs.StatementViews.{lef_view};
 ghost use Rattle.cell_library.specs.LayerViews.{layer_name, layer_view};
-ghost use Rattle.cell_library.specs.LibraryViews.{AddsText, ReadsLibrary, noted, seen_by};
+ghost use Rattle.cell_library.specs.LibraryViews.{AddsText, ReadsLibrary, noted};
 ghost use Rattle.cell_library.specs.MacroViews.{macro_view};
+ghost use Rattle.cell_library.specs.Naming.{seen_by};
 ghost use Rattle.cell_library.specs.Records.{records_view, word_view};
 ghost use Rattle.cell_library.specs.RuleViews.{rule_view};
 ghost use Rattle.cell_library.specs.SiteViews.{site_view};

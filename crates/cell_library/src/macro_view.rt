@@ -1,20 +1,25 @@
 //! Macros.
 
-ghost use Rattle.std.specs.Prelude.{◌≡◌, List, ℕ, IfOk, OnOk, map};
+ghost use Rattle.std.specs.Prelude.{◌≡◌, ◌<◌, ◌≤◌, List, ℕ, IfOk, OnOk, map};
 ghost use Rattle.std.specs.List.{filter_map};
 ghost use Rattle.std.specs.Option.{option_map};
 ghost use Rattle.lef_grammar.specs.Definitions.{both_read, inner_record, macro_record, macro_with, macros_of, opened_macro, point_read};
 ghost use Rattle.lef_grammar.specs.Firsts.{first_of, front, with_all};
+ghost use Rattle.lef_grammar.specs.Library.{pin_named};
+ghost use Rattle.lef_grammar.specs.Measures.{point_or_0};
 ghost use Rattle.lef_grammar.specs.MacroBlock.{class_of, origin_of, site_of, size_of};
 ghost use Rattle.lef_reader.specs.StatementViews.{lef_view};
 ghost use Rattle.cell_library.specs.MacroViews.{macro_name, macro_view, macros_view};
+ghost use Rattle.cell_library.specs.Naming.{seen_by};
 ghost use Rattle.cell_library.specs.Numbers.{point_view};
+ghost use Rattle.cell_library.specs.PinViews.{pin_view};
 ghost use Rattle.cell_library.specs.Records.{records_view, word_view};
 
 use crate::group::inner_of;
 use crate::named::Named;
 use crate::numbers::{MicronPoint, read_both, read_point};
 use crate::pin::{Pin, read_pins};
+use design_model::geometry::Point;
 use design_model::sequence::Sequence;
 use lef_reader::macro_block::MacroStatement;
 use lef_reader::outermost::{NamedHeader, OutermostStatement};
@@ -30,6 +35,39 @@ pub struct Macro<'l, A: Allocator = Global> {
     pub origin: Option<MicronPoint>,
     pub sites: Sequence<&'l [u8], A>,
     pub pins: Named<'l, Pin<'l, A>, A>,
+}
+
+impl<'l, A: Allocator + Copy> Macro<'l, A> {
+    /// Width and height in database units, and 0 without a `SIZE`.
+    pub fn size(&self, per_micron: u32) -> Point
+        requires some { 0 < per_micron }
+        requires few { per_micron ≤ 100000 }
+        ensures { result ≡ point_or_0 per_micron (option_map point_view self.now.size) }
+    {
+        match self.size {
+            Some(size) => size.in_units(per_micron),
+            None => Point { x: 0, y: 0 },
+        }
+    }
+
+    /// Where geometry is moved to in database units, and (0, 0) without an `ORIGIN`.
+    pub fn origin(&self, per_micron: u32) -> Point
+        requires some { 0 < per_micron }
+        requires few { per_micron ≤ 100000 }
+        ensures { result ≡ point_or_0 per_micron (option_map point_view self.now.origin) }
+    {
+        match self.origin {
+            Some(origin) => origin.in_units(per_micron),
+            None => Point { x: 0, y: 0 },
+        }
+    }
+
+    /// The pin of a name.
+    pub fn pin(&self, name: &[u8]) -> Option<&Pin<'l, A>>
+        ensures { (cell : List ℕ) → option_map (seen_by pin_view name.now) result ≡ pin_named (macro_view (cell, self.now)) name.now }
+    {
+        self.pins.get(name)
+    }
 }
 
 /// The first word of the first `CLASS` in a macro.

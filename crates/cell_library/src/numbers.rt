@@ -1,11 +1,14 @@
 //! Numbers of LEF texts, as they are read.
 
-ghost use Rattle.std.specs.Prelude.{◌≡◌};
+ghost use Rattle.std.specs.Prelude.{◌≡◌, ◌<◌, ◌≤◌, nat_abs};
+ghost use Rattle.design_model.specs.Units.{nearest};
+ghost use Rattle.lef_grammar.specs.Measures.{point_in};
 ghost use Rattle.lef_reader.specs.Parts.{corners_view as written_corners, point_view as written_point};
 ghost use Rattle.lef_grammar.specs.Definitions.{both_read, corners_read, distance_read, point_read, whole_read};
 ghost use Rattle.unit_numbers.specs.Distances.{distance_of};
 ghost use Rattle.cell_library.specs.Numbers.{point_view, rectangle_view};
 
+use design_model::geometry;
 use lef_reader::point::{Corners, Point};
 use lefdef_tokens::Token;
 use unit_numbers::{Microns, microns, whole};
@@ -22,6 +25,32 @@ pub struct MicronPoint {
 pub struct MicronRect {
     pub from: MicronPoint,
     pub to: MicronPoint,
+}
+
+/// A distance in database units: the nearest whole number, a tie away from zero.
+pub fn in_units(distance: Microns, per_micron: u32) -> i64
+    requires some { 0 < per_micron }
+    requires few { per_micron ≤ 100000 }
+    ensures units { result ≡ nearest (distance_of distance) per_micron }
+    ensures bound { nat_abs result ≤ 100000000000 }
+{
+    distance.units(per_micron).value
+}
+
+impl MicronPoint {
+    /// The point in database units, each number by itself.
+    pub fn in_units(self, per_micron: u32) -> geometry::Point
+        requires some { 0 < per_micron }
+        requires few { per_micron ≤ 100000 }
+        ensures units { result ≡ point_in per_micron (point_view self) }
+        ensures near { nat_abs result.x ≤ 100000000000 }
+        ensures low { nat_abs result.y ≤ 100000000000 }
+    {
+        geometry::Point {
+            x: in_units(self.x, per_micron),
+            y: in_units(self.y, per_micron),
+        }
+    }
 }
 
 /// The distance that a word of a text is.

@@ -1,4 +1,3 @@
 pub mod BoxLemmas
 pub mod CountLemmas
 pub mod StepLemmas
-pub mod UnitLemmas

@@ -7,16 +7,15 @@ ghost use Rattle.design_model.specs.Views.{rectangle_of};
 ghost use Rattle.design_rules.specs.Boxes.{boundary_of, box_at, box_of, boxes, is_cover, scale};
 ghost use Rattle.def_reader.specs.PointViews.{point_view};
 ghost use Rattle.def_reader.specs.StatementViews.{record_view};
-ghost use Rattle.design_model.specs.Units.{nearest};
-ghost use Rattle.unit_numbers.specs.Distances.{distance_of};
 ghost use Rattle.cell_library.specs.MacroViews.{macro_view};
-ghost use Rattle.cell_library.specs.Numbers.{point_view};
+ghost use Rattle.cell_library.specs.Numbers.{point_view as distances_view};
 ghost use Rattle.cell_library.specs.Records.{word_view};
 ghost use Rattle.place_checks.specs.Corners.{corner, in_order};
 ghost use Rattle.place_checks.specs.Views.{boxed_view, records_view};
 
 use cell_library::library::Library;
 use cell_library::macro_view::Macro;
+use cell_library::numbers::in_units;
 use def_reader::components::{Clause, Placement};
 use def_reader::number::int_of;
 use def_reader::read_statement::Read;
@@ -25,7 +24,6 @@ use design_model::geometry::{Point, Rect, Status};
 use lefdef_tokens::is_word;
 use orient_geom::place_box;
 use std::alloc::{AllocError, Allocator};
-use unit_numbers::Microns;
 
 /// A component that takes part: its name and its box.
 #[derive(Clone, Copy)]
@@ -44,16 +42,6 @@ fn scale_of(records: &[Read<'_>]) -> u32
         }
     }
     1
-}
-
-/// A distance in database units.
-fn units_of(distance: Microns, scale: u32) -> i64
-    requires some { 0 < scale }
-    requires few { scale ≤ 100000 }
-    ensures units { result ≡ nearest (distance_of distance) scale }
-    ensures bound { nat_abs result ≤ 100000000000 }
-{
-    distance.units(scale).value
 }
 
 /// The rectangle between the origin and a corner.
@@ -75,11 +63,11 @@ fn corner_box(width: i64, height: i64) -> Rect
 fn boundary_of<A: Allocator + Copy>(cell: &Macro<'_, A>, scale: u32) -> Rect
     requires some { 0 < scale }
     requires few { scale ≤ 100000 }
-    ensures spans { rectangle_of result ≡ in_order (boundary_of scale (option_map point_view cell.now.size)) }
+    ensures spans { rectangle_of result ≡ in_order (boundary_of scale (option_map distances_view cell.now.size)) }
     ensures near { IsNearRectangle (rectangle_of result) }
 {
     match cell.size {
-        Some(size) => corner_box(units_of(size.x, scale), units_of(size.y, scale)),
+        Some(size) => corner_box(in_units(size.x, scale), in_units(size.y, scale)),
         None => corner_box(0, 0),
     }
 }
