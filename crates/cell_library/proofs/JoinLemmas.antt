@@ -44,9 +44,10 @@ library_with l a b c d e = record { layers = a; sites = b; vias = c; rules = d; 
 
 -- statements from one outside of all blocks on define what they do, whatever came before
 pub texts_join : (l : Library) (rs : List LefRecord) (r : OutermostRecord) (after : List LefRecord) → with_text l (rs ++ outside r ∷ after) ≡ with_text (with_text l rs) (outside r ∷ after)
-texts_join l rs r after = rw
-    (joined (λ (d : Layer). d.name) opened_layer layer_record layer_with (outside r) refl after rs l.layers,
-    joined (λ (d : Site). d.name) opened_site site_record site_with (outside r) refl after rs l.sites,
-    joined (λ (d : Via). d.name) opened_via via_record via_with (outside r) refl after rs l.vias,
-    joined (λ (d : Rule). d.name) opened_rule inner_record rule_with (outside r) refl after rs l.rules,
-    joined (λ (d : Macro). d.name) opened_macro inner_record macro_with (outside r) refl after rs l.macros) refl
+texts_join l rs r after = rw (
+  joined (λ (d : Layer). d.name) opened_layer layer_record layer_with (outside r) refl after rs l.layers,
+  joined (λ (d : Site). d.name) opened_site site_record site_with (outside r) refl after rs l.sites,
+  joined (λ (d : Via). d.name) opened_via via_record via_with (outside r) refl after rs l.vias,
+  joined (λ (d : Rule). d.name) opened_rule inner_record rule_with (outside r) refl after rs l.rules,
+  joined (λ (d : Macro). d.name) opened_macro inner_record macro_with (outside r) refl after rs l.macros,
+) refl

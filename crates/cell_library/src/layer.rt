@@ -116,8 +116,9 @@ fn opened_layer<'l>(statement: &LefStatement<'l>) -> Option<&'l [u8]>
     ensures { option_map word_view result ≡ opened_layer (lef_view statement.now) }
 {
     match statement {
-        LefStatement::Outside(OutermostStatement::Named(NamedHeader::Layer(name))) =>
-            Some(name.bytes),
+        LefStatement::Outside(OutermostStatement::Named(NamedHeader::Layer(name))) => Some(
+            name.bytes,
+        ),
         _ => None,
     }
 }

@@ -144,8 +144,9 @@ fn opened_macro<'l>(statement: &LefStatement<'l>) -> Option<&'l [u8]>
     ensures { option_map word_view result ≡ opened_macro (lef_view statement.now) }
 {
     match statement {
-        LefStatement::Outside(OutermostStatement::Named(NamedHeader::Macro(name))) =>
-            Some(name.bytes),
+        LefStatement::Outside(OutermostStatement::Named(NamedHeader::Macro(name))) => Some(
+            name.bytes,
+        ),
         _ => None,
     }
 }

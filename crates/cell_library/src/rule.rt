@@ -99,8 +99,9 @@ fn opened_rule<'l>(statement: &LefStatement<'l>) -> Option<&'l [u8]>
     ensures { option_map word_view result ≡ opened_rule (lef_view statement.now) }
 {
     match statement {
-        LefStatement::Outside(OutermostStatement::Named(NamedHeader::Rule(name))) =>
-            Some(name.bytes),
+        LefStatement::Outside(OutermostStatement::Named(NamedHeader::Rule(name))) => Some(
+            name.bytes,
+        ),
         _ => None,
     }
 }

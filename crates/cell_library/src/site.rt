@@ -53,8 +53,9 @@ fn opened_site<'l>(statement: &LefStatement<'l>) -> Option<&'l [u8]>
     ensures { option_map word_view result ≡ opened_site (lef_view statement.now) }
 {
     match statement {
-        LefStatement::Outside(OutermostStatement::Named(NamedHeader::Site(name))) =>
-            Some(name.bytes),
+        LefStatement::Outside(OutermostStatement::Named(NamedHeader::Site(name))) => Some(
+            name.bytes,
+        ),
         _ => None,
     }
 }

@@ -336,8 +336,9 @@ fn opened_via<'l>(statement: &LefStatement<'l>) -> Option<&'l [u8]>
     ensures { option_map word_view result ≡ opened_via (lef_view statement.now) }
 {
     match statement {
-        LefStatement::Outside(OutermostStatement::Named(NamedHeader::Via(name))) =>
-            Some(name.bytes),
+        LefStatement::Outside(OutermostStatement::Named(NamedHeader::Via(name))) => Some(
+            name.bytes,
+        ),
         LefStatement::InRule(RuleStatement::OpensVia(name)) => Some(name.bytes),
         _ => None,
     }
