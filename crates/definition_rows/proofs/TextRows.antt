@@ -132,7 +132,7 @@ unfolding read_text read_on lex last_of repeat split_at number_at is_int is_scal
 no_section = refl
 
 -- a header's line stands before that of two components that overlap
-count_first : diagnostics (record { layers = []; sites = []; vias = []; rules = []; macros = record { name = codes "INV"; class = None; size = Some (codes "0.92", codes "2.72"); origin = None; sites = []; pins = [] } ∷ [] }) (top (units (codes "1000"))
+count_first : diagnostics (record { layers = []; sites = []; vias = []; rules = []; macros = record { name = codes "INV"; class = None; size = Some (record { value = pos 92; places = 2 }, record { value = pos 272; places = 2 }); origin = None; sites = []; pins = [] } ∷ [] }) (top (units (codes "1000"))
     ∷ top (header Components (codes "3"))
     ∷ entry (component (record { name = codes "b"; cell = codes "INV"; rest = []; clauses = placed Placed (record { x = codes "0"; y = codes "0" }) N ∷ [] }))
     ∷ entry (component (record { name = codes "a"; cell = codes "INV"; rest = []; clauses = placed Placed (record { x = codes "919"; y = codes "0" }) N ∷ [] }))

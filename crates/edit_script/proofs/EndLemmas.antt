@@ -1,11 +1,14 @@
 -- How the ends of a run follow from those of its parts.
-use Rattle.std.proofs.Common.{ℕ, List, [], ◌++◌, refl, inl, inr, sym, ap, ◌∙◌, append_assoc, append-nil}
+use Rattle.std.proofs.Common.{◌≡◌, ℕ, List, [], ◌++◌, Result, Ok, Err, refl, inl, inr, sym, ap, ◌∙◌, append_assoc, append-nil}
+use Rattle.std.specs.Prelude.{IfErr, IfOk}
 use Rattle.counted_devices.specs.Known.{WritesPart}
 use Rattle.std.proofs.KnownBytes.{Appends-nil}
-use Rattle.lef_grammar.specs.Library.{Library}
+use Rattle.lef_grammar.specs.Library.{Library, library_of}
 use Rattle.design_rules.specs.Script.{script_lines}
 use Rattle.design_rules.specs.Output.{Counts}
-use Rattle.edit_script.specs.Ends.{Known, WritesRun, WritesRunPart, AnswersCut}
+use Rattle.edit_script.specs.declared.run.RunFault.{RunFault}
+use Rattle.edit_script.specs.declared.run.RunFault.TheVariants as faults
+use Rattle.edit_script.specs.Ends.{Known, WritesRun, WritesRunPart, AnswersCut, StopsBy, StopsOver}
 
 pub stopped_by_out : (library : Library) (text script : List ℕ) (o o' d : Known) → WritesRunPart library text (script_lines script) o o' → AnswersCut library text script o o' d d
 stopped_by_out library text script o o' d (part, rest, last, counts, run, w) =
@@ -15,3 +18,23 @@ pub stopped_by_text : (library : Library) (text script : List ℕ) (o o' d d' : 
     → WritesRun library text (script_lines script) o o' last counts → WritesPart d d' last → AnswersCut library text script o o' d d'
 stopped_by_text library text script o o' d d' last counts (bytes, run, w) (done, rest, split, more) =
     (bytes, done, rest, bytes, last, counts, run, ap (λ l. bytes ++ l) split ∙ sym (append_assoc bytes done rest), inr refl, w, more)
+
+-- what holds of an answer holds of it in other words
+pub ok_so : {T E : Type 0} (P Q : T → Type 0) (r : Result T E) → ((t : T) → P t → Q t) → IfOk r P → IfOk r Q
+ok_so P Q (Ok t) so h = so t h
+ok_so P Q (Err e) so h = tt
+
+pub err_so : {T E : Type 0} (P Q : E → Type 0) (r : Result T E) → ((e : E) → P e → Q e) → IfErr r P → IfErr r Q
+err_so P Q (Ok t) so h = tt
+err_so P Q (Err e) so h = so e h
+
+-- a run that stops over the library of the LEF texts
+pub stops_by : (lefs : List (List ℕ)) (library : Library) (def : List ℕ) (input o o' d d' : Known) (fault : RunFault) → library_of lefs ≡ Ok library
+    → StopsOver library def input o o' d d' fault → StopsBy lefs def input o o' d d' fault
+stops_by lefs library def input o o' d d' (faults.Lef file fault) is h = absurd h
+stops_by lefs library def input o o' d d' (faults.Def fault) is h = (library, is, h)
+stops_by lefs library def input o o' d d' faults.TooLong is h = (library, is, h)
+stops_by lefs library def input o o' d d' faults.Read is h = (library, is, h)
+stops_by lefs library def input o o' d d' faults.Endless is h = (library, is, h)
+stops_by lefs library def input o o' d d' faults.Memory is h = inr (library, is, h)
+stops_by lefs library def input o o' d d' faults.Write is h = (library, is, h)

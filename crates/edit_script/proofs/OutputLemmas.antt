@@ -54,7 +54,7 @@ some_design (Err fault) reads = absurd (never reads)
 
 some_outcome : (library : Library) (text : List ℕ) (change : Change) (outcome : Result (List Cut) EditCode) → Makes library text change outcome
     → (reply : Result Done EditRefusal) × Answers library text (design_edit change) reply text
-some_outcome library text change (Ok cuts) makes = (Err Memory, (refl, Ok cuts, makes, tt))
+some_outcome library text change (Ok cuts) makes = (Err Memory, (refl, (Ok cuts, makes, tt)))
 some_outcome library text change (Err code) makes = (Err (Refused code), (refl, makes))
 
 -- some answer to any edit, that leaves the text as it was

@@ -46,27 +46,44 @@ abbrev pub AnswersPart : Library → List ℕ → List ℕ → Known → Known �
 AnswersPart library text script o o' d d' stop.Memory = AnswersSome library text script o o' d d'
 AnswersPart library text script o o' d d' stop.Write = AnswersCut library text script o o' d d'
 
--- the LEF texts give this library, the DEF text reads, and the script has these bytes, at most 16777216
-pub record HasRead (lefs : List (List ℕ)) (def : List ℕ) (input : Known) (library : Library) (script : List ℕ) : Type 0 where
-  pub lefs_read : library_of lefs ≡ Ok library
+-- the DEF text reads, and the script has these bytes, at most 16777216
+pub record HasRead (def : List ℕ) (input : Known) (script : List ℕ) : Type 0 where
   pub def_reads : IsOk (read_def def)
   pub script_is : IfSome input (λ xs. xs ≡ script)
   pub script_fits : length script ≤ 16777216
 
--- a run to its end: the writers got an output of the script over the library and the text, and nothing else
-abbrev pub RunsWhole : List (List ℕ) → List ℕ → Known → Known → Known → Known → Known → Counts → Type 0
-RunsWhole lefs def input o o' d d' counts = (library : Library) × (script : List ℕ) × HasRead lefs def input library script × AnswersWhole library def script o o' d d' counts
+-- a run over a library to its end: the writers got an output of the script over the text, and nothing else
+abbrev pub RunsOver : Library → List ℕ → Known → Known → Known → Known → Known → Counts → Type 0
+RunsOver library def input o o' d d' counts = (script : List ℕ) × HasRead def input script × AnswersWhole library def script o o' d d' counts
 
--- a run that stops: by the first LEF text with a fault, by the fault of the DEF text, by what it read of the script,
--- each before a byte was written; or later, for want of memory or since a writer failed
+-- one that stops: by the fault of the DEF text or by what it read of the script, each before a byte was written; or
+-- later, for want of memory or since a writer failed
+abbrev pub StopsOver : Library → List ℕ → Known → Known → Known → Known → Known → RunFault → Type 0
+StopsOver library def input o o' d d' (Lef file fault) = ⊥
+StopsOver library def input o o' d d' (Def fault) = (read_def def ≡ Err fault) × WritesNothing o o' d d'
+StopsOver library def input o o' d d' TooLong = IsOk (read_def def) × IfSome input (λ xs. 16777216 < length xs) × WritesNothing o o' d d'
+StopsOver library def input o o' d d' Read = IsOk (read_def def) × WritesNothing o o' d d'
+StopsOver library def input o o' d d' Endless = IsOk (read_def def) × WritesNothing o o' d d'
+StopsOver library def input o o' d d' Memory = WritesNothing o o' d d' ⊎ ((script : List ℕ) × HasRead def input script × AnswersSome library def script o o' d d')
+StopsOver library def input o o' d d' Write = (script : List ℕ) × HasRead def input script × AnswersCut library def script o o' d d'
+
+-- a run to its end: the LEF texts give a library, and it runs over that
+abbrev pub RunsWhole : List (List ℕ) → List ℕ → Known → Known → Known → Known → Known → Counts → Type 0
+RunsWhole lefs def input o o' d d' counts = (library : Library) × (library_of lefs ≡ Ok library) × RunsOver library def input o o' d d' counts
+
+-- a run that stops over the library of the LEF texts
+abbrev pub StopsLater : List (List ℕ) → List ℕ → Known → Known → Known → Known → Known → RunFault → Type 0
+StopsLater lefs def input o o' d d' fault = (library : Library) × (library_of lefs ≡ Ok library) × StopsOver library def input o o' d d' fault
+
+-- a run that stops: by the first LEF text with a fault, for want of memory before anything was written, or later
 abbrev pub StopsBy : List (List ℕ) → List ℕ → Known → Known → Known → Known → Known → RunFault → Type 0
 StopsBy lefs def input o o' d d' (Lef file fault) = (library_of lefs ≡ Err (record { file = file; fault = fault })) × WritesNothing o o' d d'
-StopsBy lefs def input o o' d d' (Def fault) = IsOk (library_of lefs) × (read_def def ≡ Err fault) × WritesNothing o o' d d'
-StopsBy lefs def input o o' d d' TooLong = IsOk (library_of lefs) × IsOk (read_def def) × IfSome input (λ xs. 16777216 < length xs) × WritesNothing o o' d d'
-StopsBy lefs def input o o' d d' Read = IsOk (library_of lefs) × IsOk (read_def def) × WritesNothing o o' d d'
-StopsBy lefs def input o o' d d' Endless = IsOk (library_of lefs) × IsOk (read_def def) × WritesNothing o o' d d'
-StopsBy lefs def input o o' d d' Memory = WritesNothing o o' d d' ⊎ ((library : Library) × (script : List ℕ) × HasRead lefs def input library script × AnswersSome library def script o o' d d')
-StopsBy lefs def input o o' d d' Write = (library : Library) × (script : List ℕ) × HasRead lefs def input library script × AnswersCut library def script o o' d d'
+StopsBy lefs def input o o' d d' Memory = WritesNothing o o' d d' ⊎ StopsLater lefs def input o o' d d' Memory
+StopsBy lefs def input o o' d d' (Def fault) = StopsLater lefs def input o o' d d' (Def fault)
+StopsBy lefs def input o o' d d' TooLong = StopsLater lefs def input o o' d d' TooLong
+StopsBy lefs def input o o' d d' Read = StopsLater lefs def input o o' d d' Read
+StopsBy lefs def input o o' d d' Endless = StopsLater lefs def input o o' d d' Endless
+StopsBy lefs def input o o' d d' Write = StopsLater lefs def input o o' d d' Write
 
 -- the hard failures of the script's reader after a run, which answers `Read` at the first
 abbrev pub hard_after_run : {T : Type 0} → Result T RunFault → ℕ → ℕ

@@ -7,7 +7,7 @@ ghost use Rattle.design_rules.specs.Script.{order_of, script_lines, unescaped};
 ghost use Rattle.def_grammar.specs.Records.{read_def};
 ghost use Rattle.edit_script.specs.Answered.{AnswersText, Grows, HasRoom, RefusesText, Says, counts_of};
 ghost use Rattle.script_lines.specs.Orders.{question_seen};
-ghost use Rattle.edit_script.specs.Ends.{AnswersPart, AnswersWhole, RunsWhole, StopsBy, WritesRun, WritesRunPart, hard_after_run};
+ghost use Rattle.edit_script.specs.Ends.{AnswersPart, AnswersWhole, RunsOver, RunsWhole, StopsBy, StopsOver, WritesRun, WritesRunPart, hard_after_run};
 
 use cell_library::lef_texts::LefTexts;
 use cell_library::library::{Library, LibraryError};
@@ -239,6 +239,52 @@ fn answer_all<A: Allocator + Copy, W: CountedWrite, V: CountedWrite>(
     }
 }
 
+/// Runs a script over a DEF text and a library.
+fn run_over<A, R, W, V>(
+    alloc: A,
+    library: &Library<'_, A>,
+    def: &[u8],
+    script: &mut R,
+    out: &mut W,
+    def_out: &mut V,
+) -> Result<Tally, RunFault>
+where
+    A: Allocator + Copy,
+    R: CountedRead,
+    W: CountedWrite,
+    V: CountedWrite,
+    requires script { R.failed script.old < 2 ^ 63 }
+    requires out { W.failed out.old < 2 ^ 63 }
+    requires def_out { V.failed def_out.old < 2 ^ 63 }
+    ensures ok { IfOk result (λ tally. RunsOver library.now def.now (R.remaining script.old) (W.contents out.old) (W.contents out.new) (V.contents def_out.old) (V.contents def_out.new) (counts_of tally)) }
+    ensures fault { IfErr result (λ e. StopsOver library.now def.now (R.remaining script.old) (W.contents out.old) (W.contents out.new) (V.contents def_out.old) (V.contents def_out.new) e) }
+    ensures read { IsErrOf result RunFault.Read → R.failed script.old < R.failed script.new }
+    ensures read_hard { R.failed_hard script.new ≡ hard_after_run result (R.failed_hard script.old) }
+    ensures write { IsErrOf result RunFault.Write → HasFailed (W.failed_hard out.old) (W.failed_hard out.new) (W.failed out.old) (W.failed out.new) 33554431 ⊎ HasFailed (V.failed_hard def_out.old) (V.failed_hard def_out.new) (V.failed def_out.old) (V.failed def_out.new) 33554431 }
+    ensures write_few { W.failed out.new ≤ W.failed out.old + 33554432 }
+    ensures def_few { V.failed def_out.new ≤ V.failed def_out.old + 33554432 }
+    ensures read_few { R.failed script.new ≤ R.failed script.old + 33554432 }
+    ensures endless { IsErrOf result RunFault.Endless → R.failed script.old + 16777216 ≤ R.failed script.new }
+{
+    let mut session = match Session::open(alloc, library, def) {
+        Ok(session) => session,
+        Err(ReadError::Fault(fault)) => return Err(RunFault::Def(fault)),
+        Err(ReadError::Memory) => return Err(RunFault::Memory),
+    };
+    let bytes = match read_whole(alloc, script, MAX_SCRIPT, MAX_TURNS) {
+        Ok(bytes) => bytes,
+        Err(InputError::Memory) => return Err(RunFault::Memory),
+        Err(InputError::Read) => return Err(RunFault::Read),
+        Err(InputError::TooLong) => return Err(RunFault::TooLong),
+        Err(InputError::Endless) => return Err(RunFault::Endless),
+    };
+    match answer_all(alloc, &mut session, bytes.as_slice(), out, def_out) {
+        Ok(tally) => Ok(tally),
+        Err(Stop::Memory) => Err(RunFault::Memory),
+        Err(Stop::Write) => Err(RunFault::Write),
+    }
+}
+
 /// Runs a script over a DEF text and the library of LEF texts: these, the DEF and the script are read in this order, to
 /// the end, before the first line is run. The answers go to `out`, and the text in the end to `def_out`.
 pub fn run<A, B, R, W, V>(
@@ -281,21 +327,5 @@ where
         Err(LibraryError::Fault { file, fault }) => return Err(RunFault::Lef { file, fault }),
         Err(LibraryError::Memory) => return Err(RunFault::Memory),
     };
-    let mut session = match Session::open(alloc, &library, def) {
-        Ok(session) => session,
-        Err(ReadError::Fault(fault)) => return Err(RunFault::Def(fault)),
-        Err(ReadError::Memory) => return Err(RunFault::Memory),
-    };
-    let bytes = match read_whole(alloc, script, MAX_SCRIPT, MAX_TURNS) {
-        Ok(bytes) => bytes,
-        Err(InputError::Memory) => return Err(RunFault::Memory),
-        Err(InputError::Read) => return Err(RunFault::Read),
-        Err(InputError::TooLong) => return Err(RunFault::TooLong),
-        Err(InputError::Endless) => return Err(RunFault::Endless),
-    };
-    match answer_all(alloc, &mut session, bytes.as_slice(), out, def_out) {
-        Ok(tally) => Ok(tally),
-        Err(Stop::Memory) => Err(RunFault::Memory),
-        Err(Stop::Write) => Err(RunFault::Write),
-    }
+    run_over(alloc, &library, def, script, out, def_out)
 }

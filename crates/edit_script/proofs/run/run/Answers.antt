@@ -1,6 +1,8 @@
-use Rattle.std.proofs.Common.{inr, rules}
+use Rattle.edit_script.proofs.EndLemmas.{err_so, ok_so, stops_by}
 use Rattle.edit_script.proofs.run.run.Goals as goal
 
-pub returns-in-Err-Memory-answer_all-clause-fault : goal.returns-in-Err-Memory-answer_all-clause-fault
-returns-in-Err-Memory-answer_all-clause-fault g c =
-    inr (c.in-Ok.library, c.as_slice.result.now, record { lefs_read = search rules; def_reads = search rules; script_is = search rules; script_fits = search rules }, search rules)
+pub returns-clause-ok : goal.returns-clause-ok
+returns-clause-ok g c = ok_so _ _ c.run_over.result (λ t h. (c.in-Ok.library, c.in-Ok.ensures, h)) c.run_over.ensures.ok
+
+pub returns-clause-fault : goal.returns-clause-fault
+returns-clause-fault g c = err_so _ _ c.run_over.result (λ e h. stops_by _ c.in-Ok.library _ _ _ _ _ _ e c.in-Ok.ensures h) c.run_over.ensures.fault
