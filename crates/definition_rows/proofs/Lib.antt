@@ -1,7 +1,11 @@
 pub mod DefRows
 pub mod EditRows
+pub mod FormTexts
 pub mod LefRows
 pub mod LibraryRows
 pub mod LimitRows
+pub mod NetRows
+pub mod SectionRows
+pub mod StatementRows
 pub mod TextRows
 pub mod TokenRows

@@ -1,12 +1,12 @@
 -- Reading a form and spelling it are inverse, and the first bad number is noted where it stands.
-use Rattle.std.proofs.Common.{◌≡◌, ◌≤◌, ◌⊎◌, inl, inr, ℕ, zero, suc, Bool, true, false, List, [], ◌∷◌, ◌++◌, length, Option, Some, None, refl, sym, ap, ◌∙◌, append_assoc, arith, if◌then◌else◌, ◌||◌}
+use Rattle.std.proofs.Common.{◌≡◌, ◌≤◌, ◌⊎◌, inl, inr, ℕ, zero, suc, ◌+◌, Bool, true, false, List, [], ◌∷◌, ◌++◌, length, Option, Some, None, refl, sym, ap, ◌∙◌, append_assoc, arith, if◌then◌else◌}
 use Rattle.std.specs.List.{All}
 use Rattle.std.proofs.lemmas.List.Elements.{All-nil, All-cons, All-head, All-tail}
 use Rattle.std.specs.Option.{option_or}
-use Rattle.form_meanings.specs.Words.{◌>>=◌, Rest, is_word, is_place, next_of, next_word, word_that, key, number_at, noted, first_bad, is_empty, first_passes, next_passes, split_at, split_rest, start}
+use Rattle.form_meanings.specs.Words.{◌>>=◌, Rest, is_word, is_place, next_of, next_word, word_that, key, number_at, noted, first_bad, first_passes, next_passes, split_at, split_rest, start}
 use Rattle.std.proofs.lemmas.Bool.{cases_Bool as cases}
 use Rattle.std.proofs.lemmas.Slice.Eq.{bytes_eq-Decides}
-use Rattle.form_meanings.specs.Meaning.{Seen, Meaning, Shown, Exact, find, repeat, read_many, or_other, spell_all, first_or_end, FitAll, bad_of_all, empty_meaning, word_meaning, number_meaning, one_of_meaning, upto_meaning, behind_meaning, before_meaning, closed_meaning, seq_meaning, alt_meaning, opt_meaning, many_meaning, or_else_meaning, seen_meaning, none_meaning, left_meaning, right_meaning}
+use Rattle.form_meanings.specs.Meaning.{Seen, Meaning, Shown, Exact, find, repeat, or_other, spell_all, first_or_end, FitAll, bad_of_all, empty_meaning, word_meaning, number_meaning, one_of_meaning, upto_meaning, behind_meaning, before_meaning, closed_meaning, seq_meaning, alt_meaning, opt_meaning, many_meaning, or_else_meaning, seen_meaning, none_meaning, left_meaning, right_meaning, limited_meaning, given_meaning}
 use Rattle.form_meanings.proofs.Steps.{some_same, both_read, then_reads, if_cases, or_none, or_assoc}
 
 -- a word that is this very word
@@ -426,4 +426,37 @@ right_exact {A = A} {B = B} g eg = record {
       let same = some_same x p b.2 in
       rw (← same) (record { words = k.words; fits = k.fits; bad = k.bad });
   reads = right_reads g eg;
+}
+
+pub limited_exact : {A : Type 0} (t : A → Bool) (n : ℕ) (f : Meaning A) → Exact f → Exact (limited_meaning t n f)
+limited_exact {A = A} t n f ef = record {
+  shows = λ r p e.
+      let a = both_read (f.read r) (λ a. Some (a.0, noted (t a.0) (n + length a.1.words) a.1)) p e in
+      let left = n + length a.0.1.words in
+      let x : A × Rest = (a.0.0, noted (t a.0.0) left a.0.1) in
+      let same = some_same x p a.2 in
+      let k = ef.shows r a.0 a.1 in
+      let over : Option ℕ = if t a.0.0 then None else Some left in
+      let bad = bad_or (t a.0.0) left a.0.1.bad ∙ ap (λ (o : Option ℕ). option_or o over) k.bad ∙ or_assoc r.bad (f.bad a.0.0 a.0.1.words) over in
+      rw (← same) (record { words = k.words; fits = k.fits; bad = bad });
+  reads = λ r r2 a s.
+      let left = n + length r2.words in
+      let over : Option ℕ = if t a then None else Some left in
+      let r1 : Rest = record { words = r2.words; bad = option_or r.bad (f.bad a r2.words) } in
+      let k = ef.reads r r1 a (record { words = s.words; fits = s.fits; bad = refl }) in
+      let bad : first_bad (t a) left r1.bad ≡ r2.bad = bad_or (t a) left r1.bad ∙ or_assoc r.bad (f.bad a r2.words) over ∙ sym s.bad in
+      then_reads (f.read r) (λ a. Some (a.0, noted (t a.0) (n + length a.1.words) a.1)) (a, r1) k ∙ rw bad refl;
+}
+
+pub given_exact : {A : Type 0} (a : A) → Exact (given_meaning a)
+given_exact {A = A} a = record {
+  shows = λ r p e.
+      let x : A × Rest = (a, r) in
+      let same = some_same x p e in
+      rw (← same) (record { words = refl; fits = refl; bad = sym (or_none r.bad) });
+  reads = λ r r2 b s.
+      let words = s.words in
+      let bad = s.bad ∙ or_none r.bad in
+      let same = s.fits in
+      rw (same, ← words, ← bad) refl;
 }

@@ -1,9 +1,9 @@
 -- What forms of statements mean: how they are read, and the words that their values are spelled with.
-use Rattle.std.specs.Prelude.{◌≡◌, ◌≤◌, ◌⊎◌, ℕ, zero, suc, Bool, true, false, ◌||◌, List, [], ◌∷◌, ◌++◌, length, Option, Some, None, if◌then◌else◌}
+use Rattle.std.specs.Prelude.{◌≡◌, ◌≤◌, ◌⊎◌, ℕ, ◌+◌, zero, suc, Bool, true, false, ◌||◌, List, [], ◌∷◌, ◌++◌, length, Option, Some, None, if◌then◌else◌}
 use Rattle.std.proofs.Common.{inl, inr}
 use Rattle.std.specs.List.{All}
 use Rattle.std.specs.Option.{option_or}
-use Rattle.form_meanings.specs.Words.{◌>>=◌, Rest, is_word, is_place, next_word, word_that, key, number_at, is_empty, first_passes, next_passes, split_rest, start}
+use Rattle.form_meanings.specs.Words.{◌>>=◌, Rest, is_word, is_place, next_word, word_that, key, number_at, is_empty, first_passes, next_passes, split_rest, noted, start}
 
 -- a type that is another one in other words
 pub record Seen (A B : Type 0) : Type 0 where
@@ -225,3 +225,16 @@ right_meaning g = record {
   Fits = elim [ inl a ↦ λ ws. ⊥ | inr b ↦ g.Fits b ];
   bad = elim [ inl a ↦ λ ws. None | inr b ↦ g.bad b ];
 }
+
+-- a form whose value has to pass a further test: where it doesn't, the number with which its last n words begin is bad
+abbrev pub limited_meaning : {A : Type 0} → (A → Bool) → ℕ → Meaning A → Meaning A
+limited_meaning t n f = record {
+  read = λ r. f.read r >>= λ a. Some (a.0, noted (t a.0) (n + length a.1.words) a.1);
+  spell = f.spell;
+  Fits = f.Fits;
+  bad = λ a ws. option_or (f.bad a ws) (if t a then None else Some (n + length ws));
+}
+
+-- this very value, and no token
+abbrev pub given_meaning : {A : Type 0} → A → Meaning A
+given_meaning a = record { read = λ r. Some (a, r); spell = λ b. []; Fits = λ b ws. b ≡ a; bad = λ b ws. None }

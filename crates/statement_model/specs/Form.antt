@@ -1,8 +1,8 @@
 -- Forms of statements, and of parts of them. A form comes with the proof that it reads exactly what it spells.
 use Rattle.std.specs.Prelude.{◌⊎◌, ℕ, Bool, false, List, Option}
 use Rattle.form_meanings.specs.Words.{◌>>=◌, Rest, is_word, start, ends}
-use Rattle.form_meanings.specs.Meaning.{Seen, Meaning, Exact, empty_meaning, word_meaning, number_meaning, one_of_meaning, upto_meaning, behind_meaning, before_meaning, closed_meaning, seq_meaning, alt_meaning, opt_meaning, many_meaning, or_else_meaning, seen_meaning, none_meaning, left_meaning, right_meaning}
-use Rattle.form_meanings.proofs.Exact.{empty_exact, word_exact, number_exact, one_of_exact, upto_exact, behind_exact, before_exact, closed_exact, seq_exact, alt_exact, opt_exact, many_exact, else_exact, seen_exact, none_exact, left_exact, right_exact}
+use Rattle.form_meanings.specs.Meaning.{Seen, Meaning, Exact, empty_meaning, word_meaning, number_meaning, one_of_meaning, upto_meaning, behind_meaning, before_meaning, closed_meaning, seq_meaning, alt_meaning, opt_meaning, many_meaning, or_else_meaning, seen_meaning, none_meaning, left_meaning, right_meaning, limited_meaning, given_meaning}
+use Rattle.form_meanings.proofs.Exact.{empty_exact, word_exact, number_exact, one_of_exact, upto_exact, behind_exact, before_exact, closed_exact, seq_exact, alt_exact, opt_exact, many_exact, else_exact, seen_exact, none_exact, left_exact, right_exact, limited_exact, given_exact}
 
 pub record Form (A : Type 0) : Type 1 where
   pub of : Meaning A
@@ -105,3 +105,11 @@ tail = upto (λ w. false)
 -- the value that these tokens are, and how many of them were left at the first invalid number
 abbrev pub whole : {A : Type 0} → Form A → List (List ℕ) → Option (A × Option ℕ)
 whole f ws = read f (start ws) >>= λ a. ends a.0 a.1
+
+-- a form whose value has to pass a further test: where it doesn't, the number with which its last n words begin is bad
+abbrev pub limited : {A : Type 0} → (A → Bool) → ℕ → Form A → Form A
+limited t n f = record { of = limited_meaning t n f.of; exact = limited_exact t n f.of f.exact }
+
+-- this very value, and no token
+abbrev pub given : {A : Type 0} → A → Form A
+given a = record { of = given_meaning a; exact = given_exact a }
