@@ -31,9 +31,9 @@ fn a_library_has_the_first_macro_of_each_name(rt: HostRuntime) -> Result<(), Fai
     let library = Library::read(rt.alloc(), &lefs)?;
     let inverter = library.macro_of(b"INV").ok_or("no INV")?;
     assert_eq!(rt; inverter.class.ok_or("no class")?, b"CORE".as_slice());
-    let extent = inverter.size.ok_or("no size")?;
-    assert_eq!(rt; extent.width, b"0.92".as_slice());
-    assert_eq!(rt; extent.height, b"2.72".as_slice());
+    let extent = inverter.size(1000);
+    assert_eq!(rt; extent.x, 920);
+    assert_eq!(rt; extent.y, 2720);
     let bare = library.macro_of(b"bare").ok_or("no bare")?;
     assert!(rt; bare.class.is_none() && bare.size.is_none());
     assert!(rt; library.macro_of(b"core").is_none());

@@ -12,17 +12,18 @@ use std::alloc::Global;
 use std::test::Fail;
 
 /// What a session in a heap of this many bytes answers to an edit of the text or of the design, and its text then; none
-/// where the heap is too small to open it.
+/// where the heap is too small to open it. The library has a heap of its own.
 fn edited_in(
     alloc: Global,
     lefs: &LefTexts,
     size: usize,
     of_text: bool,
 ) -> Result<Option<(Result<Done, EditRefusal>, Vec<u8>)>, Fail> {
-    let heap = LocalHeap::new(alloc, size)?;
-    let Ok(library) = Library::read(&heap, lefs) else {
-        return Ok(None);
+    let library_heap = LocalHeap::new(alloc, 65536)?;
+    let Ok(library) = Library::read(&library_heap, lefs) else {
+        return Err(Fail::from("the library was not read"));
     };
+    let heap = LocalHeap::new(alloc, size)?;
     let Ok(mut session) = Session::open(&heap, &library, TWO_INVERTERS) else {
         return Ok(None);
     };
