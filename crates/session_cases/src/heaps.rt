@@ -1,6 +1,6 @@
 //! Edits in heaps of each size: a growth that is refused leaves the text.
 
-use crate::texts::{INVERTER, TWO_INVERTERS};
+use crate::texts::TWO_INVERTERS;
 use cell_library::lef_texts::LefTexts;
 use cell_library::library::Library;
 use counted_devices::counted::Counted;
@@ -12,18 +12,17 @@ use std::alloc::Global;
 use std::test::Fail;
 
 /// What a session in a heap of this many bytes answers to an edit of the text or of the design, and its text then; none
-/// where the heap is too small to open it. The library has a heap of its own.
+/// where the heap is too small to open it.
 fn edited_in(
     alloc: Global,
     lefs: &LefTexts,
     size: usize,
     of_text: bool,
 ) -> Result<Option<(Result<Done, EditRefusal>, Vec<u8>)>, Fail> {
-    let library_heap = LocalHeap::new(alloc, 65536)?;
-    let Ok(library) = Library::read(&library_heap, lefs) else {
-        return Err(Fail::from("the library was not read"));
-    };
     let heap = LocalHeap::new(alloc, size)?;
+    let Ok(library) = Library::read(&heap, lefs) else {
+        return Ok(None);
+    };
     let Ok(mut session) = Session::open(&heap, &library, TWO_INVERTERS) else {
         return Ok(None);
     };
@@ -46,8 +45,8 @@ fn edited_in(
 
 #[test]
 fn each_growth_refused_leaves_the_text(rt: HostRuntime) -> Result<(), Fail> {
-    let mut lefs = LefTexts::new(rt.alloc());
-    lefs.push(INVERTER)?;
+    // A library of no text leaves no room behind that it needed while it was read.
+    let lefs = LefTexts::new(rt.alloc());
     for of_text in [false, true] {
         let mut refused = false;
         let mut accepted = false;
