@@ -1,6 +1,6 @@
 -- What the statements of a DEF text say, and the grammar of a text (LEF/DEF 5.8 Language Reference, "DEF Syntax").
 use Rattle.std.specs.Option.{option_to_list}
-use Rattle.std.specs.Prelude.{◌≡◌, ◌⊎◌, ℕ, Bool, true, false, ◌||◌, List, [], ◌∷◌, Option, Some, None, Result, codes, if◌then◌else◌, refl}
+use Rattle.std.specs.Prelude.{◌⊎◌, ℕ, Bool, true, false, ◌||◌, List, [], ◌∷◌, Option, Some, None, Result, codes, if◌then◌else◌}
 use Rattle.std.proofs.Common.{inl, inr}
 use Rattle.design_model.specs.declared.fault.Fault.{Fault}
 use Rattle.design_model.specs.declared.fault.FaultCode.{FaultCode}
@@ -8,50 +8,109 @@ use Rattle.design_model.specs.declared.fault.FaultCode.TheVariants.{NoUnits}
 use Rattle.design_model.specs.declared.mode.Mode.{Mode}
 use Rattle.design_model.specs.declared.mode.Mode.TheVariants.{Top, In, Props, After}
 use Rattle.design_model.specs.declared.mode.Section.{Section}
-use Rattle.design_model.specs.declared.mode.Section.TheVariants.{Components}
+use Rattle.design_model.specs.declared.mode.Section.TheVariants.{Components, Pins, Regions, Groups, Blockages, Nets, SpecialNets, Vias, NonDefaultRules}
 use Rattle.design_model.specs.EnumWords.{section_word}
 use Rattle.form_meanings.specs.Words.{is_word, is_semicolon}
-use Rattle.form_meanings.specs.Meaning.{Seen}
 use Rattle.statement_model.specs.Boundaries.{Ending, alone, with_next, up_to}
-use Rattle.statement_model.specs.Form.{Form, one_of, no_form, left, right, seen, alt, ◌▸◌}
+use Rattle.statement_model.specs.Form.{Form, one_of, no_form, left, right, alt, given, ◌▸◌, ◌⨟◌}
 use Rattle.statement_model.specs.Grammar.{Key, Grammar}
 use Rattle.statement_model.specs.Reading.{is_among, read_text}
-use Rattle.def_grammar.specs.Top.{TopRecord, units, header, plain, ends_design, once, top_statement}
+use Rattle.def_grammar.specs.Top.{TopRecord, units, header, plain, properties, end_design, once, top_statement}
+use Rattle.def_grammar.specs.Blockages.{BlockageEntry, blockage_form}
 use Rattle.def_grammar.specs.Components.{Component, component_form}
+use Rattle.def_grammar.specs.DefVias.{DefVia, def_via_form}
+use Rattle.def_grammar.specs.Groups.{Group, group_form}
+use Rattle.def_grammar.specs.Nets.{NetEntry, net_form, net_name}
+use Rattle.def_grammar.specs.Pins.{Pin, pin_form}
+use Rattle.def_grammar.specs.Properties.{PropertyRecord, end_properties, property_statement}
+use Rattle.def_grammar.specs.Regions.{Region, region_form}
+use Rattle.def_grammar.specs.Rules.{Rule, rule_form}
+use Rattle.def_grammar.specs.Skipped.{skipped_form}
+use Rattle.def_grammar.specs.SpecialNets.{SpecialNet, special_net_form}
 
--- an entry of a section: a case for each section that is read
-pub data Entry : Type 0 where
-  component : Component → Entry
+-- an entry about places: a component, a pin, a region, a group, or a blockage
+abbrev pub PlaceEntry : Type 0
+PlaceEntry = Component ⊎ (Pin ⊎ (Region ⊎ (Group ⊎ BlockageEntry)))
 
-abbrev pub the_component : Entry → Component
-the_component (component c) = c
+-- an entry about wires: a net, a special net, a via, or a rule
+abbrev pub WireEntry : Type 0
+WireEntry = NetEntry ⊎ (SpecialNet ⊎ (DefVia ⊎ Rule))
 
-pub same_entry : (e : Entry) → component (the_component e) ≡ e
-same_entry (component c) = refl
+-- an entry of a section; of those whose entries mean nothing, its section and its tokens
+abbrev pub Entry : Type 0
+Entry = PlaceEntry ⊎ (WireEntry ⊎ (Section × List (List ℕ)))
 
-abbrev pub as_entry : Seen Component Entry
-as_entry = record { to = component; from = the_component; to_from = same_entry; from_to = λ c. refl }
+pattern abbrev pub component : Component → Entry
+component c = inl (inl c)
+
+pattern abbrev pub pin : Pin → Entry
+pin p = inl (inr (inl p))
+
+pattern abbrev pub region : Region → Entry
+region r = inl (inr (inr (inl r)))
+
+pattern abbrev pub group : Group → Entry
+group g = inl (inr (inr (inr (inl g))))
+
+pattern abbrev pub blockage : BlockageEntry → Entry
+blockage b = inl (inr (inr (inr (inr b))))
+
+pattern abbrev pub net : NetEntry → Entry
+net n = inr (inl (inl n))
+
+pattern abbrev pub special_net : SpecialNet → Entry
+special_net n = inr (inl (inr (inl n)))
+
+pattern abbrev pub via : DefVia → Entry
+via v = inr (inl (inr (inr (inl v))))
+
+pattern abbrev pub rule : Rule → Entry
+rule r = inr (inl (inr (inr (inr r))))
+
+pattern abbrev pub skipped : Section → List (List ℕ) → Entry
+skipped s tokens = inr (inr (s, tokens))
 
 -- its section
 abbrev pub section_of : Entry → Section
 section_of (component c) = Components
+section_of (pin p) = Pins
+section_of (region r) = Regions
+section_of (group g) = Groups
+section_of (blockage b) = Blockages
+section_of (net n) = Nets
+section_of (special_net n) = SpecialNets
+section_of (via v) = Vias
+section_of (rule r) = NonDefaultRules
+section_of (skipped s tokens) = s
 
 -- its name, which its section has once
 abbrev pub name_of : Entry → Option (List ℕ)
 name_of (component c) = Some c.name
+name_of (pin p) = Some p.name
+name_of (region r) = Some r.name
+name_of (group g) = Some g.name
+name_of (blockage b) = None
+name_of (net n) = net_name n
+name_of (special_net n) = Some n.name
+name_of (via v) = Some v.name
+name_of (rule r) = Some r.name
+name_of (skipped s tokens) = None
 
--- what a statement says: one outside of all sections, the END of a section, or an entry
+-- what a statement says: one outside of all sections, one among property definitions, the END of a section, or an entry
 abbrev pub Record : Type 0
-Record = TopRecord ⊎ (Section ⊎ Entry)
+Record = TopRecord ⊎ (PropertyRecord ⊎ (Section ⊎ Entry))
 
 pattern abbrev pub top : TopRecord → Record
 top t = inl t
 
+pattern abbrev pub in_properties : PropertyRecord → Record
+in_properties p = inr (inl p)
+
 pattern abbrev pub end_section : Section → Record
-end_section s = inr (inl s)
+end_section s = inr (inr (inl s))
 
 pattern abbrev pub entry : Entry → Record
-entry e = inr (inr e)
+entry e = inr (inr (inr e))
 
 abbrev pub entry_of : Record → Option Entry
 entry_of (entry e) = Some e
@@ -66,10 +125,22 @@ abbrev pub units_of : Record → Option (List ℕ)
 units_of (top (units n)) = Some n
 units_of _ = None
 
+-- the entries of a section whose entries mean nothing
+abbrev pub skipped_entries : Section → Form Entry
+skipped_entries s = right (right (given s ⨟ skipped_form))
+
 -- the entries of a section
 unfoldable pub entries_form : Section → Form Entry
-entries_form Components = seen as_entry component_form
-entries_form _ = no_form
+entries_form Components = left (left component_form)
+entries_form Pins = left (right (left pin_form))
+entries_form Regions = left (right (right (left region_form)))
+entries_form Groups = left (right (right (right (left group_form))))
+entries_form Blockages = left (right (right (right (right blockage_form))))
+entries_form Nets = right (left (left net_form))
+entries_form SpecialNets = right (left (right (left special_net_form)))
+entries_form Vias = right (left (right (right (left def_via_form))))
+entries_form NonDefaultRules = right (left (right (right (right rule_form))))
+entries_form s = skipped_entries s
 
 -- END S
 abbrev pub end_form : Section → Form Section
@@ -82,8 +153,8 @@ in_section s = alt (is_word (codes "END")) (end_form s) (entries_form s)
 -- what stands where
 unfoldable pub statement : Mode → Form Record
 statement Top = left top_statement
-statement (In s) = right (in_section s)
-statement Props = no_form
+statement Props = right (left property_statement)
+statement (In s) = right (right (in_section s))
 statement After = no_form
 
 -- PROPERTYDEFINITIONS and ; stand alone, END takes one more token, BEGINEXT runs to ENDEXT, and any other statement to
@@ -97,7 +168,9 @@ def_ending w =
 
 abbrev pub mode_after : Mode → Record → Mode
 mode_after m (top (header s n)) = In s
-mode_after m (top (plain p)) = if ends_design (plain p) then After else m
+mode_after m (top properties) = Props
+mode_after m (top end_design) = After
+mode_after m (in_properties end_properties) = Top
 mode_after m (end_section s) = Top
 mode_after m _ = m
 

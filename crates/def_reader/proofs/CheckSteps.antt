@@ -1,5 +1,5 @@
 -- The fault of a text, as a loop over its statements finds it.
-use Rattle.std.proofs.Common.{◌≡◌, ℕ, ◌≤◌, Bool, true, false, List, [], length, refl, ap, ◌∙◌, Bor, codes, Option, Some, None, Result, Ok, Err, if◌then◌else◌}
+use Rattle.std.proofs.Common.{◌≡◌, ℕ, ◌≤◌, Bool, true, false, List, [], ◌∷◌, ◌++◌, length, map, refl, sym, ap, ◌∙◌, append_assoc, Bor, codes, Option, Some, None, Result, Ok, Err, if◌then◌else◌}
 use Rattle.std.specs.Prelude.{IsOk}
 use Rattle.design_model.specs.declared.TheConstants.{MAX_TEXT}
 use Rattle.design_model.specs.declared.fault.Fault.{Fault}
@@ -11,11 +11,30 @@ use Rattle.statement_model.specs.Tokens.{Piece, Lexed, left_from}
 use Rattle.statement_model.specs.Boundaries.{statement_at}
 use Rattle.statement_model.specs.Grammar.{Key}
 use Rattle.statement_model.specs.Reading.{read_at, repeats, with_key, fault_at, pos_of}
+use Rattle.lefdef_tokens.specs.Views.{span_of}
+use Rattle.lefdef_tokens.specs.declared.span.Span.{Span}
+use Rattle.statement_reader.specs.Located.{located_at}
+use Rattle.statement_reader.proofs.LocatedSteps.{located_first}
 use Rattle.statement_reader.proofs.SoFar.{SoFar, so_far_start, so_far_on, so_far_fault, so_far_repeats, so_far_ends, so_far_lacks}
 use Rattle.statement_reader.proofs.Steps.{form_read}
 use Rattle.def_grammar.specs.Records.{def, def_ending, Record, key_of, read_def, without_units}
 use Rattle.def_reader.specs.SeenViews.{has_word, StandFor, Belongs, latest_with}
 use Rattle.def_reader.proofs.SectionSteps.{Opens, opened}
+
+-- where the statements stand that are left
+abbrev pub spans_at : Mode → List ℕ → ℕ → List Span
+spans_at m text pos = map (λ x. span_of x.0) (located_at def m text pos)
+
+-- one more of them
+pub one_more_span : (mode after : Mode) (text : List ℕ) (pos end : ℕ) (ps : List Piece) (rec : Record) (all spans : List Span) (span : Span)
+    → statement_at def_ending (left_from text pos) ≡ Ok (Some (ps, left_from text end))
+    → read_at def mode (left_from text pos) ≡ Ok (Some (rec, after, left_from text end))
+    → span_of ps ≡ span
+    → all ≡ spans ++ spans_at mode text pos
+    → all ≡ (spans ++ span ∷ []) ++ spans_at after text end
+one_more_span mode after text pos end ps rec all spans span at read is so_far =
+    so_far ∙ ap (λ (z : List (List Piece × Record)). spans ++ map (λ x. span_of x.0) z) (located_first def mode after (left_from text pos) (left_from text end) ps rec at read)
+    ∙ rw is (sym (append_assoc spans (span ∷ []) (spans_at after text end)))
 
 -- the text reads so far, and sets of words stand for its keys
 pub record Going (text : List ℕ) (words names : List (Bor (List ℕ))) (mode : Mode) (pos : ℕ) : Type 0 where

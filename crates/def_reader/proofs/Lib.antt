@@ -1,6 +1,4 @@
 mod CheckSteps
 mod KeySteps
-mod PlacingSteps
-mod PlacingTokens
 mod RecordSteps
 mod SectionSteps

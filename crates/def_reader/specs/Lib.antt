@@ -1,8 +1,7 @@
-pub mod ComponentViews
+pub mod EntryViews
+pub mod FloorViews
 pub mod Lent
-pub mod Numbers
-pub mod PlacingViews
-pub mod PointViews
+pub mod PropertyViews
 pub mod RecordViews
 pub mod SeenViews
 pub mod StatementViews

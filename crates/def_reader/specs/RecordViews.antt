@@ -7,9 +7,9 @@ use Rattle.def_grammar.specs.Records.{Record}
 use Rattle.lefdef_tokens.specs.Views.{pieces_of}
 use Rattle.lefdef_tokens.specs.declared.token_run.TokenRun.{TokenRun}
 use Rattle.statement_reader.specs.declared.grammar.Read.{Read}
-use Rattle.def_reader.specs.ComponentViews.{component_view}
+use Rattle.place_parts.specs.ComponentViews.{component_view}
 use Rattle.def_reader.specs.StatementViews.{record_view}
-use Rattle.def_reader.specs.declared.components.ComponentParts.{ComponentParts}
+use Rattle.place_parts.specs.declared.components.ComponentParts.{ComponentParts}
 use Rattle.def_reader.specs.declared.statement.Statement.{Statement}
 
 abbrev pub record_of : Read Statement Mode → Record

@@ -10,10 +10,9 @@
 //! A text that doesn't read has a `Fault`. Where memory is refused, the answer is `ReadError::Memory` or `AllocError`.
 #![tactic(auto)]
 
-pub mod components;
-pub mod number;
-pub mod placing;
-pub mod point;
+pub mod entry;
+pub mod floor;
+pub mod properties;
 pub mod read_def;
 pub mod read_statement;
 pub mod records;

@@ -1,33 +1,28 @@
-//! The faults of a whole DEF text.
+//! The faults of a whole DEF text, and where its statements stand.
 
-ghost use Rattle.std.specs.Prelude.{◌≡◌, ◌≤◌, length, OnOk};
-ghost use Rattle.statement_model.specs.Reading.{pos_of};
+ghost use Rattle.std.specs.Prelude.{◌≡◌, ◌≤◌, length, map, IfOk, List, Ok};
 ghost use Rattle.design_model.specs.declared.TheConstants.{MAX_TEXT};
-ghost use Rattle.lefdef_tokens.specs.Views.{pieces_of};
-ghost use Rattle.def_reader.specs.TextViews.{ChecksText};
+ghost use Rattle.def_grammar.specs.Records.{read_def, Record};
+ghost use Rattle.def_reader.specs.TextViews.{ReadsText, statement_spans};
 
 use crate::read_statement::read_statement;
 use crate::seen::Seen;
 use design_model::MAX_TEXT;
 use design_model::fault::{Fault, FaultCode, ReadError};
 use design_model::mode::Mode;
-use lefdef_tokens::TokenRun;
-use std::alloc::Allocator;
+use design_model::sequence::Sequence;
+use lefdef_tokens::Span;
+use std::alloc::{Allocator, Global};
 
-/// Where the first of some tokens begins.
-fn start_of(tokens: TokenRun<'_>) -> usize
-    ensures { result ≡ pos_of (pieces_of tokens.entry) }
-{
-    match tokens.split_first() {
-        Some((first, _)) => first.pos,
-        None => 0,
-    }
-}
+/// Where the statements of a text stand, in its order.
+pub type Spans<A = Global> = Sequence<Span, A>;
 
-/// Reads a whole text for its fault: of its length, of its first statement that has one, or of missing `UNITS`.
-pub fn check_def<A: Allocator + Copy>(alloc: A, text: &[u8]) -> Result<(), ReadError>
-    ensures fits { OnOk result (length text.now ≤ MAX_TEXT) }
-    ensures checks { ChecksText text.now result }
+/// Reads a whole text: where its statements stand, or its fault, which is that of its length, of its first statement that has
+/// one, or of missing `UNITS`.
+pub fn read_def<A: Allocator + Copy>(alloc: A, text: &[u8]) -> Result<Spans<A>, ReadError>
+    ensures fits { IfOk result (λ _. length text.now ≤ MAX_TEXT) }
+    ensures reads { ReadsText text.now result }
+    ensures spans { IfOk result (λ spans. (design : List Record) → read_def text.now ≡ Ok design → spans ≡ statement_spans text.now design) }
 {
     if text.len() > MAX_TEXT {
         return Err(ReadError::Fault(Fault {
@@ -35,21 +30,24 @@ pub fn check_def<A: Allocator + Copy>(alloc: A, text: &[u8]) -> Result<(), ReadE
             pos: 0,
         }));
     }
+    let mut spans = Vec::new(alloc);
     let mut seen = Seen::new(alloc);
     let mut mode = Mode::Top;
     let mut pos = 0;
     while let Some(read) = read_statement(mode, text, pos)? {
+        let span = read.span();
         if let Some(code) = seen.note(read.statement.key())? {
             return Err(ReadError::Fault(Fault {
                 code,
-                pos: start_of(read.tokens),
+                pos: span.lo,
             }));
         }
+        spans.push(span)?;
         mode = read.place;
         pos = read.end;
     }
     if seen.has(b"UNITS") {
-        Ok(())
+        Ok(Sequence::from_vec(spans))
     } else {
         Err(ReadError::Fault(Fault {
             code: FaultCode::NoUnits,

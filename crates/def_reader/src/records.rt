@@ -6,18 +6,20 @@ ghost use Rattle.std.specs.Option.{option_map};
 ghost use Rattle.statement_model.specs.Form.{spell};
 ghost use Rattle.def_grammar.specs.Components.{component_form};
 ghost use Rattle.statement_model.specs.Tokens.{Piece};
-ghost use Rattle.def_grammar.specs.Records.{component, component_of, entry, Record, read_def};
+ghost use Rattle.def_grammar.specs.Records.{component, component_of, entry, entry_of, Record, read_def};
 ghost use Rattle.design_rules.specs.Edits.{component_at, component_if, located};
-ghost use Rattle.lefdef_tokens.specs.Views.{words_of};
-ghost use Rattle.def_reader.specs.ComponentViews.{component_view};
-ghost use Rattle.def_reader.specs.Lent.{ComponentIn, ReadIn, StatementIn};
+ghost use Rattle.design_rules.specs.Entries.{entry_at, is_entry};
+ghost use Rattle.lefdef_tokens.specs.Views.{pieces_of, span_of, words_of};
+ghost use Rattle.place_parts.specs.ComponentViews.{component_view, ComponentIn};
+ghost use Rattle.def_reader.specs.Lent.{ReadIn, StatementIn};
 ghost use Rattle.def_reader.specs.StatementViews.{record_view};
 ghost use Rattle.def_reader.specs.RecordViews.{entry_view, located_view, record_of, with_tokens};
 
-use crate::components::ComponentParts;
+use place_parts::components::ComponentParts;
+use crate::entry::Entry;
 use crate::read_statement::Read;
 use crate::statement::Statement;
-use design_model::mode::Mode;
+use design_model::mode::{Mode, Section};
 use lefdef_tokens::TokenRun;
 use statement_reader::laws::records_are_read;
 use statement_reader::text;
@@ -52,7 +54,7 @@ fn named<'t>(statement: Statement<'t>, name: &[u8]) -> Option<ComponentParts<'t>
     ensures lent { (text : List ℕ) → StatementIn text statement.entry → IfSome result (λ c. ComponentIn text c) }
 {
     match statement {
-        Statement::Component(parts) => {
+        Statement::Entry(Entry::Component(parts)) => {
             if parts.name.bytes == name {
                 Some(parts)
             } else {
@@ -79,6 +81,36 @@ pub fn component_named<'t>(
     while let Some(read) = statements.next() {
         if let Some(parts) = named(read.statement, name) {
             return Some((parts, read.tokens));
+        }
+    }
+    None
+}
+
+/// Whether a statement is an entry of a section with this name.
+fn is_entry(statement: &Statement<'_>, section: Section, name: &[u8]) -> bool
+    ensures { result ≡ is_entry section name.now (entry_of (record_view statement.now)) }
+{
+    let Statement::Entry(entry) = statement else {
+        return false;
+    };
+    let Some(own) = entry.name() else {
+        return false;
+    };
+    entry.section().word() == section.word() && own == name
+}
+
+/// The first entry of a section of this name. No statement after it is read.
+pub fn entry_named<'t>(text: &'t [u8], section: Section, name: &[u8]) -> Option<Read<'t>>
+    requires { IsOk (read_def text.now) }
+    ensures gives { (design : List Record) → read_def text.now ≡ Ok design → option_map located_view result ≡ entry_at section name.now (located text.now design) }
+    ensures lent { IfSome result (λ x. ReadIn text.now x) }
+    ensures span { IfSome result (λ x. span_of (pieces_of x.tokens) ≡ record { lo = x.start; hi = x.end }) }
+{
+    records_are_read::<Statement<'t>>();
+    let mut statements: Statements<'t> = text::Statements::new(Mode::Top, text);
+    while let Some(read) = statements.next() {
+        if is_entry(&read.statement, section, name) {
+            return Some(read);
         }
     }
     None

@@ -1,22 +1,27 @@
 //! The statements of a DEF text, and what they are to the one who reads a whole text.
 
-ghost use Rattle.std.specs.Prelude.{◌≡◌, [], ◌∷◌, IfSome};
+ghost use Rattle.std.specs.Prelude.{◌≡◌, ℕ, [], ◌∷◌, List, IfSome};
 ghost use Rattle.std.specs.Option.{option_map};
 ghost use Rattle.form_meanings.specs.Words.{Gives};
 ghost use Rattle.statement_model.specs.Form.{left, one_of, read, right, whole};
 ghost use Rattle.design_model.specs.EnumWords.{section_word};
-ghost use Rattle.def_grammar.specs.Records.{def, def_ending, entries_form, entry_of, in_section, is_after, key_of, mode_after, section_of, statement};
+ghost use Rattle.def_grammar.specs.Records.{component_of, def, def_ending, entry_of, in_section, is_after, key_of, mode_after, statement};
 ghost use Rattle.lefdef_tokens.specs.Views.{IsLater, rest_of, words_of};
 ghost use Rattle.statement_reader.specs.Endings.{ending_view};
+ghost use Rattle.place_parts.specs.ComponentViews.{component_view, ComponentIn};
+ghost use Rattle.def_reader.specs.EntryViews.{entry_view};
 ghost use Rattle.def_reader.specs.Lent.{StatementIn};
-ghost use Rattle.def_reader.specs.PointViews.{with_rest};
+ghost use Rattle.def_parts.specs.PointViews.{with_rest};
 ghost use Rattle.def_reader.specs.SeenViews.{key_view};
-ghost use Rattle.def_reader.specs.StatementViews.{bytes_of, entry_name, mode_view, record_view};
+ghost use Rattle.def_reader.specs.StatementViews.{mode_view, record_view};
 
-use crate::components::{ComponentParts, component_at};
+use crate::entry::{Entry, entry_at};
+use crate::floor::Floor;
+use crate::properties::{Property, property_at};
 use crate::seen::Key;
 use crate::top::top_at;
 use design_model::mode::{Mode, Section};
+use place_parts::components::ComponentParts;
 use lefdef_tokens::{Cursor, Token, TokenRun, is_semicolon, is_word};
 use statement_reader::boundary::Ending;
 use statement_reader::grammar;
@@ -27,12 +32,19 @@ pub enum Statement<'t> {
     /// `UNITS DISTANCE MICRONS`, with its number of database units per micron.
     Units(Token<'t>),
     EndDesign,
+    /// `PROPERTYDEFINITIONS`
+    Properties,
+    /// `BEGINEXT` and its tokens before `ENDEXT`.
+    Extension(TokenRun<'t>),
+    Floor(Floor<'t>),
     /// A section's header, with its number of entries.
     Header(Section, Token<'t>),
     /// A statement without meaning, by its first token and the others.
     Kept(Token<'t>, TokenRun<'t>),
     EndSection(Section),
-    Component(ComponentParts<'t>),
+    /// A statement among property definitions.
+    Property(Property<'t>),
+    Entry(Entry<'t>),
 }
 
 impl<'t> Statement<'t> {
@@ -43,34 +55,33 @@ impl<'t> Statement<'t> {
         match self {
             Statement::Units(_) => Key::Statement(b"UNITS"),
             Statement::Header(section, _) => Key::Statement(section.word()),
-            Statement::Kept(first, _) => {
-                if is_word(first.bytes, b"DIEAREA") {
-                    Key::Statement(first.bytes)
-                } else {
-                    Key::Nothing
-                }
-            }
-            Statement::Component(parts) => Key::Entry(Section::Components, parts.name.bytes),
+            Statement::Properties => Key::Statement(b"PROPERTYDEFINITIONS"),
+            Statement::Floor(Floor::DieArea(_)) => Key::Statement(b"DIEAREA"),
+            Statement::Entry(entry) => match entry.name() {
+                Some(name) => Key::Entry(entry.section(), name),
+                None => Key::Nothing,
+            },
             _ => Key::Nothing,
         }
     }
 
-    /// The section of an entry.
-    pub fn section(&self) -> Option<Section>
-        ensures { result ≡ option_map section_of (entry_of (record_view self.now)) }
+    /// The component of an entry.
+    pub fn component(&self) -> Option<ComponentParts<'t>>
+        ensures gives { option_map component_view result ≡ component_of (record_view self.now) }
+        ensures lent { (text : List ℕ) → StatementIn text self.now → IfSome result (λ c. ComponentIn text c) }
     {
         match self {
-            Statement::Component(_) => Some(Section::Components),
+            Statement::Entry(Entry::Component(parts)) => Some(*parts),
             _ => None,
         }
     }
 
-    /// The name of an entry.
-    pub fn name(&self) -> Option<&'t [u8]>
-        ensures { option_map bytes_of result ≡ entry_name (record_view self.now) }
+    /// The entry that it is.
+    pub fn entry(&self) -> Option<Entry<'t>>
+        ensures { option_map entry_view result ≡ entry_of (record_view self.now) }
     {
         match self {
-            Statement::Component(parts) => Some(parts.name.bytes),
+            Statement::Entry(entry) => Some(*entry),
             _ => None,
         }
     }
@@ -78,7 +89,7 @@ impl<'t> Statement<'t> {
 
 /// `END section`, after `END`
 fn end_at<'t>(section: Section, cursor: Cursor<'t>) -> Option<(Statement<'t>, Cursor<'t>)>
-    ensures gives { Gives (with_rest record_view) result (read (right (left (one_of section_word (section ∷ [])))) (rest_of cursor.entry)) }
+    ensures gives { Gives (with_rest record_view) result (read (right (right (left (one_of section_word (section ∷ []))))) (rest_of cursor.entry)) }
     ensures later { IfSome result (λ x. IsLater cursor.entry x.1) }
     ensures lent { IfSome result (λ x. StatementIn cursor.entry.tokens.text.now x.0) }
 {
@@ -90,32 +101,17 @@ fn end_at<'t>(section: Section, cursor: Cursor<'t>) -> Option<(Statement<'t>, Cu
     }
 }
 
-/// An entry of a section.
-#[tactic(auto, unfolding(def_grammar::specs::Records::entries_form))]
-fn entry_at<'t>(section: Section, cursor: Cursor<'t>) -> Option<(Statement<'t>, Cursor<'t>)>
-    ensures gives { Gives (with_rest record_view) result (read (right (right (entries_form section))) (rest_of cursor.entry)) }
-    ensures later { IfSome result (λ x. IsLater cursor.entry x.1) }
-    ensures lent { IfSome result (λ x. StatementIn cursor.entry.tokens.text.now x.0) }
-{
-    match section {
-        Section::Components => {
-            let (parts, cursor) = component_at(cursor)?;
-            Some((Statement::Component(parts), cursor))
-        }
-        _ => None,
-    }
-}
-
 /// A statement in a section.
 fn in_section<'t>(section: Section, cursor: Cursor<'t>) -> Option<(Statement<'t>, Cursor<'t>)>
-    ensures gives { Gives (with_rest record_view) result (read (right (in_section section)) (rest_of cursor.entry)) }
+    ensures gives { Gives (with_rest record_view) result (read (right (right (in_section section))) (rest_of cursor.entry)) }
     ensures later { IfSome result (λ x. IsLater cursor.entry x.1) }
     ensures lent { IfSome result (λ x. StatementIn cursor.entry.tokens.text.now x.0) }
 {
     if cursor.next_is(b"END") {
         end_at(section, cursor.key(b"END")?)
     } else {
-        entry_at(section, cursor)
+        let (entry, cursor) = entry_at(section, cursor)?;
+        Some((Statement::Entry(entry), cursor))
     }
 }
 
@@ -129,7 +125,11 @@ fn statement_at<'t>(mode: Mode, cursor: Cursor<'t>) -> Option<(Statement<'t>, Cu
     match mode {
         Mode::Top => top_at(cursor),
         Mode::In(section) => in_section(section, cursor),
-        Mode::Props | Mode::After => None,
+        Mode::Props => {
+            let (property, cursor) = property_at(cursor)?;
+            Some((Statement::Property(property), cursor))
+        }
+        Mode::After => None,
     }
 }
 
@@ -182,7 +182,8 @@ impl<'t> grammar::Statement<'t> for Statement<'t> {
     {
         match statement {
             Statement::Header(section, _) => Mode::In(*section),
-            Statement::EndSection(_) => Mode::Top,
+            Statement::EndSection(_) | Statement::Property(Property::End) => Mode::Top,
+            Statement::Properties => Mode::Props,
             Statement::EndDesign => Mode::After,
             _ => mode,
         }

@@ -1,20 +1,20 @@
 //! Statements outside of all sections (LEF/DEF 5.8 Language Reference, "DEF Syntax").
 
 ghost use Rattle.std.specs.Prelude.{◌≡◌, IfSome};
-ghost use Rattle.form_meanings.specs.Meaning.{find};
 ghost use Rattle.form_meanings.specs.Words.{Gives, next_passes};
 ghost use Rattle.statement_model.specs.Form.{left, read, right};
-ghost use Rattle.design_model.specs.EnumWords.{section_word};
-ghost use Rattle.def_grammar.specs.Top.{begins_none, header_statement, is_section, plain_statement, read_sections, top_statement, units_statement};
-ghost use Rattle.lefdef_tokens.specs.Views.{IsIn, IsLater, rest_of, word_of};
-ghost use Rattle.def_reader.specs.Lent.{StatementIn};
-ghost use Rattle.def_reader.specs.PointViews.{with_rest};
-ghost use Rattle.def_reader.specs.StatementViews.{header_view, record_view};
+ghost use Rattle.def_grammar.specs.Extensions.{extension_statement, is_end_of_extension};
+ghost use Rattle.def_grammar.specs.Top.{begins_none, header_statement, is_section, kept_statement, other_statement, plain_statement, top_statement, units_statement};
+ghost use Rattle.lefdef_tokens.specs.Views.{IsIn, IsLater, rest_of, run_of, word_of};
+ghost use Rattle.def_reader.specs.Lent.{KeptIn, StatementIn};
+ghost use Rattle.def_parts.specs.PointViews.{with_rest};
+ghost use Rattle.def_reader.specs.StatementViews.{header_view, kept_view, record_view};
 
-use crate::number::{count_at, scale_at};
+use def_parts::number::{count_at, scale_at};
+use crate::floor::{floor_at, next_is_floor};
 use crate::statement::Statement;
 use design_model::mode::Section;
-use lefdef_tokens::{Cursor, Token, is_quoted, is_word};
+use lefdef_tokens::{Cursor, PartEnd, Token, TokenRun, is_quoted, is_word};
 
 /// `DISTANCE MICRONS number ;`, after `UNITS`
 #[tactic(auto, unfolding(def_grammar::specs::Top::units_statement))]
@@ -29,18 +29,6 @@ fn units_at<'t>(cursor: Cursor<'t>) -> Option<(Token<'t>, Cursor<'t>)>
     Some((number, cursor))
 }
 
-/// The section of a word, where the entries of that section are read.
-#[tactic(auto, unfolding(design_model::specs::EnumWords::section_word))]
-fn read_section(word: &[u8]) -> Option<Section>
-    ensures { result ≡ find section_word read_sections word.now }
-{
-    if is_word(word, b"COMPONENTS") {
-        Some(Section::Components)
-    } else {
-        None
-    }
-}
-
 /// `section number ;`
 #[tactic(auto, unfolding(def_grammar::specs::Top::header_statement))]
 fn header_at<'t>(cursor: Cursor<'t>) -> Option<((Section, Token<'t>), Cursor<'t>)>
@@ -49,7 +37,7 @@ fn header_at<'t>(cursor: Cursor<'t>) -> Option<((Section, Token<'t>), Cursor<'t>
     ensures lent { IfSome result (λ x. IsIn cursor.entry.tokens.text.now x.0.1) }
 {
     let (word, cursor) = cursor.next()?;
-    let section = read_section(word.bytes)?;
+    let section = Section::of_word(word.bytes)?;
     let (number, cursor) = count_at(cursor)?;
     let cursor = cursor.key(b";")?;
     Some(((section, number), cursor))
@@ -64,28 +52,83 @@ fn begins_none(word: &[u8]) -> bool
         || is_word(word, b"+")
         || is_word(word, b"(")
         || is_word(word, b")")
-        || is_word(word, b"PROPERTYDEFINITIONS")
-        || is_word(word, b"BEGINEXT")
+}
+
+/// The tokens before the `ENDEXT` of an extension.
+struct ExtensionEnd;
+
+impl PartEnd for ExtensionEnd {
+    ghost test = { is_end_of_extension };
+
+    fn is_at(word: &[u8]) -> bool
+        ensures { result ≡ is_end_of_extension word.now }
+    {
+        is_word(word, b"ENDEXT")
+    }
+}
+
+/// The tokens up to `ENDEXT`, after `BEGINEXT`
+#[tactic(auto, unfolding(def_grammar::specs::Extensions::extension_statement))]
+fn extension_at<'t>(cursor: Cursor<'t>) -> Option<(TokenRun<'t>, Cursor<'t>)>
+    ensures gives { Gives run_of result (read extension_statement (rest_of cursor.entry)) }
+    ensures later { IfSome result (λ x. IsLater cursor.entry x.1) }
+    ensures lent { IfSome result (λ x. x.0.text.now ≡ cursor.entry.tokens.text.now) }
+{
+    let (tokens, cursor) = cursor.up_to::<ExtensionEnd>();
+    let cursor = cursor.key(b"ENDEXT")?;
+    Some((tokens, cursor))
+}
+
+/// A statement without meaning, by its first token and the others.
+#[tactic(auto, unfolding(def_grammar::specs::Top::kept_statement))]
+fn kept_at<'t>(cursor: Cursor<'t>) -> Option<((Token<'t>, TokenRun<'t>), Cursor<'t>)>
+    ensures gives { Gives (with_rest kept_view) result (read kept_statement (rest_of cursor.entry)) }
+    ensures later { IfSome result (λ x. IsLater cursor.entry x.1) }
+    ensures lent { IfSome result (λ x. KeptIn cursor.entry.tokens.text.now x.0) }
+{
+    let (word, cursor) = cursor.next()?;
+    if begins_none(word.bytes) {
+        return None;
+    }
+    let (others, cursor) = cursor.tail();
+    Some(((word, others), cursor))
+}
+
+/// An extension, a statement about the floor, or one that is kept.
+fn other_at<'t>(cursor: Cursor<'t>) -> Option<(Statement<'t>, Cursor<'t>)>
+    ensures gives { Gives (with_rest record_view) result (read (left (right (right (right (right other_statement))))) (rest_of cursor.entry)) }
+    ensures later { IfSome result (λ x. IsLater cursor.entry x.1) }
+    ensures lent { IfSome result (λ x. StatementIn cursor.entry.tokens.text.now x.0) }
+{
+    if cursor.next_is(b"BEGINEXT") {
+        let (tokens, cursor) = extension_at(cursor.key(b"BEGINEXT")?)?;
+        Some((Statement::Extension(tokens), cursor))
+    } else if next_is_floor(cursor) {
+        let (floor, cursor) = floor_at(cursor)?;
+        Some((Statement::Floor(floor), cursor))
+    } else {
+        let ((word, others), cursor) = kept_at(cursor)?;
+        Some((Statement::Kept(word, others), cursor))
+    }
 }
 
 /// A statement outside of all sections that opens none.
-#[tactic(auto, unfolding(def_grammar::specs::Top::plain_statement, def_grammar::specs::Top::kept_statement))]
+#[tactic(auto, unfolding(def_grammar::specs::Top::plain_statement))]
 fn plain_at<'t>(cursor: Cursor<'t>) -> Option<(Statement<'t>, Cursor<'t>)>
     ensures gives { Gives (with_rest record_view) result (read (left (right plain_statement)) (rest_of cursor.entry)) }
     ensures later { IfSome result (λ x. IsLater cursor.entry x.1) }
     ensures lent { IfSome result (λ x. StatementIn cursor.entry.tokens.text.now x.0) }
 {
-    let (word, later) = cursor.next()?;
-    if is_word(word.bytes, b"UNITS") {
-        let (number, cursor) = units_at(later)?;
+    if cursor.next_is(b"UNITS") {
+        let (number, cursor) = units_at(cursor.key(b"UNITS")?)?;
         Some((Statement::Units(number), cursor))
-    } else if is_word(word.bytes, b"END") {
-        Some((Statement::EndDesign, later.key(b"DESIGN")?))
-    } else if begins_none(word.bytes) {
-        None
+    } else if cursor.next_is(b"END") {
+        let cursor = cursor.key(b"END")?.key(b"DESIGN")?;
+        Some((Statement::EndDesign, cursor))
+    } else if cursor.next_is(b"PROPERTYDEFINITIONS") {
+        Some((Statement::Properties, cursor.key(b"PROPERTYDEFINITIONS")?))
     } else {
-        let (others, cursor) = later.tail();
-        Some((Statement::Kept(word, others), cursor))
+        other_at(cursor)
     }
 }
 

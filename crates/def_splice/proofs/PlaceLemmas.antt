@@ -21,7 +21,7 @@ use Rattle.def_grammar.specs.Placing.{placing, is_held}
 use Rattle.design_rules.specs.Edits.{cut_of, fixed_part, is_long, is_out, place_change, place_cuts, placed_text, tokens_of}
 use Rattle.lefdef_tokens.specs.Pieces.{end_after, pieces_of, span_of, words_of}
 use Rattle.lefdef_tokens.specs.declared.token_run.TokenRun.{TokenRun}
-use Rattle.def_reader.specs.PlacingViews.{IsPlacing}
+use Rattle.place_parts.specs.PlacingViews.{IsPlacing}
 use Rattle.design_rules.specs.Runs.{MayWantMemory}
 use Rattle.def_splice.specs.SpliceViews.{clause_cut}
 

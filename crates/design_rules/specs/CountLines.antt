@@ -14,7 +14,7 @@ abbrev pub entries : List Record → ℕ
 entries [] = 0
 entries (end_section s ∷ rs) = 0
 entries (entry e ∷ rs) = 1 + entries rs
-entries (top t ∷ rs) = entries rs
+entries (_ ∷ rs) = entries rs
 
 -- a number is this one
 abbrev pub is_number : ℕ → ℤ → Bool

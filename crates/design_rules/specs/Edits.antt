@@ -137,6 +137,7 @@ placed_if x y o c named = component (if named then placed_component x y o c else
 
 abbrev pub edited : Change → Entry → Entry
 edited (place name x y o) (component c) = placed_if x y o c (bytes_eq c.name name)
+edited _ other = other
 
 abbrev pub on_entry : (Entry → Entry) → Record → Record
 on_entry f (entry e) = entry (f e)

@@ -2,6 +2,7 @@ pub mod Boxes
 pub mod CountLines
 pub mod Diagnostics
 pub mod Edits
+pub mod Entries
 pub mod Families
 pub mod OverlapLines
 pub mod Output

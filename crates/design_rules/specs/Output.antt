@@ -1,14 +1,19 @@
 -- What a script's run writes (own).
-use Rattle.std.specs.Prelude.{◌≡◌, ℕ, ◌+◌, List, [], ◌∷◌, ◌++◌, length, flat_map, Result, Ok, Err, codes, decimal}
+use Rattle.std.specs.Prelude.{◌≡◌, ℕ, ◌+◌, List, [], ◌∷◌, ◌++◌, length, flat_map, Option, Some, None, Result, Ok, Err, codes, decimal}
 use Rattle.design_model.specs.declared.edit.Done.{Done}
+use Rattle.design_model.specs.declared.edit.EditCode.{EditCode}
+use Rattle.design_model.specs.declared.edit.EditCode.TheVariants.{UnknownName}
 use Rattle.design_model.specs.declared.edit.EditRefusal.{EditRefusal}
 use Rattle.design_model.specs.declared.edit.EditRefusal.TheVariants.{Refused, Unreadable, Memory}
 use Rattle.design_model.specs.Codes.{fault_number, refusal_number}
+use Rattle.statement_model.specs.Tokens.{Piece}
 use Rattle.def_grammar.specs.Records.{Record, read_def}
 use Rattle.lef_grammar.specs.Library.{Library}
 use Rattle.design_rules.specs.Diagnostics.{diagnostics}
+use Rattle.design_rules.specs.Edits.{located}
+use Rattle.design_rules.specs.Entries.{bytes_of, entry_at}
 use Rattle.design_rules.specs.Runs.{Answers}
-use Rattle.design_rules.specs.Script.{Question, report, Order, nothing, make, refuse, ask, bad, script_lines, order_of}
+use Rattle.design_rules.specs.Script.{Question, report, shown, Order, nothing, make, refuse, ask, bad, script_lines, order_of}
 
 -- the answer to an edit in line n
 abbrev pub refusal_line : ℕ → EditRefusal → List ℕ
@@ -36,9 +41,23 @@ abbrev pub counted : Result Done EditRefusal → Counts → Counts
 counted (Ok done) t = record t { accepted = t.accepted + 1 }
 counted (Err refusal) t = record t { refused = t.refused + 1 }
 
--- what a question answers
-abbrev pub answer_to : Library → List Record → Question → List ℕ
-answer_to library design report = report_lines (diagnostics library design)
+-- the bytes of an entry
+abbrev pub entry_line : List ℕ → Option (List Piece × Record) → Result (List ℕ) EditCode
+entry_line text None = Err UnknownName
+entry_line text (Some x) = Ok (bytes_of text x.0 ++ 10 ∷ [])
+
+-- what a question answers, or why it is refused
+abbrev pub answer_to : Library → List ℕ → List Record → Question → Result (List ℕ) EditCode
+answer_to library text design report = Ok (report_lines (diagnostics library design))
+answer_to library text design (shown s name) = entry_line text (entry_at s name (located text design))
+
+abbrev pub asked_line : ℕ → Result (List ℕ) EditCode → List ℕ
+asked_line n (Ok bytes) = bytes
+asked_line n (Err code) = refusal_line n (Refused code)
+
+abbrev pub asked_counts : Result (List ℕ) EditCode → Counts → Counts
+asked_counts (Ok bytes) t = t
+asked_counts (Err code) t = record t { refused = t.refused + 1 }
 
 -- line n, at a text and counts, may be answered by these bytes, and leave this text and these counts
 abbrev pub LineAnswers : Library → ℕ → Order → List ℕ → Counts → List ℕ → List ℕ → Counts → Type 0
@@ -47,7 +66,11 @@ LineAnswers library n (make step) old t bytes new u =
     (reply : Result Done EditRefusal) × Answers library old step reply new × (bytes ≡ reply_line n reply) × (u ≡ counted reply t)
 LineAnswers library n (refuse code) old t bytes new u = (bytes ≡ refusal_line n (Refused code)) × (new ≡ old) × (u ≡ record t { refused = t.refused + 1 })
 LineAnswers library n (ask question) old t bytes new u =
-    (design : List Record) × (read_def old ≡ Ok design) × (bytes ≡ answer_to library design question) × (new ≡ old) × (u ≡ t)
+    (design : List Record)
+    × (read_def old ≡ Ok design)
+    × (bytes ≡ asked_line n (answer_to library old design question))
+    × (new ≡ old)
+    × (u ≡ asked_counts (answer_to library old design question) t)
 LineAnswers library n bad old t bytes new u = (bytes ≡ bad_line n) × (new ≡ old) × (u ≡ record t { bad = t.bad + 1 })
 
 -- the lines from line n on may give these bytes, and leave this text and these counts

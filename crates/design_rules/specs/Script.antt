@@ -5,7 +5,8 @@ use Rattle.design_model.specs.declared.geometry.Orient.{Orient}
 use Rattle.design_model.specs.declared.number.NumFault.{NumFault}
 use Rattle.design_model.specs.declared.edit.EditCode.{EditCode}
 use Rattle.design_model.specs.declared.edit.EditCode.TheVariants.{Number, Range}
-use Rattle.design_model.specs.EnumWords.{orient_word, orients}
+use Rattle.design_model.specs.declared.mode.Section.{Section}
+use Rattle.design_model.specs.EnumWords.{orient_word, orients, section_word, sections}
 use Rattle.design_model.specs.Units.{whole}
 use Rattle.form_meanings.specs.Words.{◌>>=◌, is_word}
 use Rattle.form_meanings.specs.Meaning.{find}
@@ -46,6 +47,7 @@ line_words line = filter is_some_word (slice_split (λ b. b == 32 || b == 9) lin
 -- what a line asks of a design
 pub data Question : Type 0 where
   report : Question
+  shown : Section → List ℕ → Question
 
 -- what a line of a script asks: one with a wrong number is refused before the session is asked
 pub data Order : Type 0 where
@@ -125,13 +127,25 @@ text_words [] new = bad
 text_words (a ∷ []) new = bad
 text_words (a ∷ b ∷ ws) new = text_or_bad a b (unescaped new)
 
+-- `show S n` after its first word
+abbrev pub show_or_bad : Option Section → List ℕ → Order
+show_or_bad None name = bad
+show_or_bad (Some s) name = ask (shown s name)
+
+abbrev pub show_order : List (List ℕ) → Order
+show_order (s ∷ n ∷ []) = show_or_bad (find section_word sections s) n
+show_order [] = bad
+show_order (s ∷ []) = bad
+show_order (s ∷ n ∷ w ∷ ws) = bad
+
 abbrev pub words_order : List ℕ → List (List ℕ) → Order
 words_order line [] = nothing
 words_order line (w ∷ ws) =
     if is_word (codes "place") w then place_order ws
     else (if is_word (codes "check") w then (if no_words ws then ask report else bad)
     else (if is_word (codes "text") w then text_words ws (after_third line)
-    else bad))
+    else (if is_word (codes "show") w then show_order ws
+    else bad)))
 
 -- a line that starts with # is passed over
 abbrev pub order_of : List ℕ → Order

@@ -1,5 +1,5 @@
 -- What the calls of a session say.
-use Rattle.std.specs.Prelude.{◌≡◌, ◌≤◌, ℕ, false, List, length, Result, Ok, Err, IsOk}
+use Rattle.std.specs.Prelude.{◌≡◌, ◌≤◌, ℕ, false, List, length, Option, Some, None, Result, Ok, Err, IsOk, MatchOption}
 use Rattle.std.specs.List.{All}
 use Rattle.design_model.specs.declared.diagnostic.DiagLine.{DiagLine}
 use Rattle.design_model.specs.declared.edit.EditRefusal.{EditRefusal}
@@ -8,13 +8,19 @@ use Rattle.design_model.specs.declared.fault.ReadError as error
 use Rattle.design_model.specs.declared.fault.ReadError.{ReadError}
 use Rattle.design_model.specs.Lines.{IsOfItsKind}
 use Rattle.design_model.specs.Order.{texts}
+use Rattle.design_model.specs.declared.mode.Section.{Section}
 use Rattle.statement_model.specs.Cuts.{Cut, with_cuts}
-use Rattle.def_grammar.specs.Records.{Record, read_def}
+use Rattle.statement_model.specs.Reading.{pos_of}
+use Rattle.statement_model.specs.Tokens.{Piece}
+use Rattle.def_grammar.specs.Records.{Record, entry, read_def}
 use Rattle.lef_grammar.specs.Library.{Library}
 use Rattle.design_rules.specs.Diagnostics.{diagnostics}
-use Rattle.design_rules.specs.Edits.{Change, applied, is_long}
+use Rattle.design_rules.specs.Edits.{Change, applied, is_long, located}
+use Rattle.design_rules.specs.Entries.{bytes_of, entry_at}
 use Rattle.design_rules.specs.Runs.{Makes, WantsMemory, new_text, text_outcome}
 use Rattle.splicing_laws.specs.KeepingLaws.{IsOneCut}
+use Rattle.def_reader.specs.EntryViews.{entry_view}
+use Rattle.edit_session.specs.declared.view.View.{View}
 
 -- what opening a text says: it reads, or has this fault; refused memory says nothing
 abbrev pub OpensAs : {S : Type 0} → List ℕ → Result S ReadError → Type 0
@@ -50,3 +56,11 @@ abbrev pub ReplacesText : {V : Type 0} → (V → List ℕ) → List ℕ → ℕ
 ReplacesText items old a b put (Ok v) = text_outcome old a b put ≡ Ok (items v)
 ReplacesText items old a b put (Err Memory) = (a ≤ b) × (b ≤ length old) × (is_long (new_text old a b put) ≡ false)
 ReplacesText items old a b put (Err refusal) = text_outcome old a b put ≡ Err refusal
+
+-- what looking for an entry says: there is none of this section and name, or it is lent with its bytes and their place
+abbrev pub Views : List ℕ → Section → List ℕ → Option View → Type 0
+Views text s name found =
+    (design : List Record)
+    × (read_def text ≡ Ok design)
+    × MatchOption found (entry_at s name (located text design) ≡ None)
+    (λ v. (ps : List Piece) × (entry_at s name (located text design) ≡ Some (ps, entry (entry_view v.parts))) × (v.bytes.now ≡ bytes_of text ps) × (v.pos ≡ pos_of ps))

@@ -1,25 +1,28 @@
 //! The session: a library and the present text of a design.
 
-ghost use Rattle.std.specs.Prelude.{◌≡◌, ◌+◌, ◌≤◌, ◌<◌, ◌^◌, OnErr, OnOk, IfOk, IsOk, length};
+ghost use Rattle.std.specs.Prelude.{◌≡◌, ◌+◌, ◌≤◌, ◌<◌, ◌^◌, OnErr, OnOk, IfOk, IfSome, IsOk, length};
 ghost use Rattle.std.specs.Io.KnownBytes.{Appends};
 ghost use Rattle.counted_devices.specs.Counting.{HasFailed};
 ghost use Rattle.counted_devices.specs.Known.{WritesPart};
 ghost use Rattle.def_grammar.specs.Records.{read_def};
 ghost use Rattle.design_rules.specs.Edits.{change_of};
 ghost use Rattle.design_rules.specs.Runs.{Answers, design_edit, text_edit};
-ghost use Rattle.edit_session.specs.Sessions.{HaveTheirKinds, KeepsTheRest, MakesText, OpensAs, ReadsEdited, ReplacesText, Reports};
+ghost use Rattle.def_reader.specs.EntryViews.{EntryIn};
+ghost use Rattle.edit_session.specs.Sessions.{HaveTheirKinds, KeepsTheRest, MakesText, OpensAs, ReadsEdited, ReplacesText, Reports, Views};
 
 use crate::report::report;
+use crate::view::{View, view_of};
 use cell_library::library::Library;
 use counted_devices::counted::{CountedWrite, Failures};
 use counted_devices::output::{MAX_INTERRUPTIONS, WriteFault, write_whole};
-use def_reader::read_def::check_def;
+use def_reader::read_def::read_def;
 use def_splice::spliced::spliced;
 use def_splice::splices::splices;
 use design_model::MAX_TEXT;
 use design_model::diagnostic::DiagLines;
 use design_model::edit::{Done, Edit, EditCode, EditRefusal};
 use design_model::fault::ReadError;
+use design_model::mode::Section;
 use edit_laws::editing::{edits_are_applied, edits_keep_the_rest};
 use std::alloc::{AllocError, Allocator, Global};
 use std::io::Write;
@@ -56,7 +59,7 @@ impl<'s, 'l, A: Allocator + Copy> Session<'s, 'l, A> {
         ensures text { IfOk result (λ s. s.text ≡ text.now) }
         ensures library { IfOk result (λ s. s.library ≡ library.now) }
     {
-        check_def(alloc, text)?;
+        read_def(alloc, text)?;
         let text = Vec::from_slice(alloc, text)?;
         Ok(Session { library, text })
     }
@@ -83,6 +86,15 @@ impl<'s, 'l, A: Allocator + Copy> Session<'s, 'l, A> {
         let new = replaced_text(*self.text.allocator(), &self.text, a, b, new)?;
         self.text = new;
         Ok(Done { reads: 0, tests: 0 })
+    }
+
+    /// The entry of a section that has this name, of the present text. There is none of BLOCKAGES and of sections whose
+    /// entries mean nothing, as their entries have no names.
+    pub fn statement(&self, section: Section, name: &[u8]) -> Option<View<'_>>
+        ensures view { Views self.now.text section name.now result }
+        ensures lent { IfSome result (λ v. EntryIn v.bytes.now v.parts) }
+    {
+        view_of(&self.text, section, name)
     }
 
     /// All diagnostics of the present text, in the order of their bytes, repeats kept.
@@ -159,8 +171,8 @@ fn replaced_text<A: Allocator + Copy>(
     all.extend_from_slice(&text[..a])?;
     all.extend_from_slice(new)?;
     all.extend_from_slice(&text[b..])?;
-    match check_def(alloc, &all) {
-        Ok(()) => Ok(all),
+    match read_def(alloc, &all) {
+        Ok(_) => Ok(all),
         Err(ReadError::Fault(fault)) => Err(EditRefusal::Unreadable(fault)),
         Err(ReadError::Memory) => Err(EditRefusal::Memory),
     }

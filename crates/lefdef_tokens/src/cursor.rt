@@ -4,7 +4,7 @@ ghost use Rattle.std.specs.Prelude.{◌≡◌, None};
 ghost use Rattle.std.specs.Option.{ForSome};
 ghost use Rattle.lefdef_tokens.specs.Pieces.{StandsFirst};
 
-use crate::part_end::PartEnd;
+use crate::part_end::{ClauseEnd, PartEnd, StatementEnd};
 use crate::token::Token;
 use crate::token_run::TokenRun;
 use crate::words;
@@ -23,7 +23,6 @@ pub struct Cursor<'t> {
 impl<'t> Cursor<'t> {
     ghost use Rattle.std.specs.Prelude.{◌∷◌, List, [], length, false, ℕ, IfSome, MatchOption};
     ghost use Rattle.form_meanings.specs.Words.{Gives, is_done, is_plain, is_place, is_plus, is_semicolon, is_stop, is_word, key, name_at, next_passes, next_word, noted, split_rest, word_that};
-    ghost use Rattle.lefdef_tokens.specs.Ends.{ends_at};
     ghost use Rattle.lefdef_tokens.specs.Views.{IsIn, IsLater, rest_of, run_of, word_of, words_of};
 
     /// Before the first token of a run.
@@ -181,16 +180,16 @@ impl<'t> Cursor<'t> {
         }
     }
 
-    /// The tokens before the next one that ends a part, and the cursor at that one.
-    fn up_to(self, end: PartEnd) -> (TokenRun<'t>, Cursor<'t>)
-        ensures gives { run_of result ≡ split_rest (ends_at end) (rest_of self.entry) }
+    /// The tokens before the next one that ends a part of a kind, and the cursor at that one.
+    pub fn up_to<E: PartEnd>(self) -> (TokenRun<'t>, Cursor<'t>)
+        ensures gives { run_of result ≡ split_rest E.test (rest_of self.entry) }
         ensures later { IsLater self.entry result.1 }
         ensures lent { result.0.text.now ≡ self.entry.tokens.text.now }
     {
         let mut left = self;
         let mut count = 0;
         while let Some((token, later)) = left.next() {
-            if end.is_at(token.bytes) {
+            if E::is_at(token.bytes) {
                 return (self.tokens.front(count), left);
             }
             count += 1;
@@ -205,7 +204,7 @@ impl<'t> Cursor<'t> {
         ensures later { IsLater self.entry result.1 }
         ensures lent { result.0.text.now ≡ self.entry.tokens.text.now }
     {
-        self.up_to(PartEnd::OfClause)
+        self.up_to::<ClauseEnd>()
     }
 
     /// The tokens before the next `;`, and the cursor at that one.
@@ -214,7 +213,7 @@ impl<'t> Cursor<'t> {
         ensures later { IsLater self.entry result.1 }
         ensures lent { result.0.text.now ≡ self.entry.tokens.text.now }
     {
-        self.up_to(PartEnd::OfStatement)
+        self.up_to::<StatementEnd>()
     }
 
     /// All tokens that are left, and the cursor after them.

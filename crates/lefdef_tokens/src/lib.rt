@@ -27,6 +27,7 @@ mod words;
 
 pub use cursor::Cursor;
 pub use laws::{tokens_are_slices, tokens_join, tokens_move};
+pub use part_end::PartEnd;
 pub use scanner::Scanner;
 pub use span::Span;
 pub use step::token_at;

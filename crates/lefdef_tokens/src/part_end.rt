@@ -1,25 +1,41 @@
 //! What ends a part of a statement.
 
-ghost use Rattle.std.specs.Prelude.{◌≡◌};
-ghost use Rattle.lefdef_tokens.specs.Ends.{ends_at};
+ghost use Rattle.std.specs.Prelude.{◌≡◌, ℕ, Bool, List};
+ghost use Rattle.form_meanings.specs.Words.{is_semicolon, is_stop};
 
-use crate::words::{is_semicolon, is_stop};
+use crate::words;
 
-/// A clause ends before the next `+` or `;`, and a statement at its `;`.
-#[derive(Clone, Copy)]
-pub enum PartEnd {
-    OfClause,
-    OfStatement,
+/// A kind of words before which a part ends.
+pub trait PartEnd {
+    ghost test: { List ℕ → Bool };
+
+    /// Whether a word is of this kind.
+    fn is_at(word: &[u8]) -> bool
+        ensures { result ≡ test word.now };
 }
 
-impl PartEnd {
-    /// Whether a word ends the part.
-    pub fn is_at(self, word: &[u8]) -> bool
-        ensures { result ≡ ends_at self word.now }
+/// A clause ends before the next `+` or `;`.
+pub(crate) struct ClauseEnd;
+
+/// A statement ends at its `;`.
+pub(crate) struct StatementEnd;
+
+impl PartEnd for ClauseEnd {
+    ghost test = { is_stop };
+
+    fn is_at(word: &[u8]) -> bool
+        ensures { result ≡ is_stop word.now }
     {
-        match self {
-            PartEnd::OfClause => is_stop(word),
-            PartEnd::OfStatement => is_semicolon(word),
-        }
+        words::is_stop(word)
+    }
+}
+
+impl PartEnd for StatementEnd {
+    ghost test = { is_semicolon };
+
+    fn is_at(word: &[u8]) -> bool
+        ensures { result ≡ is_semicolon word.now }
+    {
+        words::is_semicolon(word)
     }
 }

@@ -5,7 +5,7 @@ ghost use Rattle.std.specs.Option.{option_map};
 ghost use Rattle.design_model.specs.Geometry.{IsNearRectangle};
 ghost use Rattle.design_model.specs.Views.{rectangle_of};
 ghost use Rattle.design_rules.specs.Boxes.{boundary_of, box_at, box_of, boxes, is_cover, scale};
-ghost use Rattle.def_reader.specs.PointViews.{point_view};
+ghost use Rattle.def_parts.specs.PointViews.{point_view};
 ghost use Rattle.def_reader.specs.StatementViews.{record_view};
 ghost use Rattle.cell_library.specs.MacroViews.{macro_view};
 ghost use Rattle.cell_library.specs.Numbers.{point_view as distances_view};
@@ -16,8 +16,9 @@ ghost use Rattle.place_checks.specs.Views.{boxed_view, records_view};
 use cell_library::library::Library;
 use cell_library::macro_view::Macro;
 use cell_library::numbers::in_units;
-use def_reader::components::{Clause, Placement};
-use def_reader::number::int_of;
+use place_parts::components::{Clause, Placement};
+use def_parts::number::int_of;
+use def_reader::entry::Entry;
 use def_reader::read_statement::Read;
 use def_reader::statement::Statement;
 use design_model::geometry::{Point, Rect, Status};
@@ -115,7 +116,7 @@ fn box_of<'t, A: Allocator + Copy>(
     requires few { scale ≤ 100000 }
     ensures { option_map boxed_view result ≡ box_of library.now scale (record_view statement.entry) }
 {
-    let Statement::Component(parts) = statement else {
+    let Statement::Entry(Entry::Component(parts)) = statement else {
         return None;
     };
     let name = parts.name.bytes;

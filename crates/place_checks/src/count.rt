@@ -5,7 +5,7 @@ ghost use Rattle.design_model.specs.Lines.{diag_text};
 ghost use Rattle.design_rules.specs.CountLines.{count_line, count_lines, count_of, entries};
 ghost use Rattle.place_checks.specs.Views.{diag_texts, records_view};
 
-use def_reader::number::int_of;
+use def_parts::number::int_of;
 use def_reader::read_statement::Read;
 use def_reader::statement::Statement;
 use design_model::diagnostic::{Diag, DiagKind};
@@ -23,7 +23,7 @@ fn entries_before_end(records: &[Read<'_>]) -> usize
         if let Statement::EndSection(_) = read.statement {
             return count;
         }
-        if read.statement.section().is_some() {
+        if read.statement.entry().is_some() {
             count += 1;
         }
     }

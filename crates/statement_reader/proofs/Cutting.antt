@@ -4,12 +4,21 @@ use Rattle.design_model.specs.declared.fault.Fault.{Fault}
 use Rattle.design_model.specs.declared.fault.FaultCode.TheVariants.{Unfinished}
 use Rattle.statement_model.specs.Tokens.{Piece, Lexed, before, only_fault}
 use Rattle.statement_model.specs.Boundaries.{Ending, is_alone, is_last, last_of, is_whole, cut, statement_at, statement_from, unfinished}
+use Rattle.lefdef_tokens.specs.Pieces.{end_after}
 use Rattle.statement_reader.proofs.ListSteps.{take_more, drop_more}
 
 last_of_more : (q : Piece) (qs : List Piece) (p : Piece) → last_of q (qs ++ p ∷ []) ≡ p
 unfolding last_of
 last_of_more q [] p = refl
 last_of_more q (r ∷ qs) p = last_of_more r qs p
+
+end_of_more : (place : ℕ) (ps : List Piece) (p : Piece) → end_after place (ps ++ p ∷ []) ≡ p.pos + length p.bytes
+end_of_more place [] p = refl
+end_of_more place (q ∷ qs) p = end_of_more (q.pos + length q.bytes) qs p
+
+-- where some tokens end, with one more of them
+pub one_later : (start size : ℕ) (ps rest : List Piece) (later : ℕ) (p : Piece) → drop later ps ≡ p ∷ rest → end_after (start + size) (take (later + 1) ps) ≡ p.pos + length p.bytes
+one_later start size ps rest later p h = rw (take_more ps later p rest h) (end_of_more (start + size) (take later ps) p)
 
 -- the state of the loop: the statement so far, and what is left
 abbrev pub cut_from : (List ℕ → Ending) → Bool → Piece → List Piece → List Piece → Option (List Piece × List Piece)

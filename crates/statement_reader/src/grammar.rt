@@ -8,7 +8,7 @@ ghost use Rattle.lefdef_tokens.specs.Views.{words_of};
 ghost use Rattle.statement_reader.specs.Endings.{ending_view};
 
 use crate::boundary::Ending;
-use lefdef_tokens::TokenRun;
+use lefdef_tokens::{Span, TokenRun};
 
 /// The statements of a kind of text, such as DEF: by `grammar`, which says what they mean. A statement lends from its text
 /// what `lent` says.
@@ -46,11 +46,25 @@ pub trait Statement<'t>: Sized + Copy + Drop {
         ensures { result ≡ grammar.may_end (place_view place) };
 }
 
-/// A statement that was read, with its tokens, where the next one stands, and the position after its last byte.
+/// A statement that was read, with its tokens, where the next one stands, the position of its first byte, and the one after
+/// its last.
 #[derive(Clone, Copy)]
 pub struct Read<'t, S, P> {
     pub statement: S,
     pub tokens: TokenRun<'t>,
     pub place: P,
+    pub start: usize,
     pub end: usize,
+}
+
+impl<'t, S, P> Read<'t, S, P> {
+    /// From its first byte to the one after its last.
+    pub fn span(&self) -> Span
+        ensures { result ≡ record { lo = self.now.start; hi = self.now.end } }
+    {
+        Span {
+            lo: self.start,
+            hi: self.end,
+        }
+    }
 }

@@ -3,7 +3,7 @@
 ghost use Rattle.std.specs.Prelude.{◌≡◌, ◌≤◌, length, IfOk, IfSome};
 ghost use Rattle.statement_model.specs.Reading.{fault_at, pos_with_left};
 ghost use Rattle.design_model.specs.declared.fault.FaultCode.TheVariants.{Number};
-ghost use Rattle.lefdef_tokens.specs.Views.{pieces_of};
+ghost use Rattle.lefdef_tokens.specs.Views.{pieces_of, span_of};
 ghost use Rattle.statement_reader.specs.StatementViews.{ReadsStatement, CutsStatement};
 
 use crate::boundary::statement_run;
@@ -38,6 +38,7 @@ pub fn read_statement<'t, S: Statement<'t>>(
     ensures cuts { CutsStatement S.grammar S.place_view place text.now pos result }
     ensures lent { IfOk result (λ found. IfSome found (λ x. S.lent text.now x.statement)) }
     ensures text { IfOk result (λ found. IfSome found (λ x. x.tokens.text.now ≡ text.now)) }
+    ensures span { IfOk result (λ found. IfSome found (λ x. span_of (pieces_of x.tokens) ≡ record { lo = x.start; hi = x.end })) }
 {
     let Some((first, second)) = token_at(text, pos)? else {
         return if S::may_end(place) {
@@ -56,6 +57,7 @@ pub fn read_statement<'t, S: Statement<'t>>(
             statement,
             tokens,
             place: S::after(place, &statement),
+            start: first.pos,
             end,
         })),
         Some((_, Some(left))) => Err(number_fault(tokens, left)),

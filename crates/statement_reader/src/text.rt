@@ -18,6 +18,7 @@ pub struct Statements<'t, S, P: Drop> {
 
 impl<'t, S: Statement<'t, Place = P>, P: Copy + Drop> Statements<'t, S, P> {
     ghost use Rattle.std.specs.Prelude.{◌≡◌, ◌<◌, IfSome, MatchOption};
+    ghost use Rattle.lefdef_tokens.specs.Views.{pieces_of, span_of};
     ghost use Rattle.statement_reader.specs.StatementViews.{GivesNext};
 
     /// Before the first statement of a text, which stands in a place.
@@ -41,6 +42,7 @@ impl<'t, S: Statement<'t, Place = P>, P: Copy + Drop> Statements<'t, S, P> {
         ensures gives { GivesNext S.grammar S.place_view S.view self.old.place self.old.text.now self.old.pos result self.new.place self.new.pos }
         ensures lent { IfSome result (λ x. S.lent self.old.text.now x.statement) }
         ensures tokens { IfSome result (λ x. x.tokens.text.now ≡ self.old.text.now) }
+        ensures span { IfSome result (λ x. span_of (pieces_of x.tokens) ≡ record { lo = x.start; hi = x.end }) }
     {
         let Ok(found) = read_statement::<S>(self.place, self.text, self.pos) else {
             return None;

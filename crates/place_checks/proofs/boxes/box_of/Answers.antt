@@ -1,4 +1,4 @@
-use Rattle.def_reader.specs.ComponentViews.{component_view}
+use Rattle.place_parts.specs.ComponentViews.{component_view}
 use Rattle.cell_library.specs.MacroViews.{macro_view}
 use Rattle.place_checks.proofs.StepLemmas.{known_box}
 use Rattle.place_checks.proofs.boxes.box_of.Goals as goal

@@ -1,9 +1,10 @@
-use Rattle.std.proofs.Common.{◌≡◌, suc, sym, refl, ap, arith, length}
+use Rattle.std.proofs.Common.{◌≡◌, ◌∙◌, ℕ, suc, sym, refl, ap, add-one, arith, length}
 use Rattle.std.proofs.lemmas.Result.{err_from_is_err_and}
 use Rattle.statement_model.specs.Tokens.{Lexed, left_from}
 use Rattle.lefdef_tokens.specs.Views.{piece_of}
+use Rattle.lefdef_tokens.specs.declared.span.Span.{Span}
 use Rattle.statement_reader.specs.Endings.{ending_view}
-use Rattle.statement_reader.proofs.Cutting.{going_start, going_on, going_done, going_fault, going_ends}
+use Rattle.statement_reader.proofs.Cutting.{going_start, going_on, going_done, going_fault, going_ends, one_later}
 use Rattle.statement_reader.proofs.boundary.statement_run.Goals as goal
 
 pub loop-done-init : goal.loop-done-init
@@ -13,6 +14,7 @@ loop-done-init c =
       further = c.requires.further;
       within = c.requires.within;
       few = omega arith;
+      end = c.requires.next.end;
       going = λ e same. rw (c.is_alone-done.ensures, sym same) (going_start e (left_from c.args.text.now c.args.pos) (left_from c.args.text.now c.args.second) (piece_of c.args.first.now) c.requires.begins);
     }
 
@@ -24,6 +26,10 @@ loop-done-preserved c =
       further = omega (arith, s.0, i.further);
       within = s.1;
       few = omega (arith, s.0, i.few);
+      end =
+          let n = rw c.in-Some.is at c.in_ok-token.ensures.span in
+          let g = rw c.loop-done-test.true at i.going (λ w. ending_view c.args.ending) refl in
+          one_later c.args.first.now.pos (length c.args.first.now.bytes.now) (left_from c.args.text.now c.args.second).pieces (left_from c.args.text.now c.in-Some.after).pieces c.loop-done.later (piece_of c.in-Some.token) (g.left ∙ ap (λ (x : Lexed). x.pieces) s.2) ∙ n.end;
       going = λ e same.
           let g = rw c.loop-done-test.true at i.going e same in
           rw (c.is_last-done.ensures, sym same) (going_on e (left_from c.args.text.now c.args.pos) (left_from c.args.text.now c.args.second) (left_from c.args.text.now c.loop-done.at) (left_from c.args.text.now c.in-Some.after) (piece_of c.args.first.now) (piece_of c.in-Some.token) c.loop-done.later g s.2);
@@ -57,3 +63,8 @@ invariant_of-tokens c =
     let further = c.requires.further in
     let within = c.requires.within in
     record { within = omega arith; there = omega arith }
+
+pub returns-clause-span : goal.returns-clause-span
+returns-clause-span c =
+    let g = c.loop-done.invariant.going (λ w. ending_view c.args.ending) refl in
+    rw (g.whole, add-one) (ap (λ (n : ℕ). let s : Span = record { lo = c.args.first.now.pos; hi = n } in s) c.loop-done.invariant.end)

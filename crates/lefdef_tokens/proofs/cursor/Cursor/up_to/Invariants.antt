@@ -1,16 +1,15 @@
 use Rattle.std.proofs.Common.{◌≡◌, ◌+◌, length}
-use Rattle.lefdef_tokens.specs.Ends.{ends_at}
 use Rattle.lefdef_tokens.specs.Views.{IsLater, words_of}
 use Rattle.lefdef_tokens.proofs.RunLemmas.{Going}
 use Rattle.lefdef_tokens.proofs.cursor.Cursor.up_to.Given as goal
 
 abbrev pub invariant-loop-token : goal.invariant-loop-token
-invariant-loop-token l = record {
-  going : Going (ends_at l.end) (words_of l.self.tokens) l.count (words_of l.left.tokens);
+invariant-loop-token g l = record {
+  going : Going g.E.PartEnd.test (words_of l.self.tokens) l.count (words_of l.left.tokens);
   together : l.count + length (words_of l.left.tokens) ≡ length (words_of l.self.tokens);
   bad : l.left.bad ≡ l.self.bad;
   later : IsLater l.self l.left;
 }
 
 abbrev pub decreases-loop-token : goal.decreases-loop-token
-decreases-loop-token l = length (words_of l.left.tokens)
+decreases-loop-token g l = length (words_of l.left.tokens)

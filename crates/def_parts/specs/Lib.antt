@@ -1,0 +1,3 @@
+pub mod ClauseViews
+pub mod Numbers
+pub mod PointViews

@@ -1,0 +1,44 @@
+//! Points and orientations in a statement.
+
+ghost use Rattle.std.specs.Prelude.{◌≡◌, IfSome};
+ghost use Rattle.form_meanings.specs.Words.{Gives};
+ghost use Rattle.statement_model.specs.Form.{read};
+ghost use Rattle.def_grammar.specs.Parts.{orient, point};
+ghost use Rattle.lefdef_tokens.specs.Views.{IsLater, rest_of};
+ghost use Rattle.def_parts.specs.PointViews.{PointIn, point_view, same, with_rest};
+
+use crate::number::int_at;
+use design_model::geometry::Orient;
+use lefdef_tokens::{Cursor, Token};
+
+/// The numbers of a point.
+#[derive(Clone, Copy)]
+pub struct Coordinates<'t> {
+    pub x: Token<'t>,
+    pub y: Token<'t>,
+}
+
+/// `( x y )`
+#[tactic(auto, unfolding(def_grammar::specs::Parts::point))]
+pub fn point_at<'t>(cursor: Cursor<'t>) -> Option<(Coordinates<'t>, Cursor<'t>)>
+    ensures gives { Gives (with_rest point_view) result (read point (rest_of cursor.entry)) }
+    ensures later { IfSome result (λ x. IsLater cursor.entry x.1) }
+    ensures lent { IfSome result (λ x. PointIn cursor.entry.tokens.text.now x.0) }
+{
+    let cursor = cursor.key(b"(")?;
+    let (x, cursor) = int_at(cursor)?;
+    let (y, cursor) = int_at(cursor)?;
+    let cursor = cursor.key(b")")?;
+    Some((Coordinates { x, y }, cursor))
+}
+
+/// The orientation of a word.
+#[tactic(auto, unfolding(def_grammar::specs::Parts::orient))]
+pub fn orient_at<'t>(cursor: Cursor<'t>) -> Option<(Orient, Cursor<'t>)>
+    ensures gives { Gives (with_rest same) result (read orient (rest_of cursor.entry)) }
+    ensures later { IfSome result (λ x. IsLater cursor.entry x.1) }
+{
+    let (word, cursor) = cursor.next()?;
+    let orient = Orient::of_word(word.bytes)?;
+    Some((orient, cursor))
+}

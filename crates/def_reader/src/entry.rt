@@ -1,0 +1,148 @@
+//! Entries of sections (LEF/DEF 5.8 Language Reference, "DEF Syntax").
+
+ghost use Rattle.std.specs.Prelude.{◌≡◌, false, IfSome};
+ghost use Rattle.std.specs.Option.{option_map};
+ghost use Rattle.form_meanings.specs.Words.{Gives};
+ghost use Rattle.statement_model.specs.Form.{read};
+ghost use Rattle.def_grammar.specs.Records.{entries_form, name_of, section_of, skipped_entries};
+ghost use Rattle.lefdef_tokens.specs.Views.{IsLater, rest_of};
+ghost use Rattle.def_parts.specs.PointViews.{with_rest};
+ghost use Rattle.def_reader.specs.EntryViews.{EntryIn, bytes_of, entry_view, is_place_section};
+
+use design_model::mode::Section;
+use lefdef_tokens::{Cursor, TokenRun};
+use place_parts::blockages::{BlockageEntry, blockage_at};
+use place_parts::components::{ComponentParts, component_at};
+use place_parts::groups::{GroupParts, group_at};
+use place_parts::pins::{PinParts, pin_at};
+use place_parts::regions::{RegionParts, region_at};
+use wire_parts::nets::{NetEntry, net_at};
+use wire_parts::rules::{RuleParts, rule_at};
+use wire_parts::special_nets::{SpecialNetParts, special_net_at};
+use wire_parts::vias::{ViaParts, via_at};
+
+/// An entry of a section, with parts that borrow the text.
+#[derive(Clone, Copy, Drop)]
+pub enum Entry<'t> {
+    Component(ComponentParts<'t>),
+    Pin(PinParts<'t>),
+    Region(RegionParts<'t>),
+    Group(GroupParts<'t>),
+    Blockage(BlockageEntry<'t>),
+    Net(NetEntry<'t>),
+    SpecialNet(SpecialNetParts<'t>),
+    Via(ViaParts<'t>),
+    Rule(RuleParts<'t>),
+    /// An entry of a section whose entries mean nothing, by its tokens between `-` and `;`.
+    Skipped(Section, TokenRun<'t>),
+}
+
+impl<'t> Entry<'t> {
+    /// The section that it stands in.
+    pub fn section(&self) -> Section
+        ensures { result ≡ section_of (entry_view self.now) }
+    {
+        match self {
+            Entry::Component(_) => Section::Components,
+            Entry::Pin(_) => Section::Pins,
+            Entry::Region(_) => Section::Regions,
+            Entry::Group(_) => Section::Groups,
+            Entry::Blockage(_) => Section::Blockages,
+            Entry::Net(_) => Section::Nets,
+            Entry::SpecialNet(_) => Section::SpecialNets,
+            Entry::Via(_) => Section::Vias,
+            Entry::Rule(_) => Section::NonDefaultRules,
+            Entry::Skipped(section, _) => *section,
+        }
+    }
+
+    /// The name, which its section has once. Blockages, nets with MUSTJOIN and entries without meaning have none.
+    pub fn name(&self) -> Option<&'t [u8]>
+        ensures { option_map bytes_of result ≡ name_of (entry_view self.now) }
+    {
+        match self {
+            Entry::Component(parts) => Some(parts.name.bytes),
+            Entry::Pin(parts) => Some(parts.name.bytes),
+            Entry::Region(parts) => Some(parts.name.bytes),
+            Entry::Group(parts) => Some(parts.name.bytes),
+            Entry::Net(net) => net.name(),
+            Entry::SpecialNet(parts) => Some(parts.name.bytes),
+            Entry::Via(parts) => Some(parts.name.bytes),
+            Entry::Rule(parts) => Some(parts.name.bytes),
+            Entry::Blockage(_) | Entry::Skipped(_, _) => None,
+        }
+    }
+}
+
+/// `- any* ;`, in a section whose entries mean nothing
+#[tactic(auto, unfolding(def_grammar::specs::Skipped::skipped_form))]
+fn skipped_at<'t>(section: Section, cursor: Cursor<'t>) -> Option<(Entry<'t>, Cursor<'t>)>
+    ensures gives { Gives (with_rest entry_view) result (read (skipped_entries section) (rest_of cursor.entry)) }
+    ensures later { IfSome result (λ x. IsLater cursor.entry x.1) }
+    ensures lent { IfSome result (λ x. EntryIn cursor.entry.tokens.text.now x.0) }
+{
+    let (tokens, cursor) = cursor.key(b"-")?.up_to_semicolon();
+    let cursor = cursor.key(b";")?;
+    Some((Entry::Skipped(section, tokens), cursor))
+}
+
+/// An entry of a section about wires, or of one whose entries mean nothing.
+#[tactic(auto, unfolding(def_grammar::specs::Records::entries_form))]
+fn wire_entry_at<'t>(section: Section, cursor: Cursor<'t>) -> Option<(Entry<'t>, Cursor<'t>)>
+    requires { is_place_section section ≡ false }
+    ensures gives { Gives (with_rest entry_view) result (read (entries_form section) (rest_of cursor.entry)) }
+    ensures later { IfSome result (λ x. IsLater cursor.entry x.1) }
+    ensures lent { IfSome result (λ x. EntryIn cursor.entry.tokens.text.now x.0) }
+{
+    match section {
+        Section::Nets => {
+            let (net, cursor) = net_at(cursor)?;
+            Some((Entry::Net(net), cursor))
+        }
+        Section::SpecialNets => {
+            let (parts, cursor) = special_net_at(cursor)?;
+            Some((Entry::SpecialNet(parts), cursor))
+        }
+        Section::Vias => {
+            let (parts, cursor) = via_at(cursor)?;
+            Some((Entry::Via(parts), cursor))
+        }
+        Section::NonDefaultRules => {
+            let (parts, cursor) = rule_at(cursor)?;
+            Some((Entry::Rule(parts), cursor))
+        }
+        _ => skipped_at(section, cursor),
+    }
+}
+
+/// An entry of a section.
+#[tactic(auto, unfolding(def_grammar::specs::Records::entries_form))]
+pub fn entry_at<'t>(section: Section, cursor: Cursor<'t>) -> Option<(Entry<'t>, Cursor<'t>)>
+    ensures gives { Gives (with_rest entry_view) result (read (entries_form section) (rest_of cursor.entry)) }
+    ensures later { IfSome result (λ x. IsLater cursor.entry x.1) }
+    ensures lent { IfSome result (λ x. EntryIn cursor.entry.tokens.text.now x.0) }
+{
+    match section {
+        Section::Components => {
+            let (parts, cursor) = component_at(cursor)?;
+            Some((Entry::Component(parts), cursor))
+        }
+        Section::Pins => {
+            let (parts, cursor) = pin_at(cursor)?;
+            Some((Entry::Pin(parts), cursor))
+        }
+        Section::Regions => {
+            let (parts, cursor) = region_at(cursor)?;
+            Some((Entry::Region(parts), cursor))
+        }
+        Section::Groups => {
+            let (parts, cursor) = group_at(cursor)?;
+            Some((Entry::Group(parts), cursor))
+        }
+        Section::Blockages => {
+            let (entry, cursor) = blockage_at(cursor)?;
+            Some((Entry::Blockage(entry), cursor))
+        }
+        _ => wire_entry_at(section, cursor),
+    }
+}

@@ -1,0 +1,2 @@
+mod PlacingSteps
+mod PlacingTokens

@@ -1,0 +1,2 @@
+pub mod ComponentViews
+pub mod PlacingViews

@@ -1,0 +1,149 @@
+//! Entries of COMPONENTS (LEF/DEF 5.8 Language Reference, "Components").
+
+ghost use Rattle.std.specs.Prelude.{◌≡◌, IfSome};
+ghost use Rattle.form_meanings.specs.Words.{Gives, is_plus};
+ghost use Rattle.statement_model.specs.Form.{◌⨟◌, read, spell};
+ghost use Rattle.def_grammar.specs.Parts.{orient, point};
+ghost use Rattle.def_grammar.specs.Components.{clause, component_form, is_placing};
+ghost use Rattle.lefdef_tokens.specs.Views.{IsLater, rest_of};
+ghost use Rattle.place_parts.specs.ComponentViews.{clause_view, component_view, spot_view, ClauseIn, ComponentIn};
+ghost use Rattle.def_parts.specs.Lent.{PointIn};
+ghost use Rattle.def_parts.specs.PointViews.{with_rest};
+
+use def_parts::point::{Coordinates, orient_at, point_at};
+use design_model::geometry::{Orient, Status};
+use lefdef_tokens::{Cursor, Token, TokenRun, is_plain, is_plus, is_word};
+use statement_reader::parts::{Part, Parts, read_parts};
+
+/// How and where a component is placed.
+#[derive(Clone, Copy)]
+pub struct Placement<'t> {
+    pub status: Status,
+    pub at: Coordinates<'t>,
+    pub orient: Orient,
+}
+
+/// A clause of an entry, without its `+`.
+#[derive(Clone, Copy, Drop)]
+pub enum Clause<'t> {
+    Placed(Placement<'t>),
+    Unplaced(TokenRun<'t>),
+    Region(Token<'t>),
+    /// A clause without meaning, by its word and its other tokens.
+    Other(Token<'t>, TokenRun<'t>),
+}
+
+/// An entry: its name, its macro, the rest of its fixed part, and its clauses.
+#[derive(Clone, Copy)]
+pub struct ComponentParts<'t> {
+    pub name: Token<'t>,
+    pub cell: Token<'t>,
+    pub rest: TokenRun<'t>,
+    pub clauses: Parts<'t, Clause<'t>>,
+}
+
+impl<'t> Clause<'t> {
+    /// Whether it says how the component is placed.
+    pub fn is_placing(&self) -> bool
+        ensures { result ≡ is_placing (clause_view self.now) }
+    {
+        matches!(self, Clause::Placed(_) | Clause::Unplaced(_))
+    }
+}
+
+/// `( x y ) orient`
+fn spot_at<'t>(cursor: Cursor<'t>) -> Option<((Coordinates<'t>, Orient), Cursor<'t>)>
+    ensures gives { Gives (with_rest spot_view) result (read (point ⨟ orient) (rest_of cursor.entry)) }
+    ensures later { IfSome result (λ x. IsLater cursor.entry x.1) }
+    ensures lent { IfSome result (λ x. PointIn cursor.entry.tokens.text.now x.0.0) }
+{
+    let (at, cursor) = point_at(cursor)?;
+    let (orient, cursor) = orient_at(cursor)?;
+    Some(((at, orient), cursor))
+}
+
+/// `+` and a clause by its word
+#[tactic(auto, unfolding(def_grammar::specs::Components::clause, def_grammar::specs::Components::placement))]
+fn clause_at<'t>(cursor: Cursor<'t>) -> Option<(Clause<'t>, Cursor<'t>)>
+    ensures gives { Gives (with_rest clause_view) result (read clause (rest_of cursor.entry)) }
+    ensures later { IfSome result (λ x. IsLater cursor.entry x.1) }
+    ensures lent { IfSome result (λ x. ClauseIn cursor.entry.tokens.text.now x.0) }
+{
+    let (word, cursor) = cursor.key(b"+")?.next()?;
+    if let Some(status) = Status::of_word(word.bytes) {
+        let ((at, orient), cursor) = spot_at(cursor)?;
+        if !cursor.next_is_stop() {
+            return None;
+        }
+        let placement = Placement { status, at, orient };
+        Some((Clause::Placed(placement), cursor))
+    } else if is_word(word.bytes, b"UNPLACED") {
+        let (rest, cursor) = cursor.rest();
+        Some((Clause::Unplaced(rest), cursor))
+    } else if is_word(word.bytes, b"REGION") {
+        let (name, cursor) = cursor.name()?;
+        if !cursor.next_is_stop() {
+            return None;
+        }
+        Some((Clause::Region(name), cursor))
+    } else if is_plain(word.bytes) {
+        let (rest, cursor) = cursor.rest();
+        Some((Clause::Other(word, rest), cursor))
+    } else {
+        None
+    }
+}
+
+impl<'t> Part<'t> for Clause<'t> {
+    ghost use Rattle.def_grammar.specs.Components.{Clause as TheClause};
+
+    ghost Value = { TheClause };
+
+    ghost view = { clause_view };
+
+    ghost lent = { ClauseIn };
+
+    ghost test = { is_plus };
+
+    ghost reads = { read clause };
+
+    ghost spells = { spell clause };
+
+    ghost spelled = { λ r p e. (clause.exact.shows r p e).words };
+
+    fn begins(word: &[u8]) -> bool
+        ensures { result ≡ is_plus word.now }
+    {
+        is_plus(word)
+    }
+
+    fn read(cursor: Cursor<'t>) -> Option<(Clause<'t>, Cursor<'t>)>
+        ensures gives { Gives (with_rest clause_view) result (read clause (rest_of cursor.entry)) }
+        ensures later { IfSome result (λ x. IsLater cursor.entry x.1) }
+        ensures lent { IfSome result (λ x. ClauseIn cursor.entry.tokens.text.now x.0) }
+    {
+        clause_at(cursor)
+    }
+}
+
+/// `- name macro rest (+ clause)* ;`
+#[tactic(auto, unfolding(def_grammar::specs::Components::component_form))]
+pub fn component_at<'t>(cursor: Cursor<'t>) -> Option<(ComponentParts<'t>, Cursor<'t>)>
+    ensures gives { Gives (with_rest component_view) result (read component_form (rest_of cursor.entry)) }
+    ensures later { IfSome result (λ x. IsLater cursor.entry x.1) }
+    ensures lent { IfSome result (λ x. ComponentIn cursor.entry.tokens.text.now x.0) }
+{
+    let cursor = cursor.key(b"-")?;
+    let (name, cursor) = cursor.name()?;
+    let (cell, cursor) = cursor.name()?;
+    let (rest, cursor) = cursor.rest();
+    let (clauses, cursor) = read_parts::<Clause<'t>>(cursor)?;
+    let cursor = cursor.key(b";")?;
+    let parts = ComponentParts {
+        name,
+        cell,
+        rest,
+        clauses,
+    };
+    Some((parts, cursor))
+}
