@@ -90,9 +90,13 @@ pin_kept clause = inr (inr (inr (inr (inr (inr clause)))))
 unfoldable pub pin_shape : Form (PinRectangle ⊎ (PinVia ⊎ ((List ℕ × List (List ℕ)) ⊎ KeptClause)))
 pin_shape = on (codes "LAYER") pin_rectangle (on (codes "VIA") pin_via (on (codes "POLYGON") (name ⨟ rest) kept_clause))
 
--- PLACED pt o, FIXED pt o, COVER pt o, NET name, PORT, a shape, or word rest, each after a + and before a + or ;
+-- PLACED pt o, FIXED pt o, COVER pt o, NET name, PORT, a shape, or word rest
+abbrev pub pin_clause_body : Form PinClause
+pin_clause_body = alt is_status placement (on (codes "NET") name (on (codes "PORT") empty pin_shape))
+
+-- one of them, after a + and before a + or ;
 unfoldable pub pin_clause : Form PinClause
-pin_clause = codes "+" ▸ closed is_stop (alt is_status placement (on (codes "NET") name (on (codes "PORT") empty pin_shape)))
+pin_clause = codes "+" ▸ closed is_stop pin_clause_body
 
 -- an entry: its name, and its clauses in order
 pub record Pin : Type 0 where

@@ -11,12 +11,12 @@ ghost use Rattle.def_reader.specs.EntryViews.{EntryIn, bytes_of, entry_view, is_
 
 use design_model::mode::Section;
 use lefdef_tokens::{Cursor, TokenRun};
-use place_parts::blockages::{BlockageEntry, blockage_at};
+use place_parts::blockages::{BlockageEntry, blockage_entry_at};
 use place_parts::components::{ComponentParts, component_at};
 use place_parts::groups::{GroupParts, group_at};
 use place_parts::pins::{PinParts, pin_at};
 use place_parts::regions::{RegionParts, region_at};
-use wire_parts::nets::{NetEntry, net_at};
+use wire_parts::nets::{NetEntry, net_entry_at};
 use wire_parts::rules::{RuleParts, rule_at};
 use wire_parts::special_nets::{SpecialNetParts, special_net_at};
 use wire_parts::vias::{ViaParts, via_at};
@@ -65,7 +65,7 @@ impl<'t> Entry<'t> {
             Entry::Pin(parts) => Some(parts.name.bytes),
             Entry::Region(parts) => Some(parts.name.bytes),
             Entry::Group(parts) => Some(parts.name.bytes),
-            Entry::Net(net) => net.name(),
+            Entry::Net(net) => Some(net.name()?.bytes),
             Entry::SpecialNet(parts) => Some(parts.name.bytes),
             Entry::Via(parts) => Some(parts.name.bytes),
             Entry::Rule(parts) => Some(parts.name.bytes),
@@ -96,7 +96,7 @@ fn wire_entry_at<'t>(section: Section, cursor: Cursor<'t>) -> Option<(Entry<'t>,
 {
     match section {
         Section::Nets => {
-            let (net, cursor) = net_at(cursor)?;
+            let (net, cursor) = net_entry_at(cursor)?;
             Some((Entry::Net(net), cursor))
         }
         Section::SpecialNets => {
@@ -140,7 +140,7 @@ pub fn entry_at<'t>(section: Section, cursor: Cursor<'t>) -> Option<(Entry<'t>, 
             Some((Entry::Group(parts), cursor))
         }
         Section::Blockages => {
-            let (entry, cursor) = blockage_at(cursor)?;
+            let (entry, cursor) = blockage_entry_at(cursor)?;
             Some((Entry::Blockage(entry), cursor))
         }
         _ => wire_entry_at(section, cursor),

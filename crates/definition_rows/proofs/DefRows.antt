@@ -5,19 +5,16 @@ use Rattle.design_model.specs.declared.fault.FaultCode.TheVariants.{RefusedByte,
 use Rattle.design_model.specs.declared.geometry.Orient.TheVariants.{N}
 use Rattle.design_model.specs.declared.geometry.Status.TheVariants.{Placed}
 use Rattle.design_model.specs.declared.mode.Section.TheVariants.{Components, Nets}
-use Rattle.design_model.specs.EnumWords.{orient_word, status_word, section_word}
-use Rattle.design_model.specs.Units.{whole}
-use Rattle.form_meanings.specs.Meaning.{repeat}
-use Rattle.form_meanings.specs.Words.{number_at, split_at}
-use Rattle.statement_model.specs.Tokens.{lex}
-use Rattle.statement_model.specs.Boundaries.{last_of}
+use Rattle.design_model.specs.EnumWords.{section_word}
 use Rattle.statement_model.specs.Grammar.{Key}
-use Rattle.statement_model.specs.Reading.{fault_at, repeats, read_on, read_text}
-use Rattle.def_grammar.specs.Numbers.{is_int, is_scale, is_count}
-use Rattle.def_grammar.specs.Parts.{point, orient}
-use Rattle.def_grammar.specs.Components.{placed, placement, clause, component_form}
-use Rattle.def_grammar.specs.Top.{units, header, end_design, kept, units_statement, header_statement, kept_statement, plain_statement, top_statement}
-use Rattle.def_grammar.specs.Records.{Record, top, end_section, entry, component, entries_form, statement, entry_key, key_of, read_def}
+use Rattle.statement_model.specs.Reading.{fault_at, repeats}
+use Rattle.def_grammar.specs.Components.{placed}
+use Rattle.def_grammar.specs.Top.{units, header, properties, end_design, die_area, row, kept}
+use Rattle.def_grammar.specs.DieArea.{DieArea}
+use Rattle.def_grammar.specs.Rows.{Row}
+use Rattle.def_grammar.specs.Records.{Record, top, end_section, entry, component, entry_key, key_of, read_def}
+use Rattle.definition_rows.proofs.Computing.{def_texts}
+use Rattle.definition_rows.proofs.FormTexts.{pt}
 
 -- the text has this fault
 abbrev IsRefused : List ℕ → FaultCode → ℕ → Type 0
@@ -39,6 +36,19 @@ front =
 abbrev pub two : List ℕ
 two = front ++ codes "- u2 INV + PLACED ( 920 0 ) N ;\nEND COMPONENTS\nEND DESIGN\n"
 
+abbrev area_of_two : DieArea
+area_of_two = record { first = pt (codes "0") (codes "0"); second = pt (codes "9200") (codes "2720"); others = [] }
+
+abbrev pub row_of_two : Row
+row_of_two = record {
+  name = codes "r0";
+  site = codes "core";
+  origin = pt (codes "0") (codes "0");
+  orient = N;
+  sites = Some (record { columns = codes "20"; rows = codes "1"; step = Some (pt (codes "460") (codes "0")) });
+  clauses = [];
+}
+
 abbrev two_records : List Record
 two_records =
     top (kept (codes "VERSION") (codes "5.8" ∷ codes ";" ∷ []))
@@ -46,8 +56,8 @@ two_records =
     ∷ top (kept (codes "BUSBITCHARS") (codes "\"[]\"" ∷ codes ";" ∷ []))
     ∷ top (kept (codes "DESIGN") (codes "top" ∷ codes ";" ∷ []))
     ∷ top (units (codes "1000"))
-    ∷ top (kept (codes "DIEAREA") (codes "(" ∷ codes "0" ∷ codes "0" ∷ codes ")" ∷ codes "(" ∷ codes "9200" ∷ codes "2720" ∷ codes ")" ∷ codes ";" ∷ []))
-    ∷ top (kept (codes "ROW") (codes "r0" ∷ codes "core" ∷ codes "0" ∷ codes "0" ∷ codes "N" ∷ codes "DO" ∷ codes "20" ∷ codes "BY" ∷ codes "1" ∷ codes "STEP" ∷ codes "460" ∷ codes "0" ∷ codes ";" ∷ []))
+    ∷ top (die_area area_of_two)
+    ∷ top (row row_of_two)
     ∷ top (header Components (codes "2"))
     ∷ entry (component (record { name = codes "u1"; cell = codes "INV"; rest = []; clauses = [] }))
     ∷ entry (component (record { name = codes "u2"; cell = codes "INV"; rest = []; clauses = placed Placed (record { x = codes "920"; y = codes "0" }) N ∷ [] }))
@@ -60,71 +70,74 @@ two_is_252_long = refl
 
 -- an empty text ends before END DESIGN
 empty_text : IsRefused [] Unfinished 0
-unfolding read_text read_on lex last_of repeat split_at number_at is_int is_scale is_count whole orient_word status_word section_word point orient placement clause component_form entries_form units_statement header_statement kept_statement plain_statement top_statement statement
+unfolding def_texts
 empty_text = refl
 
 -- UNITS missing
 no_units : IsRefused (codes "END DESIGN\n") NoUnits 11
-unfolding read_text read_on lex last_of repeat split_at number_at is_int is_scale is_count whole orient_word status_word section_word point orient placement clause component_form entries_form units_statement header_statement kept_statement plain_statement top_statement statement
+unfolding def_texts
 no_units = refl
 
 -- the least text
 least : read_def (units_line ++ codes "END DESIGN\n") ≡ Ok (top (units (codes "1000")) ∷ top end_design ∷ [])
-unfolding read_text read_on lex last_of repeat split_at number_at is_int is_scale is_count whole orient_word status_word section_word point orient placement clause component_form entries_form units_statement header_statement kept_statement plain_statement top_statement statement
+unfolding def_texts
 least = refl
 
 -- the text reads, and also without its last byte
 two_read : (read_def two ≡ Ok two_records) × (read_def (take 251 two) ≡ Ok two_records)
-unfolding read_text read_on lex last_of repeat split_at number_at is_int is_scale is_count whole orient_word status_word section_word point orient placement clause component_form entries_form units_statement header_statement kept_statement plain_statement top_statement statement
+unfolding def_texts
 two_read = (refl, refl)
 
 -- cut off within the words of END COMPONENTS and END DESIGN
 cut_within_an_end : IsRefused (take 231 two) NoForm 226 × IsRefused (take 239 two) NoForm 226 × IsRefused (take 246 two) NoForm 241 × IsRefused (take 250 two) NoForm 241
-unfolding read_text read_on lex last_of repeat split_at number_at is_int is_scale is_count whole orient_word status_word section_word point orient placement clause component_form entries_form units_statement header_statement kept_statement plain_statement top_statement statement
+unfolding def_texts
 cut_within_an_end = (refl, refl, refl, refl)
 
 -- cut off within a string
 cut_within_a_string : IsRefused (take 27 two) OpenString 26 × IsRefused (take 45 two) OpenString 44
-unfolding read_text read_on lex last_of repeat split_at number_at is_int is_scale is_count whole orient_word status_word section_word point orient placement clause component_form entries_form units_statement header_statement kept_statement plain_statement top_statement statement
+unfolding def_texts
 cut_within_a_string = (refl, refl)
 
 -- cut off within a statement
 cut_within_a_statement : IsRefused (take 230 two) Unfinished 226 × IsRefused (take 100 two) Unfinished 94
-unfolding read_text read_on lex last_of repeat split_at number_at is_int is_scale is_count whole orient_word status_word section_word point orient placement clause component_form entries_form units_statement header_statement kept_statement plain_statement top_statement statement
+unfolding def_texts
 cut_within_a_statement = (refl, refl)
 
 -- a control byte in place of the sixth byte
 control_byte : IsRefused (take 5 two ++ 127 ∷ drop 6 two) RefusedByte 5
-unfolding read_text read_on lex last_of repeat split_at number_at is_int is_scale is_count whole orient_word status_word section_word point orient placement clause component_form entries_form units_statement header_statement kept_statement plain_statement top_statement statement
+unfolding def_texts
 control_byte = refl
 
 -- a component of a name that stands right before, and of one that stands further before
 name_taken : IsRefused (front ++ codes "- u1 INV + PLACED ( 920 0 ) N ;\nEND COMPONENTS\nEND DESIGN\n") NameTaken 194 × IsRefused (front ++ codes "- u2 INV ;\n- u1 INV ;\nEND COMPONENTS\nEND DESIGN\n") NameTaken 205
-unfolding read_text read_on lex last_of repeat split_at number_at is_int is_scale is_count whole orient_word status_word section_word point orient placement clause component_form entries_form units_statement header_statement kept_statement plain_statement top_statement statement
+unfolding def_texts
 name_taken = (refl, refl)
 
 -- a second statement of which a text has one
 repeated : IsRefused (units_line ++ units_line ++ codes "END DESIGN\n") Repeated 30 × IsRefused (units_line ++ diearea_line ++ diearea_line ++ codes "END DESIGN\n") Repeated 62
-unfolding read_text read_on lex last_of repeat split_at number_at is_int is_scale is_count whole orient_word status_word section_word point orient placement clause component_form entries_form units_statement header_statement kept_statement plain_statement top_statement statement
+unfolding def_texts
 repeated = (refl, refl)
 
 -- a second section of a kind, and a statement without meaning again, which is no repeat
 section_repeated : IsRefused (units_line ++ codes "COMPONENTS 0 ;\nEND COMPONENTS\nCOMPONENTS 0 ;\nEND COMPONENTS\nEND DESIGN\n") Repeated 60
-    × (read_def (units_line ++ codes "ROW a ;\nROW a ;\nEND DESIGN\n")
-    ≡ Ok (top (units (codes "1000")) ∷ top (kept (codes "ROW") (codes "a" ∷ codes ";" ∷ [])) ∷ top (kept (codes "ROW") (codes "a" ∷ codes ";" ∷ [])) ∷ top end_design ∷ []))
-unfolding read_text read_on lex last_of repeat split_at number_at is_int is_scale is_count whole orient_word status_word section_word point orient placement clause component_form entries_form units_statement header_statement kept_statement plain_statement top_statement statement
+    × (read_def (units_line ++ codes "DESIGN a ;\nDESIGN a ;\nEND DESIGN\n")
+    ≡ Ok (top (units (codes "1000")) ∷ top (kept (codes "DESIGN") (codes "a" ∷ codes ";" ∷ [])) ∷ top (kept (codes "DESIGN") (codes "a" ∷ codes ";" ∷ [])) ∷ top end_design ∷ []))
+unfolding def_texts
 section_repeated = (refl, refl)
 
--- what of a record a text has once: UNITS, DIEAREA, a section, and a name in its section; of other records nothing
+-- what of a record a text has once: UNITS, DIEAREA, PROPERTYDEFINITIONS, a section, and a name in its section; of other
+-- records nothing
 keys : (key_of (top (units (codes "1000"))) ≡ codes "UNITS" ∷ [])
-    × (key_of (top (kept (codes "DIEAREA") (codes ";" ∷ []))) ≡ codes "DIEAREA" ∷ [])
+    × (key_of (top (die_area area_of_two)) ≡ codes "DIEAREA" ∷ [])
+    × (key_of (top properties) ≡ codes "PROPERTYDEFINITIONS" ∷ [])
     × (key_of (top (header Nets (codes "2"))) ≡ codes "NETS" ∷ [])
     × (key_of (entry (component (record { name = codes "u"; cell = codes "INV"; rest = []; clauses = [] }))) ≡ codes "COMPONENTS" ∷ codes "u" ∷ [])
-    × (key_of (top (kept (codes "ROW") (codes ";" ∷ []))) ≡ [])
+    × (key_of (top (row row_of_two)) ≡ [])
+    × (key_of (top (kept (codes "DESIGN") (codes ";" ∷ []))) ≡ [])
     × (key_of (end_section Components) ≡ [])
     × (key_of (top end_design) ≡ [])
 unfolding section_word
-keys = (refl, refl, refl, refl, refl, refl, refl)
+keys = (refl, refl, refl, refl, refl, refl, refl, refl, refl)
 
 -- what stands after UNITS, the header of COMPONENTS, and a component u
 abbrev some_keys : List Key
@@ -154,21 +167,21 @@ named_as_section : read_def (units_line ++ codes "COMPONENTS 1 ;\n- COMPONENTS I
     ∷ end_section Components
     ∷ top end_design
     ∷ [])
-unfolding read_text read_on lex last_of repeat split_at number_at is_int is_scale is_count whole orient_word status_word section_word point orient placement clause component_form entries_form units_statement header_statement kept_statement plain_statement top_statement statement
+unfolding def_texts
 named_as_section = refl
 
 -- a word that is no number, and a number out of its range
 bad_number : IsRefused (codes "UNITS DISTANCE MICRONS x ;") Number 23 × IsRefused (codes "UNITS DISTANCE MICRONS 0 ;") Number 23
-unfolding read_text read_on lex last_of repeat split_at number_at is_int is_scale is_count whole orient_word status_word section_word point orient placement clause component_form entries_form units_statement header_statement kept_statement plain_statement top_statement statement
+unfolding def_texts
 bad_number = (refl, refl)
 
 -- a - does not stand for a number
 no_number : IsRefused (codes "UNITS DISTANCE MICRONS - ;") NoForm 0
-unfolding read_text read_on lex last_of repeat split_at number_at is_int is_scale is_count whole orient_word status_word section_word point orient placement clause component_form entries_form units_statement header_statement kept_statement plain_statement top_statement statement
+unfolding def_texts
 no_number = refl
 
 -- a statement that a string cuts off, and one that has no form; and which fault of two comes first: that of a whole
 -- statement, where white space ends it, and that of the byte, where it stands in the statement's last word
 first_fault : IsRefused (units_line ++ codes "END \"x\n") OpenString 34 × IsRefused (units_line ++ codes "END ;\n") NoForm 30 × IsRefused (codes ") ; " ++ 127 ∷ []) NoForm 0 × IsRefused (codes ") ;" ++ 127 ∷ []) RefusedByte 3
-unfolding read_text read_on lex last_of repeat split_at number_at is_int is_scale is_count whole orient_word status_word section_word point orient placement clause component_form entries_form units_statement header_statement kept_statement plain_statement top_statement statement
+unfolding def_texts
 first_fault = (refl, refl, refl, refl)

@@ -1,26 +1,19 @@
 -- Worked rows of edits of a design, by computing.
 use Rattle.std.proofs.Common.{◌≡◌, ◌++◌, List, ℕ, [], ◌∷◌, Ok, Err, Result, Option, Some, None, refl, codes, pos, negsuc}
-use Rattle.std.specs.Fmt.{digits}
 use Rattle.design_model.specs.declared.fault.Fault.{Fault}
 use Rattle.design_model.specs.declared.edit.EditCode.{EditCode}
 use Rattle.design_model.specs.declared.edit.EditCode.TheVariants.{UnknownName, Fixed, Number}
 use Rattle.design_model.specs.declared.geometry.Orient.TheVariants.{N, FN}
-use Rattle.design_model.specs.EnumWords.{orient_word, status_word, section_word}
-use Rattle.design_model.specs.Units.{whole}
-use Rattle.form_meanings.specs.Meaning.{repeat}
-use Rattle.form_meanings.specs.Words.{Rest, start, number_at, split_at}
+use Rattle.form_meanings.specs.Words.{Rest, start}
 use Rattle.statement_model.specs.Tokens.{lex, tokens}
-use Rattle.statement_model.specs.Boundaries.{words, last_of, statements}
+use Rattle.statement_model.specs.Boundaries.{words}
 use Rattle.statement_model.specs.Cuts.{Cut, with_cuts}
 use Rattle.statement_model.specs.Form.{read}
-use Rattle.statement_model.specs.Reading.{read_on, read_text}
-use Rattle.def_grammar.specs.Numbers.{is_int, is_scale, is_count}
-use Rattle.def_grammar.specs.Parts.{point, orient}
-use Rattle.def_grammar.specs.Components.{Component, placement, clause, component_form}
-use Rattle.def_grammar.specs.Top.{units_statement, header_statement, kept_statement, plain_statement, top_statement}
-use Rattle.def_grammar.specs.Records.{Record, entries_form, statement, read_def}
+use Rattle.def_grammar.specs.Components.{Component, component_form}
+use Rattle.def_grammar.specs.Records.{Record, read_def}
 use Rattle.lef_grammar.specs.Library.{empty_library}
 use Rattle.design_rules.specs.Edits.{Change, place, cut_of, place_change, cuts_of, applied}
+use Rattle.definition_rows.proofs.Computing.{def_texts}
 
 -- a design of one component with these clauses
 abbrev design_of : List ℕ → List ℕ
@@ -44,37 +37,37 @@ cut_in text = cut_if_read text (read component_form (start (words (tokens text).
 
 -- a clause is put at the entry's end, and the blank before the ; stays
 put_last : cuts_at (codes " ") (place (codes "u") (pos 0) (pos 0) N) ≡ Ok (record { lo = 52; hi = 52; put = codes " + PLACED ( 0 0 ) N" } ∷ [])
-unfolding read_text read_on lex last_of repeat split_at number_at is_int is_scale is_count whole orient_word status_word section_word point orient placement clause component_form entries_form units_statement header_statement kept_statement plain_statement top_statement statement statements digits
+unfolding def_texts
 put_last = refl
 
 -- behind a string a space is put before the ;
 put_behind_string : cuts_at (codes " + PROPERTY k \"x\"") (place (codes "u") (pos 0) (negsuc 4) N) ≡ Ok (record { lo = 69; hi = 69; put = codes " + PLACED ( 0 -5 ) N " } ∷ [])
-unfolding read_text read_on lex last_of repeat split_at number_at is_int is_scale is_count whole orient_word status_word section_word point orient placement clause component_form entries_form units_statement header_statement kept_statement plain_statement top_statement statement statements digits
+unfolding def_texts
 put_behind_string = refl
 
 -- a placement takes the place of the one before, from its word on
 put_again : cuts_at (codes " + PLACED ( 1 2 ) S + WEIGHT 3 ") (place (codes "u") (pos 460) (pos 0) FN) ≡ Ok (record { lo = 55; hi = 71; put = codes "PLACED ( 460 0 ) FN" } ∷ [])
-unfolding read_text read_on lex last_of repeat split_at number_at is_int is_scale is_count whole orient_word status_word section_word point orient placement clause component_form entries_form units_statement header_statement kept_statement plain_statement top_statement statement statements digits
+unfolding def_texts
 put_again = refl
 
 -- it takes the place of UNPLACED with all its tokens
 put_for_unplaced : cuts_at (codes " + UNPLACED a b + WEIGHT 3 ") (place (codes "u") (pos 460) (pos 0) FN) ≡ Ok (record { lo = 55; hi = 67; put = codes "PLACED ( 460 0 ) FN" } ∷ [])
-unfolding read_text read_on lex last_of repeat split_at number_at is_int is_scale is_count whole orient_word status_word section_word point orient placement clause component_form entries_form units_statement header_statement kept_statement plain_statement top_statement statement statements digits
+unfolding def_texts
 put_for_unplaced = refl
 
 -- a fixed component is refused, before a number out of range
 held : cuts_at (codes " + FIXED ( 1 2 ) S ") (place (codes "u") (pos 2147483648) (pos 0) FN) ≡ Err Fixed
-unfolding read_text read_on lex last_of repeat split_at number_at is_int is_scale is_count whole orient_word status_word section_word point orient placement clause component_form entries_form units_statement header_statement kept_statement plain_statement top_statement statement statements digits
+unfolding def_texts
 held = refl
 
 -- an unknown one before all
 unknown : cuts_at (codes " ") (place (codes "v") (pos 2147483648) (pos 0) FN) ≡ Err UnknownName
-unfolding read_text read_on lex last_of repeat split_at number_at is_int is_scale is_count whole orient_word status_word section_word point orient placement clause component_form entries_form units_statement header_statement kept_statement plain_statement top_statement statement statements digits
+unfolding def_texts
 unknown = refl
 
 -- a number that no text may hold
 out_of_range : cuts_at (codes " ") (place (codes "u") (pos 0) (pos 2147483648) FN) ≡ Err Number
-unfolding read_text read_on lex last_of repeat split_at number_at is_int is_scale is_count whole orient_word status_word section_word point orient placement clause component_form entries_form units_statement header_statement kept_statement plain_statement top_statement statement statements digits
+unfolding def_texts
 out_of_range = refl
 
 -- the new text reads as the edited design
@@ -90,27 +83,27 @@ edited_records (Err fault) change = Err fault
 
 reads_applied : edited_records (read_def (design_of (codes " + UNPLACED a + WEIGHT 3 "))) (place (codes "u") (pos 460) (pos 0) FN)
     ≡ read_def (design_of (codes " + PLACED ( 460 0 ) FN + WEIGHT 3 "))
-unfolding read_text read_on lex last_of repeat split_at number_at is_int is_scale is_count whole orient_word status_word section_word point orient placement clause component_form entries_form units_statement header_statement kept_statement plain_statement top_statement statement digits
+unfolding def_texts
 reads_applied = refl
 
 -- UNPLACED with more tokens gives its place, up to the last of them
 cut_of_unplaced : cut_in (codes "- u INV + UNPLACED a b + WEIGHT 3 ;") ≡ Some (record { lo = 10; hi = 22; put = codes "PLACED ( 460 -5 ) FN" })
-unfolding read_text read_on lex last_of repeat split_at number_at is_int is_scale is_count whole orient_word status_word section_word point orient placement clause component_form entries_form units_statement header_statement kept_statement plain_statement top_statement statement digits
+unfolding def_texts
 cut_of_unplaced = refl
 
 -- a placement that is the last clause, and a placement where none was, which becomes the last
 cut_of_last : (cut_in (codes "- u INV x + WEIGHT 3 + PLACED ( 1 2 ) S ;") ≡ Some (record { lo = 23; hi = 39; put = codes "PLACED ( 460 -5 ) FN" }))
     × (cut_in (codes "- u INV x + WEIGHT 3 ;") ≡ Some (record { lo = 20; hi = 20; put = codes " + PLACED ( 460 -5 ) FN" }))
-unfolding read_text read_on lex last_of repeat split_at number_at is_int is_scale is_count whole orient_word status_word section_word point orient placement clause component_form entries_form units_statement header_statement kept_statement plain_statement top_statement statement digits
+unfolding def_texts
 cut_of_last = (refl, refl)
 
 -- a string right before the ;, which stands behind the cut or is taken
 cut_at_string : (cut_in (codes "- u INV + PROPERTY k \"x\";") ≡ Some (record { lo = 24; hi = 24; put = codes " + PLACED ( 460 -5 ) FN " }))
     × (cut_in (codes "- u INV + UNPLACED \"x\";") ≡ Some (record { lo = 10; hi = 22; put = codes "PLACED ( 460 -5 ) FN " }))
-unfolding read_text read_on lex last_of repeat split_at number_at is_int is_scale is_count whole orient_word status_word section_word point orient placement clause component_form entries_form units_statement header_statement kept_statement plain_statement top_statement statement digits
+unfolding def_texts
 cut_at_string = (refl, refl)
 
 -- the first of two clauses that place the component counts
 cut_of_first : cut_in (codes "- u INV + UNPLACED + PLACED ( 1 2 ) S ;") ≡ Some (record { lo = 10; hi = 18; put = codes "PLACED ( 460 -5 ) FN" })
-unfolding read_text read_on lex last_of repeat split_at number_at is_int is_scale is_count whole orient_word status_word section_word point orient placement clause component_form entries_form units_statement header_statement kept_statement plain_statement top_statement statement digits
+unfolding def_texts
 cut_of_first = refl

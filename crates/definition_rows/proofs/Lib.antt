@@ -1,3 +1,4 @@
+pub mod Computing
 pub mod DefRows
 pub mod EditRows
 pub mod FormTexts
@@ -6,6 +7,8 @@ pub mod LibraryRows
 pub mod LimitRows
 pub mod NetRows
 pub mod SectionRows
+pub mod ShowRows
 pub mod StatementRows
 pub mod TextRows
 pub mod TokenRows
+pub mod WholeRows

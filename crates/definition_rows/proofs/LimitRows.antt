@@ -2,17 +2,11 @@
 use Rattle.std.proofs.Common.{◌≡◌, ◌<◌, ◌++◌, ℕ, List, Ok, Err, refl, codes, length, ◌∷◌, [], lt-ltb}
 use Rattle.design_model.specs.declared.TheConstants.{MAX_TEXT}
 use Rattle.design_model.specs.declared.fault.FaultCode.TheVariants.{TooLong, Number}
-use Rattle.design_model.specs.EnumWords.{section_word}
-use Rattle.design_model.specs.Units.{whole}
-use Rattle.form_meanings.specs.Meaning.{repeat}
-use Rattle.form_meanings.specs.Words.{number_at, split_at}
-use Rattle.statement_model.specs.Tokens.{lex}
-use Rattle.statement_model.specs.Boundaries.{last_of}
-use Rattle.statement_model.specs.Reading.{fault_at, read_on, read_text}
-use Rattle.def_grammar.specs.Numbers.{is_int, is_scale, is_count}
-use Rattle.def_grammar.specs.Top.{units, end_design, header_statement, units_statement, kept_statement, plain_statement, top_statement}
-use Rattle.def_grammar.specs.Records.{top, statement, read_def}
+use Rattle.statement_model.specs.Reading.{fault_at, read_text}
+use Rattle.def_grammar.specs.Top.{units, end_design}
+use Rattle.def_grammar.specs.Records.{top, read_def}
 use Rattle.lef_grammar.specs.LefRecords.{read_lef}
+use Rattle.definition_rows.proofs.Computing.{def_texts}
 
 -- the most bytes that a text may have
 most_text : MAX_TEXT ≡ 1073741824
@@ -34,10 +28,10 @@ of_scale scale = codes "UNITS DISTANCE MICRONS " ++ (scale ++ codes " ;\nEND DES
 -- 1 to 100000 database units per micron
 fewest_units : (read_def (of_scale (codes "1")) ≡ Ok (top (units (codes "1")) ∷ top end_design ∷ []))
     × (read_def (of_scale (codes "0")) ≡ Err (fault_at Number 23))
-unfolding read_text read_on lex last_of repeat split_at number_at is_int is_scale is_count whole section_word header_statement units_statement kept_statement plain_statement top_statement statement
+unfolding def_texts
 fewest_units = (refl, refl)
 
 most_units : (read_def (of_scale (codes "100000")) ≡ Ok (top (units (codes "100000")) ∷ top end_design ∷ []))
     × (read_def (of_scale (codes "100001")) ≡ Err (fault_at Number 23))
-unfolding read_text read_on lex last_of repeat split_at number_at is_int is_scale is_count whole section_word header_statement units_statement kept_statement plain_statement top_statement statement
+unfolding def_texts
 most_units = (refl, refl)

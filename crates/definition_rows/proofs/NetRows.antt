@@ -1,20 +1,12 @@
 -- Worked rows of the sections NETS and SPECIALNETS, by computing.
 use Rattle.std.proofs.Common.{true, false, List, ℕ, [], ◌∷◌, Some, None, refl, codes}
 use Rattle.design_model.specs.declared.geometry.Orient.TheVariants.{N, FW}
-use Rattle.design_model.specs.EnumWords.{orient_word}
-use Rattle.design_model.specs.Units.{whole}
-use Rattle.form_meanings.specs.Meaning.{repeat}
-use Rattle.form_meanings.specs.Words.{number_at, split_at}
-use Rattle.statement_model.specs.Tokens.{lex}
-use Rattle.def_grammar.specs.Numbers.{is_int, is_count}
-use Rattle.def_grammar.specs.Limits.{is_copies, is_array}
-use Rattle.def_grammar.specs.Parts.{point, orient}
-use Rattle.def_grammar.specs.Points.{two_numbers, is_coordinate, later_point, Corners, corners, polygon}
-use Rattle.def_grammar.specs.Clauses.{kept_clause}
-use Rattle.def_grammar.specs.Terminals.{Terminal, synthesized, terminal}
-use Rattle.def_grammar.specs.Wiring.{routed, fixed, cover, wiring_word, wiring_status, WirePoint, wire_start, wire_point, wire_rectangle, wire_via, array_size, via_array, special_via, path_mask, path_virtual, path_rectangle, path_point, path_via, net_item, special_item, net_path, special_path, tapered, tapered_by, not_tapered, taper, wire, wire_shape, wire_style, wire_mask, wire_mark, special_wire, new_wire, new_special_wire, noshield, wired, wiring, shields, special_wired, special_wires, special_wiring}
-use Rattle.def_grammar.specs.Nets.{net_subnet, net_use, net_rule, net_wiring, net_kept, net_listed, net_clause, net, must_join, is_net, net_form}
-use Rattle.def_grammar.specs.SpecialNets.{placed_via, special_subnet, special_use, special_shape_word, special_mask, special_rectangle, special_vias, special_polygon, special_has_wiring, special_kept, special_shape, special_listed, special_clause, special_net_form}
+use Rattle.def_grammar.specs.Points.{Corners}
+use Rattle.def_grammar.specs.Terminals.{Terminal}
+use Rattle.def_grammar.specs.Wiring.{routed, fixed, cover, WirePoint, path_mask, path_virtual, path_rectangle, path_point, path_via, tapered, tapered_by, not_tapered, wire_shape, wire_style, wire_mask, noshield, wired, wiring, shields, special_wired}
+use Rattle.def_grammar.specs.Nets.{net_subnet, net_use, net_rule, net_wiring, net_kept, must_join, is_net, net_form}
+use Rattle.def_grammar.specs.SpecialNets.{special_subnet, special_use, special_shape_word, special_mask, special_rectangle, special_vias, special_polygon, special_has_wiring, special_kept, special_net_form}
+use Rattle.definition_rows.proofs.Computing.{wire_entries}
 use Rattle.definition_rows.proofs.FormTexts.{tokens_of, Says, HasNoForm, IsBadAt, pt, kept}
 
 abbrev term : List ℕ → List ℕ → Terminal
@@ -39,7 +31,7 @@ terminals_read : Says net_form (codes "- n ( u1 Y ) ( PIN a ) ( * VDD ) ( u2 A +
 }))
     × HasNoForm net_form (codes "- n ( u1 ) ;") × HasNoForm net_form (codes "- n ( u1 * ) ;") × HasNoForm net_form (codes "- n ( u1 Y + X ) ;") × HasNoForm net_form (codes "- n ( u1 Y + SYNTHESIZED x ) ;")
     × HasNoForm net_form (codes "- n u1 Y ;") × HasNoForm net_form (codes "- n ( \"u\" Y ) ;") × HasNoForm net_form (codes "- * ;")
-unfolding lex repeat split_at number_at whole is_int is_count is_copies is_array is_coordinate orient_word wiring_word point orient later_point corners polygon kept_clause synthesized terminal wiring_status wire_start wire_point wire_rectangle two_numbers wire_via array_size via_array special_via net_item special_item net_path special_path taper wire wire_mark special_wire new_wire new_special_wire wiring special_wires special_wiring net_listed net_clause net net_form placed_via special_shape special_listed special_clause special_net_form
+unfolding wire_entries
 terminals_read = (refl, refl, refl, refl, refl, refl, refl, refl)
 
 -- a net as tools write it
@@ -66,7 +58,7 @@ usual_net : Says net_form (codes "- n1 ( u1 Y ) + USE SIGNAL + NONDEFAULTRULE w 
       })
       ∷ net_kept (kept (codes "X") (codes "y")) ∷ [];
 }))
-unfolding lex repeat split_at number_at whole is_int is_count is_copies is_array is_coordinate orient_word wiring_word point orient later_point corners polygon kept_clause synthesized terminal wiring_status wire_start wire_point wire_rectangle two_numbers wire_via array_size via_array special_via net_item special_item net_path special_path taper wire wire_mark special_wire new_wire new_special_wire wiring special_wires special_wiring net_listed net_clause net net_form placed_via special_shape special_listed special_clause special_net_form
+unfolding wire_entries
 usual_net = refl
 
 -- all that a path can hold, and several wires: tapers, a style, masks, extensions, a virtual point, a rectangle, and vias
@@ -99,7 +91,7 @@ full_wires : Says wiring (codes "NOSHIELD m1 TAPER MASK 1 ( 0 0 10 ) MASK 2 ( * 
   }
       ∷ record { layer = codes "NEW"; taper = not_tapered; style = None; path = record { mask = None; start = origin; items = [] } } ∷ [];
 })
-unfolding lex repeat split_at number_at whole is_int is_count is_copies is_array is_coordinate orient_word wiring_word point orient later_point corners polygon kept_clause synthesized terminal wiring_status wire_start wire_point wire_rectangle two_numbers wire_via array_size via_array special_via net_item special_item net_path special_path taper wire wire_mark special_wire new_wire new_special_wire wiring special_wires special_wiring net_listed net_clause net net_form placed_via special_shape special_listed special_clause special_net_form
+unfolding wire_entries
 full_wires = refl
 
 -- wiring without its form: no point, a path that begins with a via, two extensions, a string, an array of vias, TAPER after
@@ -107,7 +99,7 @@ full_wires = refl
 no_wires : HasNoForm wiring (codes "ROUTED met1") × HasNoForm wiring (codes "ROUTED met1 v ( 0 0 )") × HasNoForm wiring (codes "ROUTED met1 ( 0 0 ) ( 1 1 1 1 )") × HasNoForm wiring (codes "ROUTED met1 ( 0 0 \"s\" )")
     × HasNoForm wiring (codes "ROUTED met1 ( 0 0 ) v DO 2 BY 1 STEP 1 1") × HasNoForm wiring (codes "ROUTED met1 STYLE 1 TAPER ( 0 0 )") × HasNoForm wiring (codes "ROUTED met1 ( 0 0 ) NEW + X")
     × HasNoForm wiring (codes "SHIELD n met1 ( 0 0 )") × HasNoForm wiring (codes "ROUTED met1 ( 0 0 ) RECT v")
-unfolding lex repeat split_at number_at whole is_int is_count is_copies is_array is_coordinate orient_word wiring_word point orient later_point corners polygon kept_clause synthesized terminal wiring_status wire_start wire_point wire_rectangle two_numbers wire_via array_size via_array special_via net_item special_item net_path special_path taper wire wire_mark special_wire new_wire new_special_wire wiring special_wires special_wiring net_listed net_clause net net_form placed_via special_shape special_listed special_clause special_net_form
+unfolding wire_entries
 no_wires = (refl, refl, refl, refl, refl, refl, refl, refl, refl)
 
 -- clauses that are kept for want of their form; one whose word is a + or a string has no form at all
@@ -119,7 +111,7 @@ net_clauses_kept : Says net_form (codes "- n + USE a b + USE + ROUTED met1 + NON
       ∷ net_kept (kept (codes "ROUTED") (codes "met1 ( 150 * 0 0 ) \"s\"")) ∷ net_kept (kept (codes "SHIELD") (codes "x")) ∷ [];
 }))
     × HasNoForm net_form (codes "- n + + X ;") × HasNoForm net_form (codes "- n + USE + ;") × HasNoForm net_form (codes "- n + USE + + X ;") × HasNoForm net_form (codes "- n + \"x\" ;") × HasNoForm net_form (codes "- n + ;")
-unfolding lex repeat split_at number_at whole is_int is_count is_copies is_array is_coordinate orient_word wiring_word point orient later_point corners polygon kept_clause synthesized terminal wiring_status wire_start wire_point wire_rectangle two_numbers wire_via array_size via_array special_via net_item special_item net_path special_path taper wire wire_mark special_wire new_wire new_special_wire wiring special_wires special_wiring net_listed net_clause net net_form placed_via special_shape special_listed special_clause special_net_form
+unfolding wire_entries
 net_clauses_kept = (refl, refl, refl, refl, refl, refl)
 
 -- invalid numbers: a * in the first point, as an extension and in a rectangle, an extension below 0, a style; and no number
@@ -128,7 +120,7 @@ bad_nets : IsBadAt net_form (codes "- n + ROUTED met1 ( * 0 ) ( 1 0 ) ;") 20 × 
     × IsBadAt net_form (codes "- n + ROUTED met1 ( 0 0 ) RECT ( 0 0 * 1 ) ;") 37 × IsBadAt net_form (codes "- n + ROUTED met1 STYLE x ( 0 0 ) ;") 24
     × IsBadAt net_form (codes "- n + ROUTED met1 ( 0 0 ) VIRTUAL ( * y ) NEW met1 ( * 0 ) ;") 38
     × Says net_form (codes "- n + ROUTED ( x 0 ) ;") (is_net (record { name = codes "n"; terminals = []; clauses = net_kept (kept (codes "ROUTED") (codes "( x 0 )")) ∷ [] }))
-unfolding lex repeat split_at number_at whole is_int is_count is_copies is_array is_coordinate orient_word wiring_word point orient later_point corners polygon kept_clause synthesized terminal wiring_status wire_start wire_point wire_rectangle two_numbers wire_via array_size via_array special_via net_item special_item net_path special_path taper wire wire_mark special_wire new_wire new_special_wire wiring special_wires special_wiring net_listed net_clause net net_form placed_via special_shape special_listed special_clause special_net_form
+unfolding wire_entries
 bad_nets = (refl, refl, refl, refl, refl, refl, refl)
 
 -- MUSTJOIN and SUBNET take any tokens up to the ;
@@ -136,7 +128,7 @@ without_meaning : Says net_form (codes "- MUSTJOIN x \"s\" + ROUTED met1 ( x 0 )
     × Says net_form (codes "- n + USE a + SUBNET s ( u A ) + ROUTED met1 x ( 0 0 ) + ;") (is_net (record { name = codes "n"; terminals = []; clauses = net_use (codes "a") ∷ net_subnet (tokens_of (codes "s ( u A ) + ROUTED met1 x ( 0 0 ) +")) ∷ [] }))
     × Says special_net_form (codes "- P + SUBNET s + + ;") (record { name = codes "P"; terminals = []; clauses = special_subnet (tokens_of (codes "s + +")) ∷ [] })
     × Says special_net_form (codes "- MUSTJOIN ( * a ) ;") (record { name = codes "MUSTJOIN"; terminals = term (codes "*") (codes "a") ∷ []; clauses = [] })
-unfolding lex repeat split_at number_at whole is_int is_count is_copies is_array is_coordinate orient_word wiring_word point orient later_point corners polygon kept_clause synthesized terminal wiring_status wire_start wire_point wire_rectangle two_numbers wire_via array_size via_array special_via net_item special_item net_path special_path taper wire wire_mark special_wire new_wire new_special_wire wiring special_wires special_wiring net_listed net_clause net net_form placed_via special_shape special_listed special_clause special_net_form
+unfolding wire_entries
 without_meaning = (refl, refl, refl, refl, refl)
 
 -- a special net as tools write it, with marks, an array of vias, and NEW
@@ -171,7 +163,7 @@ usual_special_net : Says special_net_form (codes "- VDD ( * VDD ) + USE POWER + 
             } ∷ [];
       }) ∷ [];
 })
-unfolding lex repeat split_at number_at whole is_int is_count is_copies is_array is_coordinate orient_word wiring_word point orient later_point corners polygon kept_clause synthesized terminal wiring_status wire_start wire_point wire_rectangle two_numbers wire_via array_size via_array special_via net_item special_item net_path special_path taper wire wire_mark special_wire new_wire new_special_wire wiring special_wires special_wiring net_listed net_clause net net_form placed_via special_shape special_listed special_clause special_net_form
+unfolding wire_entries
 usual_special_net = refl
 
 -- the other clauses: wiring without a wire, also before SHAPE by itself, a shield, and shapes
@@ -187,7 +179,7 @@ special_clauses_read : Says special_net_form (codes "- P + FIXED + COVER + SHAPE
           ∷ special_vias (record { via = record { name = codes "w"; orient = None }; first = pt (codes "0") (codes "0"); others = [] })
           ∷ special_polygon (codes "m") (record { first = pt (codes "0") (codes "0"); second = pt (codes "*") (codes "9"); third = pt (codes "7") (codes "*"); others = pt (codes "8") (codes "8") ∷ [] }) ∷ [];
     })
-unfolding lex repeat split_at number_at whole is_int is_count is_copies is_array is_coordinate orient_word wiring_word point orient later_point corners polygon kept_clause synthesized terminal wiring_status wire_start wire_point wire_rectangle two_numbers wire_via array_size via_array special_via net_item special_item net_path special_path taper wire wire_mark special_wire new_wire new_special_wire wiring special_wires special_wiring net_listed net_clause net net_form placed_via special_shape special_listed special_clause special_net_form
+unfolding wire_entries
 special_clauses_read = refl
 
 -- clauses that are kept for want of their form: wiring that a mark in its midst has no form for is kept up to that +, and
@@ -202,7 +194,7 @@ special_clauses_kept : Says special_net_form (codes "- P + ROUTED met1 10 + SHAP
           ∷ special_kept (kept (codes "POLYGON") (codes "m ( 0 0 ) ( 1 1 )")) ∷ special_kept (kept (codes "SHAPE") []) ∷ special_kept (kept (codes "ROUTED") (codes "m ( 0 0 )")) ∷ [];
     })
     × HasNoForm special_net_form (codes "- P + ROUTED met1 10 + + X ;") × HasNoForm special_net_form (codes "- P x ;")
-unfolding lex repeat split_at number_at whole is_int is_count is_copies is_array is_coordinate orient_word wiring_word point orient later_point corners polygon kept_clause synthesized terminal wiring_status wire_start wire_point wire_rectangle two_numbers wire_via array_size via_array special_via net_item special_item net_path special_path taper wire wire_mark special_wire new_wire new_special_wire wiring special_wires special_wiring net_listed net_clause net net_form placed_via special_shape special_listed special_clause special_net_form
+unfolding wire_entries
 special_clauses_kept = (refl, refl, refl)
 
 -- invalid numbers: a width below 0, a *, a style; in an array, each number of vias by itself, their product at the first of
@@ -213,5 +205,5 @@ bad_special_nets : IsBadAt special_net_form (codes "- P + ROUTED m -1 ( 0 0 ) ;"
     × IsBadAt special_net_form (codes "- P + ROUTED met1 0 ( 0 0 ) M1M2 DO 2000000 BY x STEP 1 1 ;") 47
     × IsBadAt special_net_form (codes "- P + ROUTED met1 0 ( 0 0 ) M1M2 DO 1000 BY 1000 STEP 1 x ;") 56
     × IsBadAt special_net_form (codes "- P + ROUTED met1 0 ( 0 0 ) M1M2 DO 0 BY 5 STEP 1 1 ;") 36 × IsBadAt special_net_form (codes "- P + ROUTED met1 0 ( 0 0 ) M1M2 DO 5 BY 0 STEP 1 1 ;") 41
-unfolding lex repeat split_at number_at whole is_int is_count is_copies is_array is_coordinate orient_word wiring_word point orient later_point corners polygon kept_clause synthesized terminal wiring_status wire_start wire_point wire_rectangle two_numbers wire_via array_size via_array special_via net_item special_item net_path special_path taper wire wire_mark special_wire new_wire new_special_wire wiring special_wires special_wiring net_listed net_clause net net_form placed_via special_shape special_listed special_clause special_net_form
+unfolding wire_entries
 bad_special_nets = (refl, refl, refl, refl, refl, refl, refl, refl, refl, refl)

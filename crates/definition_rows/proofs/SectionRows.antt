@@ -2,24 +2,15 @@
 use Rattle.std.proofs.Common.{◌≡◌, [], ◌∷◌, Some, None, refl, codes}
 use Rattle.design_model.specs.declared.geometry.Orient.TheVariants.{N, FS}
 use Rattle.design_model.specs.declared.geometry.Status.TheVariants.{Placed, Fixed, Cover}
-use Rattle.design_model.specs.EnumWords.{orient_word, status_word}
-use Rattle.design_model.specs.Units.{whole}
-use Rattle.form_meanings.specs.Meaning.{repeat}
-use Rattle.form_meanings.specs.Words.{number_at, split_at}
-use Rattle.statement_model.specs.Tokens.{lex}
-use Rattle.def_grammar.specs.Numbers.{is_int, is_count}
-use Rattle.def_grammar.specs.Limits.{is_cuts}
-use Rattle.def_grammar.specs.Parts.{point, orient}
-use Rattle.def_grammar.specs.Components.{placement}
-use Rattle.def_grammar.specs.Points.{two_numbers, is_coordinate, later_point, points, Corners, corners, polygon, polygon_points}
-use Rattle.def_grammar.specs.Clauses.{kept_clause}
-use Rattle.def_grammar.specs.Pins.{spacing, design_rule_width, no_clearance, clearance, pin_rectangle, pin_via, pin_placed, pin_net, pin_port, pin_has_rectangle, pin_has_via, pin_has_polygon, pin_kept, pin_shape, pin_clause, pin_form}
-use Rattle.def_grammar.specs.Regions.{fence, guide, region_kind_word, region_type, region_kept, region_clause, region_points, later_corners, region_form}
-use Rattle.def_grammar.specs.Groups.{group_region, group_kept, region_named, group_clause, group_form}
-use Rattle.def_grammar.specs.Blockages.{blocks_layer, blocks_placement, blockage_kind, blockage_clause, blocked_rectangle, blocked_polygon, blockage_shape, blockage, blocks, blockage_kept, blockage_form}
-use Rattle.def_grammar.specs.Rules.{rule_layer, rule_has_layer, rule_kept, rule_clause, rule_form}
-use Rattle.def_grammar.specs.DefVias.{via_rectangle, via_polygon, two_sizes, via_layers, by_layer, cut_array, via_has_rectangle, via_has_polygon, via_rule, cut_size, on_layers, cut_spacing, enclosure, row_col, via_origin, via_offset, via_kept, via_array_clause, generated_clause, via_clause, def_via_form}
+use Rattle.def_grammar.specs.Points.{Corners, polygon_points}
+use Rattle.def_grammar.specs.Pins.{spacing, design_rule_width, no_clearance, pin_placed, pin_net, pin_port, pin_has_rectangle, pin_has_via, pin_has_polygon, pin_kept, pin_form}
+use Rattle.def_grammar.specs.Regions.{fence, guide, region_type, region_kept, region_points, region_form}
+use Rattle.def_grammar.specs.Groups.{group_region, group_kept, region_named, group_form}
+use Rattle.def_grammar.specs.Blockages.{blocks_layer, blocks_placement, blocked_rectangle, blocked_polygon, blocks, blockage_kept, blockage_form}
+use Rattle.def_grammar.specs.Rules.{rule_has_layer, rule_kept, rule_form}
+use Rattle.def_grammar.specs.DefVias.{via_has_rectangle, via_has_polygon, via_rule, cut_size, on_layers, cut_spacing, enclosure, row_col, via_origin, via_offset, via_kept, def_via_form}
 use Rattle.def_grammar.specs.Skipped.{skipped_form}
+use Rattle.definition_rows.proofs.Computing.{place_entries, wire_entries}
 use Rattle.definition_rows.proofs.FormTexts.{tokens_of, Says, HasNoForm, IsBadAt, pt, kept}
 
 -- two corners, at zero and at one
@@ -34,7 +25,7 @@ usual_pin : Says pin_form (codes "- a + NET n1 + DIRECTION INPUT + USE SIGNAL + 
       ∷ pin_has_rectangle (record { layer = codes "met1"; mask = None; clearance = no_clearance; corners = unit_corners })
       ∷ pin_placed Placed (pt (codes "10") (codes "20")) FS ∷ [];
 })
-unfolding lex repeat split_at number_at whole is_int is_count is_cuts is_coordinate orient_word status_word region_kind_word point orient placement later_point points corners polygon kept_clause clearance pin_rectangle pin_via pin_shape pin_clause pin_form later_corners region_clause region_form group_clause group_form blockage_kind blockage_clause blockage_shape blockage blockage_form rule_layer rule_clause rule_form via_rectangle via_polygon two_numbers two_sizes via_layers by_layer cut_array via_array_clause generated_clause via_clause def_via_form skipped_form
+unfolding place_entries wire_entries
 usual_pin = refl
 
 -- ports, with the other shapes, masks and clearances
@@ -47,7 +38,7 @@ pin_ports : Says pin_form (codes "- a + PORT + LAYER m MASK 1 SPACING -5 ( 0 0 )
           ∷ pin_has_rectangle (record { layer = codes "m"; mask = None; clearance = design_rule_width (codes "7"); corners = unit_corners }) ∷ pin_placed Cover (pt (codes "0") (codes "0")) N ∷ [];
     })
     × Says pin_form (codes "- a + POLYGON m MASK x \"s\" ( ;") (record { name = codes "a"; clauses = pin_has_polygon (codes "m") (tokens_of (codes "MASK x \"s\" (")) ∷ [] })
-unfolding lex repeat split_at number_at whole is_int is_count is_cuts is_coordinate orient_word status_word region_kind_word point orient placement later_point points corners polygon kept_clause clearance pin_rectangle pin_via pin_shape pin_clause pin_form later_corners region_clause region_form group_clause group_form blockage_kind blockage_clause blockage_shape blockage blockage_form rule_layer rule_clause rule_form via_rectangle via_polygon two_numbers two_sizes via_layers by_layer cut_array via_array_clause generated_clause via_clause def_via_form skipped_form
+unfolding place_entries wire_entries
 pin_ports = (refl, refl)
 
 -- a clause of PINS that is listed must have its form; nothing stands between the name and the first clause
@@ -55,7 +46,7 @@ no_pins : HasNoForm pin_form (codes "- a x ;") × HasNoForm pin_form (codes "- a
     × HasNoForm pin_form (codes "- a + LAYER m ( 0 0 ) ;") × HasNoForm pin_form (codes "- a + LAYER m MASK 1 SPACING 1 DESIGNRULEWIDTH 2 ( 0 0 ) ( 1 1 ) ;")
     × HasNoForm pin_form (codes "- a + VIA v ( 0 0 ) ( 1 1 ) ;") × HasNoForm pin_form (codes "- a + POLYGON ;") × HasNoForm pin_form (codes "- a + PLACED ( 0 0 ) ;")
     × HasNoForm pin_form (codes "- a + + X ;") × HasNoForm pin_form (codes "- a + \"x\" ;") × HasNoForm pin_form (codes "- a + LAYER m MASK \"1\" ( 0 0 ) ( 1 1 ) ;")
-unfolding lex repeat split_at number_at whole is_int is_count is_cuts is_coordinate orient_word status_word region_kind_word point orient placement later_point points corners polygon kept_clause clearance pin_rectangle pin_via pin_shape pin_clause pin_form later_corners region_clause region_form group_clause group_form blockage_kind blockage_clause blockage_shape blockage blockage_form rule_layer rule_clause rule_form via_rectangle via_polygon two_numbers two_sizes via_layers by_layer cut_array via_array_clause generated_clause via_clause def_via_form skipped_form
+unfolding place_entries wire_entries
 no_pins = (refl, refl, refl, refl, refl, refl, refl, refl, refl, refl, refl, refl)
 
 -- invalid numbers, and a * in the first point of a row and in a single point
@@ -66,7 +57,7 @@ bad_pins : IsBadAt pin_form (codes "- a + LAYER m SPACING x ( 0 0 ) ( 1 1 ) ;") 
       clauses =
           pin_has_rectangle (record { layer = codes "m"; mask = None; clearance = no_clearance; corners = record { first = pt (codes "0") (codes "0"); second = pt (codes "1") (codes "*") } }) ∷ [];
     })
-unfolding lex repeat split_at number_at whole is_int is_count is_cuts is_coordinate orient_word status_word region_kind_word point orient placement later_point points corners polygon kept_clause clearance pin_rectangle pin_via pin_shape pin_clause pin_form later_corners region_clause region_form group_clause group_form blockage_kind blockage_clause blockage_shape blockage blockage_form rule_layer rule_clause rule_form via_rectangle via_polygon two_numbers two_sizes via_layers by_layer cut_array via_array_clause generated_clause via_clause def_via_form skipped_form
+unfolding place_entries wire_entries
 bad_pins = (refl, refl, refl, refl, refl)
 
 -- a region of two rectangles, whose corners are one row of points
@@ -79,14 +70,14 @@ regions_read : Says region_form (codes "- F ( 0 0 ) ( 920 2720 ) ( * 0 ) ( 1840 
     × (region_points (record { name = codes "F"; first = unit_corners; others = record { first = pt (codes "*") (codes "0"); second = pt (codes "5") (codes "*") } ∷ []; clauses = [] })
     ≡ pt (codes "0") (codes "0") ∷ pt (codes "1") (codes "1") ∷ pt (codes "1") (codes "0") ∷ pt (codes "5") (codes "0") ∷ [])
     × Says region_form (codes "- G ( 0 0 ) ( 1 1 ) + TYPE GUIDE ;") (record { name = codes "G"; first = unit_corners; others = []; clauses = region_type guide ∷ [] })
-unfolding lex repeat split_at number_at whole is_int is_count is_cuts is_coordinate orient_word status_word region_kind_word point orient placement later_point points corners polygon kept_clause clearance pin_rectangle pin_via pin_shape pin_clause pin_form later_corners region_clause region_form group_clause group_form blockage_kind blockage_clause blockage_shape blockage blockage_form rule_layer rule_clause rule_form via_rectangle via_polygon two_numbers two_sizes via_layers by_layer cut_array via_array_clause generated_clause via_clause def_via_form skipped_form
+unfolding place_entries wire_entries
 regions_read = (refl, refl, refl)
 
 -- no rectangle, half of one, another type, and a type with more; invalid numbers
 no_regions : HasNoForm region_form (codes "- F ;") × HasNoForm region_form (codes "- F ( 0 0 ) ;") × HasNoForm region_form (codes "- F ( 0 0 ) ( 1 1 ) ( 2 2 ) ;")
     × HasNoForm region_form (codes "- F ( 0 0 ) ( 1 1 ) + TYPE X ;") × HasNoForm region_form (codes "- F ( 0 0 ) ( 1 1 ) + TYPE FENCE X ;")
     × IsBadAt region_form (codes "- F ( * 0 ) ( 1 1 ) ;") 6 × IsBadAt region_form (codes "- F ( 0 0 ) ( 1 1 ) ( 2 x ) ( 3 3 ) ;") 24
-unfolding lex repeat split_at number_at whole is_int is_count is_cuts is_coordinate orient_word status_word region_kind_word point orient placement later_point points corners polygon kept_clause clearance pin_rectangle pin_via pin_shape pin_clause pin_form later_corners region_clause region_form group_clause group_form blockage_kind blockage_clause blockage_shape blockage blockage_form rule_layer rule_clause rule_form via_rectangle via_polygon two_numbers two_sizes via_layers by_layer cut_array via_array_clause generated_clause via_clause def_via_form skipped_form
+unfolding place_entries wire_entries
 no_regions = (refl, refl, refl, refl, refl, refl, refl)
 
 -- groups: their patterns are words, and REGION means something with one name
@@ -98,7 +89,7 @@ groups_read : Says group_form (codes "- g u* a/b ( + REGION F + REGION ( 0 0 ) +
     × (region_named (group_region (codes "F" ∷ [])) ≡ Some (codes "F")) × (region_named (group_region (tokens_of (codes "( 0 0 )"))) ≡ None) × (region_named (group_region (codes "*" ∷ [])) ≡ None)
     × Says group_form (codes "- g ;") (record { name = codes "g"; patterns = []; clauses = [] })
     × HasNoForm group_form (codes "- g \"u\" ;") × HasNoForm group_form (codes "- g u + ;") × HasNoForm group_form (codes "- * u ;")
-unfolding lex repeat split_at number_at whole is_int is_count is_cuts is_coordinate orient_word status_word region_kind_word point orient placement later_point points corners polygon kept_clause clearance pin_rectangle pin_via pin_shape pin_clause pin_form later_corners region_clause region_form group_clause group_form blockage_kind blockage_clause blockage_shape blockage blockage_form rule_layer rule_clause rule_form via_rectangle via_polygon two_numbers two_sizes via_layers by_layer cut_array via_array_clause generated_clause via_clause def_via_form skipped_form
+unfolding place_entries wire_entries
 groups_read = (refl, refl, refl, refl, refl, refl, refl, refl)
 
 -- blockages with clauses and several shapes, each with a row of points of its own
@@ -111,7 +102,7 @@ blockages_read : Says blockage_form (codes "- LAYER met1 + SLOTS + SPACING 5 REC
     × Says blockage_form (codes "- PLACEMENT + SOFT RECT ( 0 0 ) ( 1 1 ) ;") (blocks (record { kind = blocks_placement; clauses = kept (codes "SOFT") [] ∷ []; first = blocked_rectangle unit_corners; others = [] }))
     × (polygon_points (record { first = pt (codes "0") (codes "0"); second = pt (codes "*") (codes "9"); third = pt (codes "7") (codes "*"); others = [] })
     ≡ pt (codes "0") (codes "0") ∷ pt (codes "0") (codes "9") ∷ pt (codes "7") (codes "9") ∷ [])
-unfolding lex repeat split_at number_at whole is_int is_count is_cuts is_coordinate orient_word status_word region_kind_word point orient placement later_point points corners polygon kept_clause clearance pin_rectangle pin_via pin_shape pin_clause pin_form later_corners region_clause region_form group_clause group_form blockage_kind blockage_clause blockage_shape blockage blockage_form rule_layer rule_clause rule_form via_rectangle via_polygon two_numbers two_sizes via_layers by_layer cut_array via_array_clause generated_clause via_clause def_via_form skipped_form
+unfolding place_entries wire_entries
 blockages_read = (refl, refl, refl)
 
 -- entries kept for want of their form: with nothing, no shape, a clause behind the shapes, RECT as a clause's word, a + as
@@ -123,12 +114,12 @@ blockages_kept : Says blockage_form (codes "- ;") (blockage_kept []) × Says blo
     × Says blockage_form (codes "- PLACEMENT POLYGON ( 0 0 ) ( 1 1 ) ;") (blockage_kept (tokens_of (codes "PLACEMENT POLYGON ( 0 0 ) ( 1 1 )")))
     × Says blockage_form (codes "- PLACEMENT RECT ( 0 \"0\" ) ( x 1 ) ;") (blockage_kept (tokens_of (codes "PLACEMENT RECT ( 0 \"0\" ) ( x 1 )")))
     × HasNoForm blockage_form (codes "PLACEMENT RECT ( 0 0 ) ( 1 1 ) ;")
-unfolding lex repeat split_at number_at whole is_int is_count is_cuts is_coordinate orient_word status_word region_kind_word point orient placement later_point points corners polygon kept_clause clearance pin_rectangle pin_via pin_shape pin_clause pin_form later_corners region_clause region_form group_clause group_form blockage_kind blockage_clause blockage_shape blockage blockage_form rule_layer rule_clause rule_form via_rectangle via_polygon two_numbers two_sizes via_layers by_layer cut_array via_array_clause generated_clause via_clause def_via_form skipped_form
+unfolding place_entries wire_entries
 blockages_kept = (refl, refl, refl, refl, refl, refl, refl, refl)
 
 -- invalid numbers of an entry with its form
 bad_blockages : IsBadAt blockage_form (codes "- PLACEMENT RECT ( 0 0 ) ( 1 1 ) RECT ( * 0 ) ( 1 1 ) ;") 40 × IsBadAt blockage_form (codes "- LAYER m POLYGON ( 0 0 ) ( 1 1 ) ( 2 x ) ;") 38
-unfolding lex repeat split_at number_at whole is_int is_count is_cuts is_coordinate orient_word status_word region_kind_word point orient placement later_point points corners polygon kept_clause clearance pin_rectangle pin_via pin_shape pin_clause pin_form later_corners region_clause region_form group_clause group_form blockage_kind blockage_clause blockage_shape blockage blockage_form rule_layer rule_clause rule_form via_rectangle via_polygon two_numbers two_sizes via_layers by_layer cut_array via_array_clause generated_clause via_clause def_via_form skipped_form
+unfolding place_entries wire_entries
 bad_blockages = (refl, refl)
 
 -- a generated via
@@ -140,7 +131,7 @@ generated_via : Says def_via_form (codes "- g + VIARULE r + CUTSIZE 150 150 + LA
           ∷ enclosure (record { bottom = pt (codes "85") (codes "55"); top = pt (codes "55") (codes "-85") }) ∷ row_col (record { rows = codes "2"; columns = codes "3" })
           ∷ via_origin (pt (codes "-1") (codes "1")) ∷ via_offset (record { bottom = pt (codes "1") (codes "2"); top = pt (codes "3") (codes "4") }) ∷ via_kept (kept (codes "PATTERN") (codes "2_F0")) ∷ [];
     })
-unfolding lex repeat split_at number_at whole is_int is_count is_cuts is_coordinate orient_word status_word region_kind_word point orient placement later_point points corners polygon kept_clause clearance pin_rectangle pin_via pin_shape pin_clause pin_form later_corners region_clause region_form group_clause group_form blockage_kind blockage_clause blockage_shape blockage blockage_form rule_layer rule_clause rule_form via_rectangle via_polygon two_numbers two_sizes via_layers by_layer cut_array via_array_clause generated_clause via_clause def_via_form skipped_form
+unfolding place_entries wire_entries
 generated_via = refl
 
 -- rectangles and polygons, with a mask and without, and a polygon without points
@@ -151,7 +142,7 @@ listed_via : Says def_via_form (codes "- v + RECT m ( 0 0 ) ( 1 1 ) + RECT m + M
       ∷ via_has_polygon (record { layer = codes "m"; mask = None; points = pt (codes "0") (codes "0") ∷ pt (codes "*") (codes "5") ∷ [] })
       ∷ via_has_polygon (record { layer = codes "n"; mask = None; points = [] }) ∷ [];
 })
-unfolding lex repeat split_at number_at whole is_int is_count is_cuts is_coordinate orient_word status_word region_kind_word point orient placement later_point points corners polygon kept_clause clearance pin_rectangle pin_via pin_shape pin_clause pin_form later_corners region_clause region_form group_clause group_form blockage_kind blockage_clause blockage_shape blockage blockage_form rule_layer rule_clause rule_form via_rectangle via_polygon two_numbers two_sizes via_layers by_layer cut_array via_array_clause generated_clause via_clause def_via_form skipped_form
+unfolding place_entries wire_entries
 listed_via = refl
 
 -- the longest fit of a polygon: its mask and points; its mask alone; where no points are behind the mask, the name alone,
@@ -172,21 +163,21 @@ longest_polygons : Says def_via_form (codes "- v + POLYGON m + MASK 1 ( 0 0 ) ;"
       clauses =
           via_has_polygon (record { layer = codes "m"; mask = None; points = pt (codes "0") (codes "0") ∷ [] }) ∷ via_kept (kept (codes "MASK") (codes "1")) ∷ [];
     })
-unfolding lex repeat split_at number_at whole is_int is_count is_cuts is_coordinate orient_word status_word region_kind_word point orient placement later_point points corners polygon kept_clause clearance pin_rectangle pin_via pin_shape pin_clause pin_form later_corners region_clause region_form group_clause group_form blockage_kind blockage_clause blockage_shape blockage blockage_form rule_layer rule_clause rule_form via_rectangle via_polygon two_numbers two_sizes via_layers by_layer cut_array via_array_clause generated_clause via_clause def_via_form skipped_form
+unfolding place_entries wire_entries
 longest_polygons = (refl, refl, refl, refl)
 
 -- clauses of VIAS that are listed and haven't their form
 no_vias : HasNoForm def_via_form (codes "- v + RECT m + FOO ( 0 0 ) ( 1 1 ) ;") × HasNoForm def_via_form (codes "- v + RECT m ;") × HasNoForm def_via_form (codes "- v + POLYGON m ( 0 ) ;")
     × HasNoForm def_via_form (codes "- v + CUTSIZE 1 ;") × HasNoForm def_via_form (codes "- v + LAYERS a b ;") × HasNoForm def_via_form (codes "- v + ORIGIN 1 2 3 ;") × HasNoForm def_via_form (codes "- v + VIARULE ;")
     × HasNoForm def_via_form (codes "- v w ;")
-unfolding lex repeat split_at number_at whole is_int is_count is_cuts is_coordinate orient_word status_word region_kind_word point orient placement later_point points corners polygon kept_clause clearance pin_rectangle pin_via pin_shape pin_clause pin_form later_corners region_clause region_form group_clause group_form blockage_kind blockage_clause blockage_shape blockage blockage_form rule_layer rule_clause rule_form via_rectangle via_polygon two_numbers two_sizes via_layers by_layer cut_array via_array_clause generated_clause via_clause def_via_form skipped_form
+unfolding place_entries wire_entries
 no_vias = (refl, refl, refl, refl, refl, refl, refl, refl)
 
 -- invalid numbers, also in a polygon that fits at two lengths; and the limits of cuts
 bad_vias : IsBadAt def_via_form (codes "- v + POLYGON m + MASK 1 ( x 0 ) ;") 27 × IsBadAt def_via_form (codes "- v + RECT m ( * 0 ) ( 1 1 ) ;") 15 × IsBadAt def_via_form (codes "- v + CUTSIZE 1 -1 ;") 16
     × IsBadAt def_via_form (codes "- v + CUTSPACING -1 1 ;") 17 × IsBadAt def_via_form (codes "- v + ROWCOL 0 1 ;") 13 × IsBadAt def_via_form (codes "- v + ROWCOL 1 1000001 ;") 15
     × IsBadAt def_via_form (codes "- v + OFFSET 1 2 3 * ;") 19
-unfolding lex repeat split_at number_at whole is_int is_count is_cuts is_coordinate orient_word status_word region_kind_word point orient placement later_point points corners polygon kept_clause clearance pin_rectangle pin_via pin_shape pin_clause pin_form later_corners region_clause region_form group_clause group_form blockage_kind blockage_clause blockage_shape blockage blockage_form rule_layer rule_clause rule_form via_rectangle via_polygon two_numbers two_sizes via_layers by_layer cut_array via_array_clause generated_clause via_clause def_via_form skipped_form
+unfolding place_entries wire_entries
 bad_vias = (refl, refl, refl, refl, refl, refl, refl)
 
 -- rules
@@ -196,10 +187,10 @@ rules_read : Says rule_form (codes "- r + HARDSPACING + LAYER m WIDTH 10 SPACING
       rule_kept (kept (codes "HARDSPACING") []) ∷ rule_has_layer (record { layer = codes "m"; width = codes "10"; rest = tokens_of (codes "SPACING 5") }) ∷ rule_kept (kept (codes "VIA") (codes "v")) ∷ [];
 })
     × HasNoForm rule_form (codes "- r + LAYER m SPACING 5 ;") × HasNoForm rule_form (codes "- r + LAYER m WIDTH ;") × IsBadAt rule_form (codes "- r + LAYER m WIDTH -1 ;") 20
-unfolding lex repeat split_at number_at whole is_int is_count is_cuts is_coordinate orient_word status_word region_kind_word point orient placement later_point points corners polygon kept_clause clearance pin_rectangle pin_via pin_shape pin_clause pin_form later_corners region_clause region_form group_clause group_form blockage_kind blockage_clause blockage_shape blockage blockage_form rule_layer rule_clause rule_form via_rectangle via_polygon two_numbers two_sizes via_layers by_layer cut_array via_array_clause generated_clause via_clause def_via_form skipped_form
+unfolding place_entries wire_entries
 rules_read = (refl, refl, refl, refl)
 
 -- entries of the sections that are skipped
 skipped_read : Says skipped_form (codes "- a \"b\" + + ( - ;") (tokens_of (codes "a \"b\" + + ( -")) × Says skipped_form (codes "- ;") [] × HasNoForm skipped_form (codes "a ;")
-unfolding lex repeat split_at number_at whole is_int is_count is_cuts is_coordinate orient_word status_word region_kind_word point orient placement later_point points corners polygon kept_clause clearance pin_rectangle pin_via pin_shape pin_clause pin_form later_corners region_clause region_form group_clause group_form blockage_kind blockage_clause blockage_shape blockage blockage_form rule_layer rule_clause rule_form via_rectangle via_polygon two_numbers two_sizes via_layers by_layer cut_array via_array_clause generated_clause via_clause def_via_form skipped_form
+unfolding place_entries wire_entries
 skipped_read = (refl, refl, refl)

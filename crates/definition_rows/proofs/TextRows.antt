@@ -10,18 +10,12 @@ use Rattle.design_model.specs.declared.edit.EditRefusal.TheVariants.{Refused, Un
 use Rattle.design_model.specs.declared.geometry.Orient.TheVariants.{N}
 use Rattle.design_model.specs.declared.geometry.Status.TheVariants.{Placed}
 use Rattle.design_model.specs.declared.mode.Section.TheVariants.{Components}
-use Rattle.design_model.specs.EnumWords.{orient_word, status_word, section_word}
+use Rattle.design_model.specs.EnumWords.{orient_word, section_word}
 use Rattle.design_model.specs.Units.{whole, distance}
-use Rattle.form_meanings.specs.Meaning.{repeat}
-use Rattle.form_meanings.specs.Words.{number_at, split_at}
-use Rattle.statement_model.specs.Tokens.{lex}
-use Rattle.statement_model.specs.Boundaries.{last_of}
-use Rattle.statement_model.specs.Reading.{fault_at, read_on, read_text}
-use Rattle.def_grammar.specs.Numbers.{is_int, is_scale, is_count}
-use Rattle.def_grammar.specs.Parts.{point, orient}
-use Rattle.def_grammar.specs.Components.{placed, placement, clause, component_form}
-use Rattle.def_grammar.specs.Top.{units, header, end_design, units_statement, header_statement, kept_statement, plain_statement, top_statement}
-use Rattle.def_grammar.specs.Records.{Record, top, end_section, entry, component, entries_form, statement, read_def}
+use Rattle.statement_model.specs.Reading.{fault_at}
+use Rattle.def_grammar.specs.Components.{placed}
+use Rattle.def_grammar.specs.Top.{units, header, end_design}
+use Rattle.def_grammar.specs.Records.{Record, top, end_section, entry, component, read_def}
 use Rattle.lef_grammar.specs.Library.{empty_library}
 use Rattle.design_rules.specs.Boxes.{Boxed}
 use Rattle.design_rules.specs.Diagnostics.{diagnostics}
@@ -30,6 +24,7 @@ use Rattle.design_rules.specs.Families.{pair_lines}
 use Rattle.design_rules.specs.OverlapLines.{overlap_of}
 use Rattle.design_rules.specs.Runs.{design_edit, text_edit, text_outcome}
 use Rattle.design_rules.specs.Script.{report, nothing, make, refuse, ask, bad, order_of, script_lines, unescaped}
+use Rattle.definition_rows.proofs.Computing.{def_texts}
 use Rattle.definition_rows.proofs.DefRows.{two}
 
 -- bytes put in place of those from a up to b of the text of two components leave a text with this fault
@@ -48,12 +43,12 @@ report_after (Err refusal) = None
 
 -- a comment put before END DESIGN, which runs on to the line's end
 end_in_a_comment : Spoils 241 241 (codes "#") Unfinished 253
-unfolding read_text read_on lex last_of repeat split_at number_at is_int is_scale is_count whole orient_word status_word section_word point orient placement clause component_form entries_form units_statement header_statement kept_statement plain_statement top_statement statement
+unfolding def_texts
 end_in_a_comment = refl
 
 -- nothing put in place of nothing
 nothing_put : text_outcome two 252 252 [] ≡ Ok two
-unfolding read_text read_on lex last_of repeat split_at number_at is_int is_scale is_count whole orient_word status_word section_word point orient placement clause component_form entries_form units_statement header_statement kept_statement plain_statement top_statement statement
+unfolding def_texts
 nothing_put = refl
 
 -- a range that ends behind the text, and one whose ends are turned
@@ -62,48 +57,48 @@ out_of_range = (refl, refl)
 
 -- a quote without another
 open_string : Spoils 188 188 (codes "\"") OpenString 188
-unfolding read_text read_on lex last_of repeat split_at number_at is_int is_scale is_count whole orient_word status_word section_word point orient placement clause component_form entries_form units_statement header_statement kept_statement plain_statement top_statement statement
+unfolding def_texts
 open_string = refl
 
 -- END COMPONENTS taken out
 no_end : Spoils 226 240 [] NoForm 227
-unfolding read_text read_on lex last_of repeat split_at number_at is_int is_scale is_count whole orient_word status_word section_word point orient placement clause component_form entries_form units_statement header_statement kept_statement plain_statement top_statement statement
+unfolding def_texts
 no_end = refl
 
 -- the first component named as the second
 same_name : Spoils 185 187 (codes "u2") NameTaken 194
-unfolding read_text read_on lex last_of repeat split_at number_at is_int is_scale is_count whole orient_word status_word section_word point orient placement clause component_form entries_form units_statement header_statement kept_statement plain_statement top_statement statement
+unfolding def_texts
 same_name = refl
 
 -- the first component without its name, whose cell is read as it
 no_name : Spoils 185 187 [] NoForm 183
-unfolding read_text read_on lex last_of repeat split_at number_at is_int is_scale is_count whole orient_word status_word section_word point orient placement clause component_form entries_form units_statement header_statement kept_statement plain_statement top_statement statement
+unfolding def_texts
 no_name = refl
 
 -- a ; more, which is a statement of its own
 one_more_end : Spoils 192 192 (codes "; ") NoForm 194
-unfolding read_text read_on lex last_of repeat split_at number_at is_int is_scale is_count whole orient_word status_word section_word point orient placement clause component_form entries_form units_statement header_statement kept_statement plain_statement top_statement statement
+unfolding def_texts
 one_more_end = refl
 
 -- a comment that runs on over the next line, as its line feed is taken out: over the second entry, which the header still
 -- counts, and over the end of the section
 comment_runs_on : (report_after (text_outcome two 193 194 (codes " #")) ≡ Some (codes "count COMPONENTS 2 1" ∷ [])) × Spoils 225 226 (codes " # ") NoForm 243
-unfolding read_text read_on lex last_of repeat split_at number_at is_int is_scale is_count whole orient_word status_word section_word point orient placement clause component_form entries_form units_statement header_statement kept_statement plain_statement top_statement statement digits
+unfolding def_texts
 comment_runs_on = (refl, refl)
 
 -- a # behind a byte of a word begins no comment: the two entries are one
 no_comment : report_after (text_outcome two 193 194 (codes "#")) ≡ Some (codes "count COMPONENTS 2 1" ∷ [])
-unfolding read_text read_on lex last_of repeat split_at number_at is_int is_scale is_count whole orient_word status_word section_word point orient placement clause component_form entries_form units_statement header_statement kept_statement plain_statement top_statement statement digits
+unfolding def_texts
 no_comment = refl
 
 -- an entry that becomes two
 two_of_one : report_after (text_outcome two 188 188 (codes "INV ; - u3 ")) ≡ Some (codes "count COMPONENTS 2 3" ∷ [])
-unfolding read_text read_on lex last_of repeat split_at number_at is_int is_scale is_count whole orient_word status_word section_word point orient placement clause component_form entries_form units_statement header_statement kept_statement plain_statement top_statement statement digits
+unfolding def_texts
 two_of_one = refl
 
 -- bytes put in anew after they were taken out
 put_back : text_outcome (take 185 two ++ drop 187 two) 185 185 (codes "u1") ≡ Ok two
-unfolding read_text read_on lex last_of repeat split_at number_at is_int is_scale is_count whole orient_word status_word section_word point orient placement clause component_form entries_form units_statement header_statement kept_statement plain_statement top_statement statement
+unfolding def_texts
 put_back = refl
 
 -- a design whose header says this number of entries, and then has these
@@ -116,19 +111,19 @@ report_counting number entries = report_of (read_def (counting number entries))
 -- as many entries as the header says, however its number is written
 counted_well : (report_counting (codes "2") (codes "- a INV ;\n- b INV ;\n") ≡ Some []) × (report_counting (codes "+2") (codes "- a INV ;\n- b INV ;\n") ≡ Some [])
     × (report_counting (codes "002") (codes "- a INV ;\n- b INV ;\n") ≡ Some []) × (report_counting (codes "-0") [] ≡ Some [])
-unfolding read_text read_on lex last_of repeat split_at number_at is_int is_scale is_count whole orient_word status_word section_word point orient placement clause component_form entries_form units_statement header_statement kept_statement plain_statement top_statement statement
+unfolding def_texts
 counted_well = (refl, refl, refl, refl)
 
 -- more or fewer of them, and none; the number is written without its sign and zeros
 counted_ill : (report_counting (codes "3") (codes "- a INV ;\n- b INV ;\n") ≡ Some (codes "count COMPONENTS 3 2" ∷ []))
     × (report_counting (codes "+01") (codes "- a INV ;\n- b INV ;\n") ≡ Some (codes "count COMPONENTS 1 2" ∷ []))
     × (report_counting (codes "1") [] ≡ Some (codes "count COMPONENTS 1 0" ∷ []))
-unfolding read_text read_on lex last_of repeat split_at number_at is_int is_scale is_count whole orient_word status_word section_word point orient placement clause component_form entries_form units_statement header_statement kept_statement plain_statement top_statement statement digits
+unfolding def_texts
 counted_ill = (refl, refl, refl)
 
 -- a text without the section
 no_section : report_of (read_def (codes "UNITS DISTANCE MICRONS 1000 ;\nEND DESIGN\n")) ≡ Some []
-unfolding read_text read_on lex last_of repeat split_at number_at is_int is_scale is_count whole orient_word status_word section_word point orient placement clause component_form entries_form units_statement header_statement kept_statement plain_statement top_statement statement
+unfolding def_texts
 no_section = refl
 
 -- a header's line stands before that of two components that overlap

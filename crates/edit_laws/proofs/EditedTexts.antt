@@ -1,5 +1,5 @@
 -- A text with the cuts of an accepted edit made reads as the edited design, and keeps its other bytes.
-use Rattle.std.proofs.Common.{◌≡◌, ℕ, Bool, true, false, ◌||◌, List, [], ◌∷◌, Ok, Option, Some, None, ℤ, refl, sym, ap, subst, ◌∙◌, ⊎_elim}
+use Rattle.std.proofs.Common.{◌≡◌, inl, inr, ℕ, Bool, true, false, ◌||◌, List, [], ◌∷◌, Ok, Option, Some, None, ℤ, refl, sym, ap, subst, ◌∙◌, ⊎_elim}
 use Rattle.std.specs.Str.{bytes_eq}
 use Rattle.std.proofs.lemmas.Bool.{cases_Bool as cases, or_parts}
 use Rattle.std.proofs.lemmas.Slice.Eq.{bytes_eq-Decides}
@@ -47,6 +47,8 @@ module _ (name : List ℕ) (x y : ℤ) (o : Orient) (c : Component) (named : c.n
       absurd (cc))
       (λ (no_match : bytes_eq d.name name ≡ false). ap (placed_if x y o d) no_match)
       (cases (bytes_eq d.name name))
+  others_stay (inl (inr other)) differs = refl
+  others_stay (inr other) differs = refl
 
   place_edits : IsEditOf (edited (place name x y o)) (component c) (place_change x y o c).said
   place_edits =

@@ -1,65 +1,67 @@
 -- Entries of all sections: what is known of one that reads, and what one that fits reads as.
-use Rattle.std.proofs.Common.{◌≡◌, ℕ, List, [], ◌∷◌, ◌++◌, Option, Some, None, Ok, refl, sym, ap, ◌∙◌, codes}
-use Rattle.std.specs.List.{All}
+use Rattle.std.proofs.Common.{◌≡◌, ◌⊎◌, inl, inr, ℕ, List, [], ◌∷◌, ◌++◌, Option, Some, None, Ok, refl, sym, ap, ◌∙◌, codes}
 use Rattle.design_model.specs.declared.mode.Mode.{Mode}
 use Rattle.design_model.specs.declared.mode.Mode.TheVariants.{Top, In, Props, After}
 use Rattle.design_model.specs.declared.mode.Section.{Section}
-use Rattle.design_model.specs.declared.mode.Section.TheVariants.{Components}
-use Rattle.design_model.specs.EnumWords.{status_word, statuses, orient_word, orients}
-use Rattle.form_meanings.specs.Words.{is_word, is_plus, first_passes}
+use Rattle.design_model.specs.declared.mode.Section.TheVariants.{Components, Pins, Regions, Groups, Blockages, Nets, SpecialNets, Vias, NonDefaultRules, ScanChains, PinProperties, Slots, Fills, Styles}
+use Rattle.form_meanings.specs.Meaning.{Meaning, left_meaning, right_meaning}
+use Rattle.form_meanings.specs.Words.{is_word, first_passes}
 use Rattle.statement_model.specs.Tokens.{Piece}
 use Rattle.statement_model.specs.Boundaries.{words, statements}
-use Rattle.statement_model.specs.Form.{spell, Fits, whole, ◌⨟◌, ◌◂◌, many}
+use Rattle.statement_model.specs.Form.{spell, Fits, whole}
 use Rattle.statement_model.specs.Reading.{read_form}
-use Rattle.def_grammar.specs.Parts.{as_point, point, orient, name, rest}
-use Rattle.def_grammar.specs.Components.{Component, component_form, clause, placement, is_status, as_component}
-use Rattle.def_grammar.specs.Records.{Entry, component, section_of, Record, entry, entries_form, statement, def_ending, def}
+use Rattle.def_grammar.specs.Records.{Entry, component, pin, region, group, blockage, net, special_net, via, rule, section_of, Record, entry, skipped_entries, entries_form, statement, def_ending, def}
 use Rattle.statement_laws.proofs.Whole.{whole_shows, reads_as_spelled}
 use Rattle.edit_laws.specs.EntryLaws.{IsWritten}
-use Rattle.edit_laws.proofs.Plain.{GoesOn, Plain, word_plain, number_plain, one_of_plain, upto_plain, behind_plain, before_plain, closed_plain, seq_plain, alt_plain, many_plain, seen_plain, EndsOnce, before_ends, seq_ends}
+use Rattle.edit_laws.proofs.PlaceForms.{component_entries, pin_entries, region_entries, group_entries, blockage_entries}
+use Rattle.edit_laws.proofs.Plain.{IsEntryText, IsEntryForm}
 use Rattle.edit_laws.proofs.SameWords.{has_form, form_reads}
 use Rattle.edit_laws.proofs.WholeEntries.{one_statement}
+use Rattle.edit_laws.proofs.WireForms.{net_entries, special_net_entries, def_via_entries, rule_entries, skipped_words}
 
-point_plain : Plain point.of
-unfolding point
-point_plain = seen_plain as_point _ (behind_plain _ _ refl (seq_plain _ _ (number_plain _) (before_plain _ _ (number_plain _) refl)))
+-- this is so of what fits a form, and the words that it is spelled with
+record Tells {A : Type 0} (f : Meaning A) (P : A → List (List ℕ) → Type 0) : Type 0 where
+  tells : (a : A) (ws : List (List ℕ)) → f.Fits a ws → P a (f.spell a)
 
-placement_plain : Plain placement.of
-unfolding placement orient status_word orient_word
-placement_plain = seq_plain _ _ (one_of_plain status_word statuses refl) (seq_plain _ _ point_plain (one_of_plain orient_word orients refl))
+left_tells : {A B : Type 0} (f : Meaning A) (P : A ⊎ B → List (List ℕ) → Type 0) → Tells f (λ a. P (inl a)) → Tells (left_meaning {B = B} f) P
+left_tells f P t = record { tells = elim [ inl a ↦ t.tells a | inr b ↦ λ ws fits. absurd fits ] }
 
-clause_plain : Plain clause.of
-unfolding clause
-clause_plain =
-    behind_plain _ _ refl (alt_plain is_status _ _ (closed_plain _ _ placement_plain) (alt_plain _ _ _ (behind_plain _ _ refl (upto_plain _ refl)) (
-    alt_plain _ _ _ (behind_plain _ _ refl (closed_plain _ _ (word_plain _ refl))) (seq_plain _ _ (word_plain _ refl) (upto_plain _ refl)))))
+right_tells : {A B : Type 0} (g : Meaning B) (P : A ⊎ B → List (List ℕ) → Type 0) → Tells g (λ b. P (inr b)) → Tells (right_meaning {A = A} g) P
+right_tells g P t = record { tells = elim [ inl a ↦ λ ws fits. absurd fits | inr b ↦ t.tells b ] }
 
--- an entry's words: - and others before a ;
-pub record IsEntryText (all : List (List ℕ)) : Type 0 where
-  pub inner : List (List ℕ)
-  pub is : all ≡ codes "-" ∷ (inner ++ codes ";" ∷ [])
-  pub plain : All GoesOn inner
+-- an entry of a section, with words as an entry has
+abbrev IsOf : Section → Entry → List (List ℕ) → Type 0
+IsOf s e ws = IsEntryText ws × (section_of e ≡ s)
 
-component_ends : EndsOnce (name ⨟ name ⨟ rest ⨟ many is_plus clause ◂ codes ";").of
-component_ends = seq_ends _ _ (word_plain _ refl) (seq_ends _ _ (word_plain _ refl) (seq_ends _ _ (upto_plain _ refl) (before_ends _ (many_plain _ _ clause_plain))))
+of_section : {A : Type 0} (s : Section) (f : Meaning A) (says : A → Entry) → ((a : A) → section_of (says a) ≡ s) → IsEntryForm f → Tells f (λ a. IsOf s (says a))
+of_section s f says is e = record { tells = λ a ws fits. (e.text a ws fits, is a) }
 
-component_text : (c : Component) (ws : List (List ℕ)) → Fits component_form c ws → IsEntryText (spell component_form c)
-unfolding component_form
-component_text c ws fits =
-    let o = component_ends.ends (as_component.from c) ws fits in
-    record { inner = o.inner; is = ap (λ (vs : List (List ℕ)). codes "-" ∷ vs) o.is; plain = o.plain }
+skipped_tell : (s : Section) → Tells (skipped_entries s).of (IsOf s)
+skipped_tell s = right_tells _ (IsOf s) (right_tells _ (λ x. IsOf s (inr x)) (record { tells = λ x ws fits. (skipped_words.text x.1 ws fits.1, fits.0) }))
 
--- so is each entry spelled
-pub entry_text : (s : Section) (e : Entry) (ws : List (List ℕ)) → Fits (entries_form s) e ws → IsEntryText (spell (entries_form s) e)
+-- each entry is spelled so, in its own section alone
+entries_tell : (s : Section) → Tells (entries_form s).of (IsOf s)
 unfolding entries_form
-entry_text Components (component c) ws fits = component_text c ws fits
-entry_text _ e ws fits = absurd fits
+entries_tell Components = left_tells _ _ (left_tells _ _ (of_section Components _ (λ c. component c) (λ c. refl) component_entries))
+entries_tell Pins = left_tells _ _ (right_tells _ _ (left_tells _ _ (of_section Pins _ (λ p. pin p) (λ p. refl) pin_entries)))
+entries_tell Regions = left_tells _ _ (right_tells _ _ (right_tells _ _ (left_tells _ _ (of_section Regions _ (λ r. region r) (λ r. refl) region_entries))))
+entries_tell Groups = left_tells _ _ (right_tells _ _ (right_tells _ _ (right_tells _ _ (left_tells _ _ (of_section Groups _ (λ g. group g) (λ g. refl) group_entries)))))
+entries_tell Blockages = left_tells _ _ (right_tells _ _ (right_tells _ _ (right_tells _ _ (right_tells _ _ (of_section Blockages _ (λ b. blockage b) (λ b. refl) blockage_entries)))))
+entries_tell Nets = right_tells _ _ (left_tells _ _ (left_tells _ _ (of_section Nets _ (λ n. net n) (λ n. refl) net_entries)))
+entries_tell SpecialNets = right_tells _ _ (left_tells _ _ (right_tells _ _ (left_tells _ _ (of_section SpecialNets _ (λ n. special_net n) (λ n. refl) special_net_entries))))
+entries_tell Vias = right_tells _ _ (left_tells _ _ (right_tells _ _ (right_tells _ _ (left_tells _ _ (of_section Vias _ (λ v. via v) (λ v. refl) def_via_entries)))))
+entries_tell NonDefaultRules = right_tells _ _ (left_tells _ _ (right_tells _ _ (right_tells _ _ (right_tells _ _ (of_section NonDefaultRules _ (λ r. rule r) (λ r. refl) rule_entries)))))
+entries_tell ScanChains = skipped_tell ScanChains
+entries_tell PinProperties = skipped_tell PinProperties
+entries_tell Slots = skipped_tell Slots
+entries_tell Fills = skipped_tell Fills
+entries_tell Styles = skipped_tell Styles
 
--- an entry fits in its own section alone
+entry_text : (s : Section) (e : Entry) (ws : List (List ℕ)) → Fits (entries_form s) e ws → IsEntryText (spell (entries_form s) e)
+entry_text s e ws fits = ((entries_tell s).tells e ws fits).0
+
 section_is : (s : Section) (e : Entry) (ws : List (List ℕ)) → Fits (entries_form s) e ws → section_of e ≡ s
-unfolding entries_form
-section_is Components (component c) ws fits = refl
-section_is _ e ws fits = absurd fits
+section_is s e ws fits = ((entries_tell s).tells e ws fits).1
 
 -- what is known of an entry that reads
 pub record IsRead (m : Mode) (ps : List Piece) (e : Entry) (after : Mode) : Type 0 where

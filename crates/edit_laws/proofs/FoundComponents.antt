@@ -6,7 +6,7 @@ use Rattle.std.proofs.lemmas.Slice.Eq.{bytes_eq-Decides}
 use Rattle.form_meanings.proofs.Steps.{some_same}
 use Rattle.statement_model.specs.Tokens.{Piece}
 use Rattle.def_grammar.specs.Components.{Component}
-use Rattle.def_grammar.specs.Records.{component, Record, top, end_section, entry, component_of}
+use Rattle.def_grammar.specs.Records.{component, Record, top, in_properties, end_section, entry, component_of}
 use Rattle.design_rules.specs.Edits.{component_if, or_later, component_at}
 use Rattle.edit_laws.specs.EntryLaws.{StandsAmong}
 use Rattle.edit_laws.specs.PlacingLaws.{ComponentsAreFound}
@@ -22,6 +22,7 @@ record IsFound (name : List ℕ) (qs : List Piece) (rec : Record) (x : List Piec
 
 found_one : (name : List ℕ) (qs : List Piece) (rec : Record) (later : Found) (x : List Piece × Component) → or_later (component_if name qs (component_of rec)) later ≡ Some x → IsFound name qs rec x ⊎ (later ≡ Some x)
 found_one name qs (top t) later x e = inr e
+found_one name qs (in_properties p) later x e = inr e
 found_one name qs (end_section s) later x e = inr e
 found_one name qs (entry (component c)) later x e = ⊎_elim
     (λ (is : bytes_eq c.name name ≡ true).
@@ -35,6 +36,8 @@ found_one name qs (entry (component c)) later x e = ⊎_elim
     }))
     (λ (other : bytes_eq c.name name ≡ false). inr (rw other at e))
     (cases (bytes_eq c.name name))
+found_one name qs (entry (inl (inr other))) later x e = inr e
+found_one name qs (entry (inr other)) later x e = inr e
 
 abbrev Stands : List (List Piece × Record) → List ℕ → List Piece × Component → Type 0
 Stands all name x = StandsAmong all x.0 (component x.1) × (x.1.name ≡ name)

@@ -11,6 +11,8 @@ pub mod MappedParts
 pub mod MovedChanges
 pub mod Moves
 pub mod OneEdited
+pub mod PartForms
+pub mod PlaceForms
 pub mod PlacedFits
 pub mod PlacedTokens
 pub mod PlacedWords
@@ -20,3 +22,4 @@ pub mod Replaced
 pub mod SameWords
 pub mod Stands
 pub mod WholeEntries
+pub mod WireForms

@@ -8,7 +8,7 @@ use Rattle.statement_model.specs.Tokens.{left_from}
 use Rattle.statement_model.specs.Boundaries.{statements}
 use Rattle.statement_model.specs.Grammar.{Key}
 use Rattle.statement_model.specs.Reading.{same_words}
-use Rattle.def_grammar.specs.Records.{Entry, section_of, Record, top, end_section, entry, def_ending, entry_key, key_of, def}
+use Rattle.def_grammar.specs.Records.{Entry, section_of, Record, top, in_properties, end_section, entry, def_ending, entry_key, key_of, def}
 use Rattle.design_rules.specs.Edits.{on_entry}
 use Rattle.edit_laws.specs.EntryLaws.{OneIsEdited}
 use Rattle.edit_laws.proofs.Keys.{Apart, stands_once}
@@ -17,6 +17,7 @@ use Rattle.edit_laws.proofs.Stands.{seconds, split, whole_text}
 module _ (f : Entry → Entry) (w : List ℕ) (ws : Key) (elsewhere : (other : Entry) → same_words (w ∷ ws) (key_of (entry other)) ≡ false → f other ≡ other) where
   one_stays : (rec : Record) → same_words (w ∷ ws) (key_of rec) ≡ false → on_entry f rec ≡ rec
   one_stays (top t) differs = refl
+  one_stays (in_properties p) differs = refl
   one_stays (end_section s) differs = refl
   one_stays (entry e) differs = ap (λ (other : Entry). entry other) (elsewhere e differs)
 

@@ -5,7 +5,7 @@ use Rattle.std.proofs.lemmas.Bool.{cases_Bool as cases}
 use Rattle.std.proofs.lemmas.List.Elements.{All-nil, All-cons, All-append, All-weaker}
 use Rattle.std.proofs.lemmas.Slice.Eq.{bytes_eq-Decides}
 use Rattle.form_meanings.specs.Words.{is_semicolon, is_place}
-use Rattle.form_meanings.specs.Meaning.{Seen, Meaning, find, spell_all, FitAll, word_meaning, number_meaning, one_of_meaning, upto_meaning, behind_meaning, before_meaning, closed_meaning, seq_meaning, alt_meaning, many_meaning, seen_meaning}
+use Rattle.form_meanings.specs.Meaning.{Seen, Meaning, find, spell_all, FitAll, empty_meaning, word_meaning, number_meaning, one_of_meaning, upto_meaning, behind_meaning, before_meaning, closed_meaning, seq_meaning, alt_meaning, opt_meaning, many_meaning, or_else_meaning, seen_meaning, limited_meaning, given_meaning}
 
 -- a word that ends no statement
 abbrev pub GoesOn : List ℕ → Type 0
@@ -27,6 +27,12 @@ true_only b e f = cc
 
 only_word : (w : List ℕ) → GoesOn w → All GoesOn (w ∷ [])
 only_word w plain = All-cons GoesOn w [] plain (All-nil GoesOn)
+
+pub empty_plain : Plain empty_meaning
+empty_plain = record { plain = λ u ws fits. All-nil GoesOn }
+
+pub given_plain : {A : Type 0} (a : A) → Plain (given_meaning a)
+given_plain a = record { plain = λ b ws fits. All-nil GoesOn }
 
 pub word_plain : (t : List ℕ → Bool) → t (codes ";") ≡ false → Plain (word_meaning t)
 word_plain t differs = record { plain = λ w ws fits. only_word w (goes_on t false w differs (true_only (t w) fits)) }
@@ -61,6 +67,15 @@ seq_plain f g p q = record { plain = λ x ws fits. All-append GoesOn (f.spell x.
 
 pub alt_plain : {A B : Type 0} (t : List ℕ → Bool) (f : Meaning A) (g : Meaning B) → Plain f → Plain g → Plain (alt_meaning t f g)
 alt_plain t f g p q = record { plain = elim [ inl a ↦ λ ws fits. p.plain a ws fits.1 | inr b ↦ λ ws fits. q.plain b ws fits.1 ] }
+
+pub opt_plain : {A : Type 0} (t : List ℕ → Bool) (f : Meaning A) → Plain f → Plain (opt_meaning t f)
+opt_plain t f p = record { plain = elim [ Some a ↦ λ ws fits. p.plain a ws fits.1 | None ↦ λ ws fits. All-nil GoesOn ] }
+
+pub or_else_plain : {A B : Type 0} (f : Meaning A) (g : Meaning B) → Plain f → Plain g → Plain (or_else_meaning f g)
+or_else_plain f g p q = record { plain = elim [ inl a ↦ p.plain a | inr b ↦ λ ws fits. q.plain b ws fits.1 ] }
+
+pub limited_plain : {A : Type 0} (t : A → Bool) (n : ℕ) (f : Meaning A) → Plain f → Plain (limited_meaning t n f)
+limited_plain t n f p = record { plain = p.plain }
 
 all_plain : {A : Type 0} (t : List ℕ → Bool) (f : Meaning A) → Plain f → (all : List A) (ws : List (List ℕ)) → FitAll t f.spell f.Fits all ws → All GoesOn (spell_all f.spell all)
 all_plain t f p [] ws fits = All-nil GoesOn
@@ -103,3 +118,21 @@ seq_ends f g p e = record {
 
 pub seen_ends : {A B : Type 0} (s : Seen A B) (f : Meaning A) → EndsOnce f → EndsOnce (seen_meaning s f)
 seen_ends s f e = record { ends = λ b. e.ends (s.from b) }
+
+-- an entry's words: - and others before a ;
+pub record IsEntryText (all : List (List ℕ)) : Type 0 where
+  pub inner : List (List ℕ)
+  pub is : all ≡ codes "-" ∷ (inner ++ codes ";" ∷ [])
+  pub plain : All GoesOn inner
+
+-- what fits a form is spelled so
+pub record IsEntryForm {A : Type 0} (f : Meaning A) : Type 0 where
+  pub text : (a : A) (ws : List (List ℕ)) → f.Fits a ws → IsEntryText (f.spell a)
+
+pub minus_entries : {A : Type 0} (f : Meaning A) → EndsOnce f → IsEntryForm (behind_meaning (codes "-") f)
+minus_entries f e = record {
+  text = λ a ws fits. let o = e.ends a ws fits in record { inner = o.inner; is = ap (λ (vs : List (List ℕ)). codes "-" ∷ vs) o.is; plain = o.plain };
+}
+
+pub seen_entries : {A B : Type 0} (s : Seen A B) (f : Meaning A) → IsEntryForm f → IsEntryForm (seen_meaning s f)
+seen_entries s f e = record { text = λ b. e.text (s.from b) }

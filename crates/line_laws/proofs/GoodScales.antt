@@ -1,5 +1,5 @@
 -- A text that reads has at least 1 and at most 100000 database units per micron.
-use Rattle.std.proofs.Common.{◌≡◌, ℕ, Bool, true, false, List, [], ◌∷◌, Option, Some, None, Result, Ok, Err, inl, inr, refl, ap, ◌∙◌, arith, ℤ, pos, nat_abs, if◌then◌else◌}
+use Rattle.std.proofs.Common.{◌≡◌, ℕ, Bool, true, false, List, [], ◌∷◌, Option, Some, None, Result, Ok, Err, inr, refl, ap, ◌∙◌, arith, ℤ, pos, nat_abs, if◌then◌else◌}
 use Rattle.std.specs.Prelude.{◌&&◌}
 use Rattle.std.specs.Int.Signed.{le_z}
 use Rattle.std.proofs.lemmas.Int.{ints}
@@ -13,7 +13,7 @@ use Rattle.form_meanings.proofs.Steps.{some_same, both_read}
 use Rattle.statement_model.specs.Form.{Form, read, Fits, whole}
 use Rattle.def_grammar.specs.Numbers.{passes, number_or_0, is_scale}
 use Rattle.def_grammar.specs.Top.{units, plain, header, units_statement, plain_statement, top_statement}
-use Rattle.def_grammar.specs.Records.{Record, top, end_section, entry, statement, def}
+use Rattle.def_grammar.specs.Records.{Record, top, in_properties, end_section, entry, statement, def}
 use Rattle.design_rules.specs.Boxes.{scale}
 use Rattle.line_laws.specs.ScaleLaws.{HasScale, ScalesAreGood}
 use Rattle.line_laws.proofs.EachRecord.{Each, each_record}
@@ -53,6 +53,7 @@ good_record : (m : Mode) (rec : Record) → Fits (statement m) rec [] → None �
 good_record m (top (units n)) fits e = good_units m n fits e
 good_record m (top (plain (inr other))) fits e = tt
 good_record m (top (header s n)) fits e = tt
+good_record m (in_properties p) fits e = tt
 good_record m (end_section s) fits e = tt
 good_record m (entry x) fits e = tt
 
@@ -75,6 +76,7 @@ good_scale [] h = record { some = omega arith; few = omega arith }
 good_scale (top (units n) ∷ rs) h = scale_of n h.0
 good_scale (top (plain (inr other)) ∷ rs) h = good_scale rs h.1
 good_scale (top (header s n) ∷ rs) h = good_scale rs h.1
+good_scale (in_properties p ∷ rs) h = good_scale rs h.1
 good_scale (end_section s ∷ rs) h = good_scale rs h.1
 good_scale (entry x ∷ rs) h = good_scale rs h.1
 

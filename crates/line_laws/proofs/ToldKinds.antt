@@ -1,8 +1,7 @@
 -- The kind of a line is told by its text.
 use Rattle.std.proofs.Common.{◌≡◌, ℕ, List, [], ◌∷◌, arith, refl, sym, ap, ◌∙◌}
-use Rattle.design_model.specs.declared.diagnostic.DiagKind.{DiagKind}
 use Rattle.design_model.specs.declared.diagnostic.DiagKind.TheVariants.{Count, Overlap}
-use Rattle.design_model.specs.Lines.{IsLineOf, line_text}
+use Rattle.design_model.specs.Lines.{IsLineOf}
 use Rattle.line_laws.specs.KindLaws.{KindsAreTold}
 
 abbrev first_byte : List ℕ → ℕ

@@ -1,2 +1,3 @@
+mod GridLemmas
 mod PlacingSteps
 mod PlacingTokens

@@ -1,2 +1,9 @@
+pub mod BlockageViews
 pub mod ComponentViews
+pub mod DieAreaViews
+pub mod GridViews
+pub mod GroupViews
+pub mod PinViews
 pub mod PlacingViews
+pub mod RegionViews
+pub mod RowViews

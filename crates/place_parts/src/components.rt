@@ -7,7 +7,7 @@ ghost use Rattle.def_grammar.specs.Parts.{orient, point};
 ghost use Rattle.def_grammar.specs.Components.{clause, component_form, is_placing};
 ghost use Rattle.lefdef_tokens.specs.Views.{IsLater, rest_of};
 ghost use Rattle.place_parts.specs.ComponentViews.{clause_view, component_view, spot_view, ClauseIn, ComponentIn};
-ghost use Rattle.def_parts.specs.Lent.{PointIn};
+ghost use Rattle.def_parts.specs.PointViews.{PointIn};
 ghost use Rattle.def_parts.specs.PointViews.{with_rest};
 
 use def_parts::point::{Coordinates, orient_at, point_at};
@@ -52,7 +52,7 @@ impl<'t> Clause<'t> {
 }
 
 /// `( x y ) orient`
-fn spot_at<'t>(cursor: Cursor<'t>) -> Option<((Coordinates<'t>, Orient), Cursor<'t>)>
+pub(crate) fn spot_at<'t>(cursor: Cursor<'t>) -> Option<((Coordinates<'t>, Orient), Cursor<'t>)>
     ensures gives { Gives (with_rest spot_view) result (read (point ⨟ orient) (rest_of cursor.entry)) }
     ensures later { IfSome result (λ x. IsLater cursor.entry x.1) }
     ensures lent { IfSome result (λ x. PointIn cursor.entry.tokens.text.now x.0.0) }

@@ -10,5 +10,12 @@
 //! Where an entry isn't in its form a function answers `None`. An invalid number is noted by the cursor after it.
 #![tactic(auto)]
 
+pub mod blockages;
 pub mod components;
+pub mod die_area;
+pub mod grids;
+pub mod groups;
+pub mod pins;
 pub mod placing;
+pub mod regions;
+pub mod rows;

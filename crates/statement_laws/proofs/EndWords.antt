@@ -7,8 +7,9 @@ use Rattle.design_model.specs.declared.mode.Mode.TheVariants.{Top, In, Props, Af
 use Rattle.design_model.specs.declared.mode.Section.{Section}
 use Rattle.design_model.specs.declared.mode.Section.TheVariants.{Components}
 use Rattle.design_model.specs.EnumWords.{section_word}
-use Rattle.form_meanings.specs.Words.{is_word, is_quoted}
+use Rattle.form_meanings.specs.Words.{is_word, is_quoted, is_semicolon, split_at}
 use Rattle.statement_model.specs.Form.{whole}
+use Rattle.def_grammar.specs.Properties.{property_statement}
 use Rattle.def_grammar.specs.Top.{plain_statement, top_statement}
 use Rattle.def_grammar.specs.Records.{Record, statement}
 
@@ -24,42 +25,39 @@ unfolding section_word
 section_is_plain Components = refl
 section_is_plain _ = refl
 
--- one word, and no string
-abbrev pub PlainEnd : List (List ℕ) → Type 0
-PlainEnd ws = (v : List ℕ) × (ws ≡ v ∷ []) × (is_quoted v ≡ false)
+-- no string stands after END in a statement of this place
+abbrev NoStringEnds : Mode → Type 0
+NoStringEnds m = (v : List ℕ) (x : Record × Option ℕ) → whole (statement m) (codes "END" ∷ v ∷ []) ≡ Some x → is_quoted v ≡ false
 
--- tokens that are an END where they stand
-abbrev IsEnd : Mode → List (List ℕ) → Type 0
-IsEnd m ws = (x : Record × Option ℕ) → whole (statement m) (codes "END" ∷ ws) ≡ Some x → PlainEnd ws
-
-end_of_design : (ws : List (List ℕ)) → IsEnd Top ws
+end_of_design : NoStringEnds Top
 unfolding statement top_statement plain_statement section_word
-end_of_design [] x e = absurd (cc)
-end_of_design (v ∷ []) x e = ⊎_elim
-    (λ is. (v, refl, not_quoted (codes "DESIGN") v is refl))
-    (λ other. let h = rw other at e in absurd (cc))
-    (cases (is_word (codes "DESIGN") v))
-end_of_design (v ∷ u ∷ us) x e = ⊎_elim
-    (λ is. let h = rw is at e in absurd (cc))
+end_of_design v x e = ⊎_elim
+    (λ is. not_quoted (codes "DESIGN") v is refl)
     (λ other. let h = rw other at e in absurd (cc))
     (cases (is_word (codes "DESIGN") v))
 
-end_of_section : (s : Section) (ws : List (List ℕ)) → IsEnd (In s) ws
+end_of_section : (s : Section) → NoStringEnds (In s)
 unfolding statement
-end_of_section s [] x e = absurd (cc)
-end_of_section s (v ∷ []) x e = ⊎_elim
-    (λ is. (v, refl, not_quoted (section_word s) v is (section_is_plain s)))
-    (λ other. let h = rw other at e in absurd (cc))
-    (cases (is_word (section_word s) v))
-end_of_section s (v ∷ u ∷ us) x e = ⊎_elim
-    (λ is. let h = rw is at e in absurd (cc))
+end_of_section s v x e = ⊎_elim
+    (λ is. not_quoted (section_word s) v is (section_is_plain s))
     (λ other. let h = rw other at e in absurd (cc))
     (cases (is_word (section_word s) v))
 
--- what reads in a DEF text and begins with END is END and one word
-pub end_form : (m : Mode) (ws : List (List ℕ)) → IsEnd m ws
+-- the words END PROPERTYDEFINITIONS, or a property END before a ;
+end_of_properties : NoStringEnds Props
+unfolding statement property_statement split_at
+end_of_properties v x e = ⊎_elim
+    (λ (is : is_word (codes "PROPERTYDEFINITIONS") v ≡ true). not_quoted (codes "PROPERTYDEFINITIONS") v is refl)
+    (λ (other : is_word (codes "PROPERTYDEFINITIONS") v ≡ false). ⊎_elim
+    (λ (semicolon : is_semicolon v ≡ true). not_quoted (codes ";") v semicolon refl)
+    (λ (none : is_semicolon v ≡ false). let h = rw (other, none) at e in absurd (cc))
+    (cases (is_semicolon v)))
+    (cases (is_word (codes "PROPERTYDEFINITIONS") v))
+
+-- what stands after END in a statement of two tokens that reads is no string
+pub end_form : (m : Mode) → NoStringEnds m
 unfolding statement
-end_form Top ws x e = end_of_design ws x e
-end_form (In s) ws x e = end_of_section s ws x e
-end_form Props ws x e = absurd (cc)
-end_form After ws x e = absurd (cc)
+end_form Top v x e = end_of_design v x e
+end_form (In s) v x e = end_of_section s v x e
+end_form Props v x e = end_of_properties v x e
+end_form After v x e = absurd (cc)

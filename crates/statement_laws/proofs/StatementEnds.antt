@@ -16,7 +16,7 @@ use Rattle.statement_model.specs.Grammar.{Key}
 use Rattle.statement_model.specs.Reading.{formed, read_form, read_one, read_from, read_text}
 use Rattle.def_grammar.specs.Records.{Record, def, def_ending, statement}
 use Rattle.statement_laws.specs.BoundaryLaws.{EndApart, StatementsEndApart}
-use Rattle.statement_laws.proofs.EndWords.{same_word, not_quoted, PlainEnd, end_form}
+use Rattle.statement_laws.proofs.EndWords.{same_word, not_quoted, end_form}
 use Rattle.statement_laws.proofs.Reading.{reading_by_steps}
 use Rattle.statement_laws.proofs.StatementParts.{IsStatement, statement_parts}
 use Rattle.statement_laws.proofs.WordEnds.{WordEndsApart, words_end_apart}
@@ -49,20 +49,16 @@ has_form : (m : Mode) (ps : List Piece) (o : Option (Record × Option ℕ)) (y :
 has_form m ps (Some x) y e = (x, refl)
 has_form m ps None y e = absurd (cc)
 
--- where one token stands after another, it is the last
-last_is : (q : Piece) (qs : List Piece) → PlainEnd (words (q ∷ qs)) → is_quoted (last_of q qs).bytes ≡ false
-unfolding last_of
-last_is q [] plain = let same : q.bytes ≡ plain.0 = cc in ap is_quoted same ∙ plain.2
-last_is q (r ∷ rs) plain = absurd (cc)
-
 -- the last token of a statement that reads is no string
 last_is_plain : (m : Mode) (p q : Piece) (qs : List Piece) (y : Record × Mode) → Ends p.bytes → IsStatement def_ending (p ∷ q ∷ qs) → read_form def m (p ∷ q ∷ qs) ≡ Ok y
     → is_quoted (last_of q qs).bytes ≡ false
+unfolding last_of
 last_is_plain m p q qs y (by_itself ends plain) is e = let h = rw ends at is.0 in absurd (cc)
-last_is_plain m p q qs y (by_end ends same) is e =
-    let x = has_form m (p ∷ q ∷ qs) (whole (statement m) (words (p ∷ q ∷ qs))) y e in
-    let f : whole (statement m) (codes "END" ∷ words (q ∷ qs)) ≡ Some x.0 = ap (λ (w : List ℕ). whole (statement m) (w ∷ words (q ∷ qs))) same ∙ x.1 in
-    last_is q qs (end_form m (words (q ∷ qs)) x.0 f)
+last_is_plain m p q [] y (by_end ends same) is e =
+    let x = has_form m (p ∷ q ∷ []) (whole (statement m) (words (p ∷ q ∷ []))) y e in
+    let f : whole (statement m) (codes "END" ∷ q.bytes ∷ []) ≡ Some x.0 = ap (λ (w : List ℕ). whole (statement m) (w ∷ q.bytes ∷ [])) same ∙ x.1 in
+    end_form m q.bytes x.0 f
+last_is_plain m p q (r ∷ rs) y (by_end ends same) is e = let h = rw ends at is.2 in absurd (cc)
 last_is_plain m p q qs y (by_ext ends) is e = let h = rw ends at is.1 in not_quoted (codes "ENDEXT") (last_of q qs).bytes h refl
 last_is_plain m p q qs y (by_semicolon ends) is e = let h = rw ends at is.1 in not_quoted (codes ";") (last_of q qs).bytes h refl
 

@@ -1,0 +1,245 @@
+//! Entries of BLOCKAGES (LEF/DEF 5.8 Language Reference, "Blockages").
+
+ghost use Rattle.std.specs.Prelude.{◌≡◌, IfSome, Some};
+ghost use Rattle.form_meanings.specs.Words.{Gives, is_plus, is_semicolon};
+ghost use Rattle.statement_model.specs.Form.{closed, or_else, read, spell, upto};
+ghost use Rattle.def_grammar.specs.Blockages.{blockage, blockage_clause, blockage_form, blockage_kind, blockage_shape, is_shape, is_shape_or_stop};
+ghost use Rattle.lefdef_tokens.specs.Views.{IsLater, rest_of};
+ghost use Rattle.def_parts.specs.PointViews.{with_rest};
+ghost use Rattle.place_parts.specs.BlockageViews.{blockage_clause_view, blockage_entry_view, blockage_kind_view, blockage_shape_view, blockage_view, BlockageClauseIn, BlockageEntryIn, BlockageIn, BlockageKindIn, BlockageShapeIn};
+
+use def_parts::clauses::KeptClause;
+use def_parts::points::{Corners, Polygon, corners_at, polygon_at};
+use lefdef_tokens::{Cursor, PartEnd, Token, TokenRun, is_plain, is_plus, is_stop, is_word};
+use statement_reader::parts::{Part, Parts, read_parts};
+
+/// What is blocked: routing on a layer, or placement.
+#[derive(Clone, Copy)]
+pub enum BlockageKind<'t> {
+    Layer(Token<'t>),
+    Placement,
+}
+
+/// A clause of an entry, without its `+`.
+#[derive(Clone, Copy, Drop)]
+pub struct BlockageClause<'t> {
+    pub kept: KeptClause<'t>,
+}
+
+/// A shape that is blocked, in database units.
+#[derive(Clone, Copy, Drop)]
+pub enum BlockageShape<'t> {
+    Rectangle(Corners<'t>),
+    Polygon(Polygon<'t>),
+}
+
+/// An entry with its form: what it blocks, its clauses, and its shapes, one or more.
+#[derive(Clone, Copy)]
+pub struct BlockageParts<'t> {
+    pub kind: BlockageKind<'t>,
+    pub clauses: Parts<'t, BlockageClause<'t>>,
+    pub first: BlockageShape<'t>,
+    pub others: Parts<'t, BlockageShape<'t>>,
+}
+
+/// An entry.
+#[derive(Clone, Copy)]
+pub enum BlockageEntry<'t> {
+    Blocks(BlockageParts<'t>),
+    /// One without its form, by its tokens between `-` and `;`, which mean nothing.
+    Kept(TokenRun<'t>),
+}
+
+/// A clause ends before the next `+`, `;` or shape.
+struct ShapeOrStop;
+
+/// Whether a word begins a shape.
+fn is_shape(word: &[u8]) -> bool
+    ensures { result ≡ is_shape word.now }
+{
+    is_word(word, b"RECT") || is_word(word, b"POLYGON")
+}
+
+impl PartEnd for ShapeOrStop {
+    ghost test = { is_shape_or_stop };
+
+    fn is_at(word: &[u8]) -> bool
+        ensures { result ≡ is_shape_or_stop word.now }
+    {
+        is_stop(word) || is_shape(word)
+    }
+}
+
+/// `LAYER name`, or `PLACEMENT`
+#[tactic(auto, unfolding(def_grammar::specs::Blockages::blockage_kind))]
+fn blockage_kind_at<'t>(cursor: Cursor<'t>) -> Option<(BlockageKind<'t>, Cursor<'t>)>
+    ensures gives { Gives (with_rest blockage_kind_view) result (read blockage_kind (rest_of cursor.entry)) }
+    ensures later { IfSome result (λ x. IsLater cursor.entry x.1) }
+    ensures lent { IfSome result (λ x. BlockageKindIn cursor.entry.tokens.text.now x.0) }
+{
+    if cursor.next_is(b"LAYER") {
+        let (layer, cursor) = cursor.key(b"LAYER")?.name()?;
+        Some((BlockageKind::Layer(layer), cursor))
+    } else {
+        let cursor = cursor.key(b"PLACEMENT")?;
+        Some((BlockageKind::Placement, cursor))
+    }
+}
+
+/// `+ word rest`, where the word begins no shape, and the rest goes up to the first shape
+#[tactic(auto, unfolding(def_grammar::specs::Blockages::blockage_clause))]
+fn blockage_clause_at<'t>(cursor: Cursor<'t>) -> Option<(BlockageClause<'t>, Cursor<'t>)>
+    ensures gives { Gives (with_rest blockage_clause_view) result (read blockage_clause (rest_of cursor.entry)) }
+    ensures later { IfSome result (λ x. IsLater cursor.entry x.1) }
+    ensures lent { IfSome result (λ x. BlockageClauseIn cursor.entry.tokens.text.now x.0) }
+{
+    let (keyword, cursor) = cursor.key(b"+")?.next()?;
+    if !is_plain(keyword.bytes) || is_shape(keyword.bytes) {
+        return None;
+    }
+    let (rest, cursor) = cursor.rest();
+    let kept = KeptClause { keyword, rest };
+    Some((BlockageClause { kept }, cursor))
+}
+
+impl<'t> Part<'t> for BlockageClause<'t> {
+    ghost use Rattle.def_grammar.specs.Clauses.{KeptClause as TheClause};
+
+    ghost Value = { TheClause };
+
+    ghost view = { blockage_clause_view };
+
+    ghost lent = { BlockageClauseIn };
+
+    ghost test = { is_plus };
+
+    ghost reads = { read blockage_clause };
+
+    ghost spells = { spell blockage_clause };
+
+    ghost spelled = { λ r p e. (blockage_clause.exact.shows r p e).words };
+
+    fn begins(word: &[u8]) -> bool
+        ensures { result ≡ is_plus word.now }
+    {
+        is_plus(word)
+    }
+
+    fn read(cursor: Cursor<'t>) -> Option<(BlockageClause<'t>, Cursor<'t>)>
+        ensures gives { Gives (with_rest blockage_clause_view) result (read blockage_clause (rest_of cursor.entry)) }
+        ensures later { IfSome result (λ x. IsLater cursor.entry x.1) }
+        ensures lent { IfSome result (λ x. BlockageClauseIn cursor.entry.tokens.text.now x.0) }
+    {
+        blockage_clause_at(cursor)
+    }
+}
+
+/// `RECT` and two points, or `POLYGON` and three points and more
+#[tactic(auto, unfolding(def_grammar::specs::Blockages::blockage_shape))]
+fn blockage_shape_at<'t>(cursor: Cursor<'t>) -> Option<(BlockageShape<'t>, Cursor<'t>)>
+    ensures gives { Gives (with_rest blockage_shape_view) result (read blockage_shape (rest_of cursor.entry)) }
+    ensures later { IfSome result (λ x. IsLater cursor.entry x.1) }
+    ensures lent { IfSome result (λ x. BlockageShapeIn cursor.entry.tokens.text.now x.0) }
+{
+    if cursor.next_is(b"RECT") {
+        let (corners, cursor) = corners_at(cursor.key(b"RECT")?)?;
+        Some((BlockageShape::Rectangle(corners), cursor))
+    } else {
+        let (polygon, cursor) = polygon_at(cursor.key(b"POLYGON")?)?;
+        Some((BlockageShape::Polygon(polygon), cursor))
+    }
+}
+
+impl<'t> Part<'t> for BlockageShape<'t> {
+    ghost use Rattle.def_grammar.specs.Blockages.{BlockageShape as TheShape};
+
+    ghost Value = { TheShape };
+
+    ghost view = { blockage_shape_view };
+
+    ghost lent = { BlockageShapeIn };
+
+    ghost test = { is_shape };
+
+    ghost reads = { read blockage_shape };
+
+    ghost spells = { spell blockage_shape };
+
+    ghost spelled = { λ r p e. (blockage_shape.exact.shows r p e).words };
+
+    fn begins(word: &[u8]) -> bool
+        ensures { result ≡ is_shape word.now }
+    {
+        is_shape(word)
+    }
+
+    fn read(cursor: Cursor<'t>) -> Option<(BlockageShape<'t>, Cursor<'t>)>
+        ensures gives { Gives (with_rest blockage_shape_view) result (read blockage_shape (rest_of cursor.entry)) }
+        ensures later { IfSome result (λ x. IsLater cursor.entry x.1) }
+        ensures lent { IfSome result (λ x. BlockageShapeIn cursor.entry.tokens.text.now x.0) }
+    {
+        blockage_shape_at(cursor)
+    }
+}
+
+/// `LAYER name` or `PLACEMENT`, `(+ word rest)*`, and one shape or more
+#[tactic(auto, unfolding(def_grammar::specs::Blockages::blockage))]
+fn blockage_at<'t>(cursor: Cursor<'t>) -> Option<(BlockageParts<'t>, Cursor<'t>)>
+    ensures gives { Gives (with_rest blockage_view) result (read blockage (rest_of cursor.entry)) }
+    ensures later { IfSome result (λ x. IsLater cursor.entry x.1) }
+    ensures lent { IfSome result (λ x. BlockageIn cursor.entry.tokens.text.now x.0) }
+{
+    let (kind, cursor) = blockage_kind_at(cursor)?;
+    let (clauses, cursor) = read_parts::<BlockageClause<'t>>(cursor)?;
+    let (first, cursor) = blockage_shape_at(cursor)?;
+    let (others, cursor) = read_parts::<BlockageShape<'t>>(cursor)?;
+    let parts = BlockageParts {
+        kind,
+        clauses,
+        first,
+        others,
+    };
+    Some((parts, cursor))
+}
+
+/// A blockage before the `;`
+fn whole_blockage_at<'t>(cursor: Cursor<'t>) -> Option<(BlockageParts<'t>, Cursor<'t>)>
+    ensures gives { Gives (with_rest blockage_view) result (read (closed is_semicolon blockage) (rest_of cursor.entry)) }
+    ensures later { IfSome result (λ x. IsLater cursor.entry x.1) }
+    ensures lent { IfSome result (λ x. BlockageIn cursor.entry.tokens.text.now x.0) }
+{
+    let (parts, cursor) = blockage_at(cursor)?;
+    if cursor.next_is(b";") {
+        Some((parts, cursor))
+    } else {
+        None
+    }
+}
+
+/// A blockage, or the tokens before the `;` where they are none
+fn blockage_or_tokens_at<'t>(cursor: Cursor<'t>) -> (BlockageEntry<'t>, Cursor<'t>)
+    ensures gives { read (or_else (closed is_semicolon blockage) (upto is_semicolon)) (rest_of cursor.entry) ≡ Some (with_rest blockage_entry_view result) }
+    ensures later { IsLater cursor.entry result.1 }
+    ensures lent { BlockageEntryIn cursor.entry.tokens.text.now result.0 }
+{
+    match whole_blockage_at(cursor) {
+        Some((parts, later)) => (BlockageEntry::Blocks(parts), later),
+        None => {
+            let (tokens, later) = cursor.up_to_semicolon();
+            (BlockageEntry::Kept(tokens), later)
+        }
+    }
+}
+
+/// `-`, a blockage or tokens without its form, and `;`
+#[tactic(auto, unfolding(def_grammar::specs::Blockages::blockage_form))]
+pub fn blockage_entry_at<'t>(cursor: Cursor<'t>) -> Option<(BlockageEntry<'t>, Cursor<'t>)>
+    ensures gives { Gives (with_rest blockage_entry_view) result (read blockage_form (rest_of cursor.entry)) }
+    ensures later { IfSome result (λ x. IsLater cursor.entry x.1) }
+    ensures lent { IfSome result (λ x. BlockageEntryIn cursor.entry.tokens.text.now x.0) }
+{
+    let cursor = cursor.key(b"-")?;
+    let (entry, cursor) = blockage_or_tokens_at(cursor);
+    let cursor = cursor.key(b";")?;
+    Some((entry, cursor))
+}

@@ -1,0 +1,164 @@
+//! Entries of GROUPS (LEF/DEF 5.8 Language Reference, "Groups").
+
+ghost use Rattle.std.specs.Prelude.{◌≡◌, ℕ, List, IfSome};
+ghost use Rattle.std.specs.Option.{option_map};
+ghost use Rattle.form_meanings.specs.Words.{Gives, is_plain, is_plus};
+ghost use Rattle.statement_model.specs.Form.{read, spell, word};
+ghost use Rattle.def_grammar.specs.Groups.{group_clause, group_form, region_named};
+ghost use Rattle.lefdef_tokens.specs.Views.{IsIn, IsLater, rest_of};
+ghost use Rattle.def_parts.specs.ClauseViews.{bytes_view};
+ghost use Rattle.def_parts.specs.PointViews.{with_rest};
+ghost use Rattle.place_parts.specs.GroupViews.{group_clause_view, group_view, pattern_view, GroupClauseIn, GroupIn, PatternIn};
+
+use def_parts::clauses::{KeptClause, kept_clause_at};
+use lefdef_tokens::{Cursor, Token, TokenRun, is_name, is_plain, is_plus};
+use statement_reader::parts::{Part, Parts, read_parts};
+
+/// A pattern of components' names.
+#[derive(Clone, Copy, Drop)]
+pub struct Pattern<'t> {
+    pub word: Token<'t>,
+}
+
+/// A clause of an entry, without its `+`.
+#[derive(Clone, Copy, Drop)]
+pub enum GroupClause<'t> {
+    /// By the tokens after `REGION`.
+    Region(TokenRun<'t>),
+    Kept(KeptClause<'t>),
+}
+
+/// An entry: its name, the patterns of its components' names, and its clauses.
+#[derive(Clone, Copy)]
+pub struct GroupParts<'t> {
+    pub name: Token<'t>,
+    pub patterns: Parts<'t, Pattern<'t>>,
+    pub clauses: Parts<'t, GroupClause<'t>>,
+}
+
+impl<'t> GroupClause<'t> {
+    /// The region that it names: `REGION` with one name.
+    pub fn region(self) -> Option<Token<'t>>
+        ensures gives { option_map bytes_view result ≡ region_named (group_clause_view self.entry) }
+        ensures lent { (text : List ℕ) → GroupClauseIn text self.entry → IfSome result (λ name. IsIn text name) }
+    {
+        let GroupClause::Region(rest) = self else {
+            return None;
+        };
+        let (name, others) = rest.split_first()?;
+        if others.is_empty() && is_name(name.bytes) {
+            Some(name)
+        } else {
+            None
+        }
+    }
+}
+
+/// A word of a pattern
+fn pattern_at<'t>(cursor: Cursor<'t>) -> Option<(Pattern<'t>, Cursor<'t>)>
+    ensures gives { Gives (with_rest pattern_view) result (read (word is_plain) (rest_of cursor.entry)) }
+    ensures later { IfSome result (λ x. IsLater cursor.entry x.1) }
+    ensures lent { IfSome result (λ x. PatternIn cursor.entry.tokens.text.now x.0) }
+{
+    let (word, cursor) = cursor.plain_word()?;
+    Some((Pattern { word }, cursor))
+}
+
+impl<'t> Part<'t> for Pattern<'t> {
+    ghost Value = { List ℕ };
+
+    ghost view = { pattern_view };
+
+    ghost lent = { PatternIn };
+
+    ghost test = { is_plain };
+
+    ghost reads = { read (word is_plain) };
+
+    ghost spells = { spell (word is_plain) };
+
+    ghost spelled = { λ r p e. ((word is_plain).exact.shows r p e).words };
+
+    fn begins(word: &[u8]) -> bool
+        ensures { result ≡ is_plain word.now }
+    {
+        is_plain(word)
+    }
+
+    fn read(cursor: Cursor<'t>) -> Option<(Pattern<'t>, Cursor<'t>)>
+        ensures gives { Gives (with_rest pattern_view) result (read (word is_plain) (rest_of cursor.entry)) }
+        ensures later { IfSome result (λ x. IsLater cursor.entry x.1) }
+        ensures lent { IfSome result (λ x. PatternIn cursor.entry.tokens.text.now x.0) }
+    {
+        pattern_at(cursor)
+    }
+}
+
+/// `+ REGION rest`, or `+ word rest`
+#[tactic(auto, unfolding(def_grammar::specs::Groups::group_clause))]
+fn group_clause_at<'t>(cursor: Cursor<'t>) -> Option<(GroupClause<'t>, Cursor<'t>)>
+    ensures gives { Gives (with_rest group_clause_view) result (read group_clause (rest_of cursor.entry)) }
+    ensures later { IfSome result (λ x. IsLater cursor.entry x.1) }
+    ensures lent { IfSome result (λ x. GroupClauseIn cursor.entry.tokens.text.now x.0) }
+{
+    let cursor = cursor.key(b"+")?;
+    if cursor.next_is(b"REGION") {
+        let (rest, cursor) = cursor.key(b"REGION")?.rest();
+        Some((GroupClause::Region(rest), cursor))
+    } else {
+        let (kept, cursor) = kept_clause_at(cursor)?;
+        Some((GroupClause::Kept(kept), cursor))
+    }
+}
+
+impl<'t> Part<'t> for GroupClause<'t> {
+    ghost use Rattle.def_grammar.specs.Groups.{GroupClause as TheClause};
+
+    ghost Value = { TheClause };
+
+    ghost view = { group_clause_view };
+
+    ghost lent = { GroupClauseIn };
+
+    ghost test = { is_plus };
+
+    ghost reads = { read group_clause };
+
+    ghost spells = { spell group_clause };
+
+    ghost spelled = { λ r p e. (group_clause.exact.shows r p e).words };
+
+    fn begins(word: &[u8]) -> bool
+        ensures { result ≡ is_plus word.now }
+    {
+        is_plus(word)
+    }
+
+    fn read(cursor: Cursor<'t>) -> Option<(GroupClause<'t>, Cursor<'t>)>
+        ensures gives { Gives (with_rest group_clause_view) result (read group_clause (rest_of cursor.entry)) }
+        ensures later { IfSome result (λ x. IsLater cursor.entry x.1) }
+        ensures lent { IfSome result (λ x. GroupClauseIn cursor.entry.tokens.text.now x.0) }
+    {
+        group_clause_at(cursor)
+    }
+}
+
+/// `- name word* (+ clause)* ;`
+#[tactic(auto, unfolding(def_grammar::specs::Groups::group_form))]
+pub fn group_at<'t>(cursor: Cursor<'t>) -> Option<(GroupParts<'t>, Cursor<'t>)>
+    ensures gives { Gives (with_rest group_view) result (read group_form (rest_of cursor.entry)) }
+    ensures later { IfSome result (λ x. IsLater cursor.entry x.1) }
+    ensures lent { IfSome result (λ x. GroupIn cursor.entry.tokens.text.now x.0) }
+{
+    let cursor = cursor.key(b"-")?;
+    let (name, cursor) = cursor.name()?;
+    let (patterns, cursor) = read_parts::<Pattern<'t>>(cursor)?;
+    let (clauses, cursor) = read_parts::<GroupClause<'t>>(cursor)?;
+    let cursor = cursor.key(b";")?;
+    let parts = GroupParts {
+        name,
+        patterns,
+        clauses,
+    };
+    Some((parts, cursor))
+}

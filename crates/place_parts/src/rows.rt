@@ -1,0 +1,158 @@
+//! ROW (LEF/DEF 5.8 Language Reference, "Rows").
+
+ghost use Rattle.std.specs.Prelude.{◌≡◌, IfSome, codes};
+ghost use Rattle.form_meanings.specs.Words.{Gives, is_plus};
+ghost use Rattle.statement_model.specs.Form.{opt_on, read, spell};
+ghost use Rattle.def_grammar.specs.Points.{two_numbers};
+ghost use Rattle.def_grammar.specs.Rows.{row_clause, row_statement, site_array};
+ghost use Rattle.lefdef_tokens.specs.Views.{IsLater, rest_of};
+ghost use Rattle.def_parts.specs.PointViews.{with_rest};
+ghost use Rattle.place_parts.specs.RowViews.{row_clause_view, row_view, site_array_view, sites_view, step_view, RowClauseIn, RowIn, SiteArrayIn, SitesIn, StepIn};
+
+use def_parts::clauses::{KeptClause, kept_clause_at};
+use def_parts::number::count_at;
+use def_parts::point::{Coordinates, orient_at};
+use def_parts::points::two_numbers_at;
+use design_model::geometry::Orient;
+use lefdef_tokens::{Cursor, Token, is_plus};
+use statement_reader::parts::{Part, Parts, read_parts};
+
+/// How often a site stands in x and in y, and how far apart, in database units.
+#[derive(Clone, Copy)]
+pub struct SiteArray<'t> {
+    pub columns: Token<'t>,
+    pub rows: Token<'t>,
+    pub step: Option<Coordinates<'t>>,
+}
+
+/// A clause of a row, without its `+`.
+#[derive(Clone, Copy, Drop)]
+pub struct RowClause<'t> {
+    pub kept: KeptClause<'t>,
+}
+
+/// A row: its name and site, where its first site stands and how, and its sites.
+#[derive(Clone, Copy)]
+pub struct RowParts<'t> {
+    pub name: Token<'t>,
+    pub site: Token<'t>,
+    pub origin: Coordinates<'t>,
+    pub orient: Orient,
+    pub sites: Option<SiteArray<'t>>,
+    pub clauses: Parts<'t, RowClause<'t>>,
+}
+
+/// `[STEP x y]`
+fn step_at<'t>(cursor: Cursor<'t>) -> Option<(Option<Coordinates<'t>>, Cursor<'t>)>
+    ensures gives { Gives (with_rest step_view) result (read (opt_on (codes "STEP") two_numbers) (rest_of cursor.entry)) }
+    ensures later { IfSome result (λ x. IsLater cursor.entry x.1) }
+    ensures lent { IfSome result (λ x. StepIn cursor.entry.tokens.text.now x.0) }
+{
+    if cursor.next_is(b"STEP") {
+        let (step, cursor) = two_numbers_at(cursor.key(b"STEP")?)?;
+        Some((Some(step), cursor))
+    } else {
+        Some((None, cursor))
+    }
+}
+
+/// `columns BY rows [STEP x y]`
+#[tactic(auto, unfolding(def_grammar::specs::Rows::site_array))]
+fn site_array_at<'t>(cursor: Cursor<'t>) -> Option<(SiteArray<'t>, Cursor<'t>)>
+    ensures gives { Gives (with_rest site_array_view) result (read site_array (rest_of cursor.entry)) }
+    ensures later { IfSome result (λ x. IsLater cursor.entry x.1) }
+    ensures lent { IfSome result (λ x. SiteArrayIn cursor.entry.tokens.text.now x.0) }
+{
+    let (columns, cursor) = count_at(cursor)?;
+    let cursor = cursor.key(b"BY")?;
+    let (rows, cursor) = count_at(cursor)?;
+    let (step, cursor) = step_at(cursor)?;
+    let sites = SiteArray {
+        columns,
+        rows,
+        step,
+    };
+    Some((sites, cursor))
+}
+
+/// `[DO columns BY rows [STEP x y]]`
+fn sites_at<'t>(cursor: Cursor<'t>) -> Option<(Option<SiteArray<'t>>, Cursor<'t>)>
+    ensures gives { Gives (with_rest sites_view) result (read (opt_on (codes "DO") site_array) (rest_of cursor.entry)) }
+    ensures later { IfSome result (λ x. IsLater cursor.entry x.1) }
+    ensures lent { IfSome result (λ x. SitesIn cursor.entry.tokens.text.now x.0) }
+{
+    if cursor.next_is(b"DO") {
+        let (sites, cursor) = site_array_at(cursor.key(b"DO")?)?;
+        Some((Some(sites), cursor))
+    } else {
+        Some((None, cursor))
+    }
+}
+
+/// `+ word rest`
+#[tactic(auto, unfolding(def_grammar::specs::Rows::row_clause))]
+fn row_clause_at<'t>(cursor: Cursor<'t>) -> Option<(RowClause<'t>, Cursor<'t>)>
+    ensures gives { Gives (with_rest row_clause_view) result (read row_clause (rest_of cursor.entry)) }
+    ensures later { IfSome result (λ x. IsLater cursor.entry x.1) }
+    ensures lent { IfSome result (λ x. RowClauseIn cursor.entry.tokens.text.now x.0) }
+{
+    let (kept, cursor) = kept_clause_at(cursor.key(b"+")?)?;
+    Some((RowClause { kept }, cursor))
+}
+
+impl<'t> Part<'t> for RowClause<'t> {
+    ghost use Rattle.def_grammar.specs.Clauses.{KeptClause as TheClause};
+
+    ghost Value = { TheClause };
+
+    ghost view = { row_clause_view };
+
+    ghost lent = { RowClauseIn };
+
+    ghost test = { is_plus };
+
+    ghost reads = { read row_clause };
+
+    ghost spells = { spell row_clause };
+
+    ghost spelled = { λ r p e. (row_clause.exact.shows r p e).words };
+
+    fn begins(word: &[u8]) -> bool
+        ensures { result ≡ is_plus word.now }
+    {
+        is_plus(word)
+    }
+
+    fn read(cursor: Cursor<'t>) -> Option<(RowClause<'t>, Cursor<'t>)>
+        ensures gives { Gives (with_rest row_clause_view) result (read row_clause (rest_of cursor.entry)) }
+        ensures later { IfSome result (λ x. IsLater cursor.entry x.1) }
+        ensures lent { IfSome result (λ x. RowClauseIn cursor.entry.tokens.text.now x.0) }
+    {
+        row_clause_at(cursor)
+    }
+}
+
+/// `name site x y orient [DO columns BY rows [STEP x y]] (+ word rest)* ;`, after `ROW`
+#[tactic(auto, unfolding(def_grammar::specs::Rows::row_statement))]
+pub fn row_at<'t>(cursor: Cursor<'t>) -> Option<(RowParts<'t>, Cursor<'t>)>
+    ensures gives { Gives (with_rest row_view) result (read row_statement (rest_of cursor.entry)) }
+    ensures later { IfSome result (λ x. IsLater cursor.entry x.1) }
+    ensures lent { IfSome result (λ x. RowIn cursor.entry.tokens.text.now x.0) }
+{
+    let (name, cursor) = cursor.name()?;
+    let (site, cursor) = cursor.name()?;
+    let (origin, cursor) = two_numbers_at(cursor)?;
+    let (orient, cursor) = orient_at(cursor)?;
+    let (sites, cursor) = sites_at(cursor)?;
+    let (clauses, cursor) = read_parts::<RowClause<'t>>(cursor)?;
+    let cursor = cursor.key(b";")?;
+    let parts = RowParts {
+        name,
+        site,
+        origin,
+        orient,
+        sites,
+        clauses,
+    };
+    Some((parts, cursor))
+}

@@ -1,0 +1,109 @@
+-- Wiring of the program as that of the definitions, and what it lends from a text.
+use Rattle.std.specs.Prelude.{ℕ, List, Option, IfSome}
+use Rattle.std.specs.Option.{option_map}
+use Rattle.form_meanings.specs.Words.{is_plus}
+use Rattle.form_meanings.specs.Meaning.{items}
+use Rattle.statement_model.specs.Form.{read}
+use Rattle.def_grammar.specs.Clauses.{list_of}
+use Rattle.def_grammar.specs.Wiring.{WiringStatus, routed, fixed, cover, Taper, tapered, tapered_by, not_tapered, Wire, WireMark, wire_shape, wire_style, wire_mask, wire_mark, SpecialWire, is_new, new_wire, new_special_wire, WiringKind, noshield, wired, Wiring, SpecialWiringKind, shields, special_wired, SpecialWiring}
+use Rattle.lefdef_tokens.specs.Views.{IsIn, rest_of}
+use Rattle.statement_reader.specs.declared.parts.Parts.{Parts}
+use Rattle.def_parts.specs.ClauseViews.{MaskIn, mask_view}
+use Rattle.def_parts.specs.PointViews.{PartsIn}
+use Rattle.wire_parts.specs.PathViews.{PathIn, net_path_view, special_path_view}
+use Rattle.wire_parts.specs.declared.wiring.WiringStatus as code_status
+use Rattle.wire_parts.specs.declared.wiring.WiringStatus.TheVariants as statuses
+use Rattle.wire_parts.specs.declared.wiring.Taper as code_taper
+use Rattle.wire_parts.specs.declared.wiring.Taper.TheVariants as tapers
+use Rattle.wire_parts.specs.declared.wiring.Wire as code_wire
+use Rattle.wire_parts.specs.declared.wiring.WireMark as code_mark
+use Rattle.wire_parts.specs.declared.wiring.WireMark.TheVariants as marks
+use Rattle.wire_parts.specs.declared.wiring.SpecialWire as code_special
+use Rattle.wire_parts.specs.declared.wiring.WiringKind as code_kind
+use Rattle.wire_parts.specs.declared.wiring.WiringKind.TheVariants as kinds
+use Rattle.wire_parts.specs.declared.wiring.Wiring as code_wiring
+use Rattle.wire_parts.specs.declared.wiring.SpecialWiringKind as code_special_kind
+use Rattle.wire_parts.specs.declared.wiring.SpecialWiringKind.TheVariants as special_kinds
+use Rattle.wire_parts.specs.declared.wiring.SpecialWires as code_wires
+use Rattle.wire_parts.specs.declared.wiring.SpecialWiring as code_special_wiring
+
+abbrev pub status_view : code_status.WiringStatus → WiringStatus
+status_view statuses.Routed = routed
+status_view statuses.Fixed = fixed
+status_view statuses.Cover = cover
+
+abbrev pub taper_view : code_taper.Taper → Taper
+taper_view tapers.Layer = tapered
+taper_view (tapers.Rule rule) = tapered_by rule.bytes.now
+taper_view tapers.Net = not_tapered
+
+abbrev pub wire_view : code_wire.Wire → Wire
+wire_view w = record { layer = w.layer.bytes.now; taper = taper_view w.taper; style = mask_view w.style; path = net_path_view w.path }
+
+abbrev pub mark_view : code_mark.WireMark → WireMark
+mark_view (marks.Shape word) = wire_shape word.bytes.now
+mark_view (marks.Style number) = wire_style number.bytes.now
+mark_view (marks.Mask word) = wire_mask word.bytes.now
+
+-- the marks that are left of a special wire
+abbrev pub marks_of : Parts code_mark.WireMark → List WireMark
+marks_of parts = items parts.most is_plus (read wire_mark) (rest_of parts.cursor)
+
+abbrev pub special_wire_view : code_special.SpecialWire → SpecialWire
+special_wire_view w = record { layer = w.layer.bytes.now; width = w.width.bytes.now; marks = marks_of w.marks; path = special_path_view w.path }
+
+-- the wires that are left of a wiring clause
+abbrev pub wires_of : Parts code_wire.Wire → List Wire
+wires_of parts = items parts.most is_new (read new_wire) (rest_of parts.cursor)
+
+abbrev pub special_wires_of : Parts code_special.SpecialWire → List SpecialWire
+special_wires_of parts = items parts.most is_new (read new_special_wire) (rest_of parts.cursor)
+
+abbrev pub kind_view : code_kind.WiringKind → WiringKind
+kind_view kinds.NoShield = noshield
+kind_view (kinds.Wired status) = wired (status_view status)
+
+abbrev pub wiring_view : code_wiring.Wiring → Wiring
+wiring_view w = record { kind = kind_view w.kind; first = wire_view w.first; others = wires_of w.others }
+
+abbrev pub special_kind_view : code_special_kind.SpecialWiringKind → SpecialWiringKind
+special_kind_view (special_kinds.Shield net) = shields net.bytes.now
+special_kind_view (special_kinds.Wired status) = special_wired (status_view status)
+
+abbrev pub first_and_others : code_wires.SpecialWires → SpecialWire × List SpecialWire
+first_and_others w = (special_wire_view w.first, special_wires_of w.others)
+
+abbrev pub wires_view : Option code_wires.SpecialWires → List SpecialWire
+wires_view wires = list_of (option_map first_and_others wires)
+
+abbrev pub special_wiring_view : code_special_wiring.SpecialWiring → SpecialWiring
+special_wiring_view w = record { kind = special_kind_view w.kind; wires = wires_view w.wires }
+
+abbrev pub TaperIn : List ℕ → code_taper.Taper → Type 0
+TaperIn text tapers.Layer = Unit {0}
+TaperIn text (tapers.Rule rule) = IsIn text rule
+TaperIn text tapers.Net = Unit {0}
+
+abbrev pub WireIn : List ℕ → code_wire.Wire → Type 0
+WireIn text w = IsIn text w.layer × TaperIn text w.taper × MaskIn text w.style × PathIn text w.path
+
+abbrev pub MarkIn : List ℕ → code_mark.WireMark → Type 0
+MarkIn text (marks.Shape word) = IsIn text word
+MarkIn text (marks.Style number) = IsIn text number
+MarkIn text (marks.Mask word) = IsIn text word
+
+abbrev pub SpecialWireIn : List ℕ → code_special.SpecialWire → Type 0
+SpecialWireIn text w = IsIn text w.layer × IsIn text w.width × PartsIn text w.marks × PathIn text w.path
+
+abbrev pub WiringIn : List ℕ → code_wiring.Wiring → Type 0
+WiringIn text w = WireIn text w.first × PartsIn text w.others
+
+abbrev pub SpecialKindIn : List ℕ → code_special_kind.SpecialWiringKind → Type 0
+SpecialKindIn text (special_kinds.Shield net) = IsIn text net
+SpecialKindIn text (special_kinds.Wired status) = Unit {0}
+
+abbrev pub SpecialWiresIn : List ℕ → code_wires.SpecialWires → Type 0
+SpecialWiresIn text w = SpecialWireIn text w.first × PartsIn text w.others
+
+abbrev pub SpecialWiringIn : List ℕ → code_special_wiring.SpecialWiring → Type 0
+SpecialWiringIn text w = SpecialKindIn text w.kind × IfSome w.wires (λ x. SpecialWiresIn text x)

@@ -1,0 +1,369 @@
+//! Paths of wires: points, vias and rectangles (LEF/DEF 5.8 Language Reference, "Regular Wiring Statement" and "Special
+//! Wiring Statement").
+
+ghost use Rattle.std.specs.Prelude.{◌≡◌, ℕ, List, length, IfSome};
+ghost use Rattle.form_meanings.specs.Words.{Gives, is_place, next_passes};
+ghost use Rattle.statement_model.specs.Form.{Form, many, number, opt, opt_on, read, seen, spell, ◌⨟◌};
+ghost use Rattle.def_grammar.specs.Clauses.{mask};
+ghost use Rattle.def_grammar.specs.Limits.{is_size};
+ghost use Rattle.def_grammar.specs.Parts.{orient};
+ghost use Rattle.def_grammar.specs.Wiring.{array_size, as_path, extension, goes_on, is_orient, net_path, special_path, path_item, special_via, via_array, wire_point, wire_rectangle, wire_start, wire_via};
+ghost use Rattle.lefdef_tokens.specs.Views.{IsIn, IsLater, rest_of};
+ghost use Rattle.def_parts.specs.ClauseViews.{MaskIn, mask_view};
+ghost use Rattle.def_parts.specs.PointViews.{CornersIn, corners_view, same, with_rest};
+ghost use Rattle.wire_parts.specs.PathViews.{array_counts, counts_view, net_path_view, special_path_view, ItemIn, PathIn, SpecialViaIn, ViaArrayIn, WirePointIn, WireViaIn, item_view, special_via_view, via_array_view, wire_point_view, wire_via_view};
+
+use def_parts::clauses::mask_at;
+use def_parts::number::{coordinate_at, copies_at, int_at, is_array, size_at};
+use def_parts::point::Coordinates;
+use def_parts::points::{Corners, is_open, later_point_at, next_is_open, two_numbers_at};
+use design_model::geometry::Orient;
+use lefdef_tokens::{Cursor, Token, is_name, is_place, is_word};
+use statement_reader::parts::{Part, Parts, read_parts};
+
+/// A point of a path, and how far the wire goes past it. A `*` repeats the coordinate of the path's last point.
+#[derive(Clone, Copy)]
+pub struct WirePoint<'t> {
+    pub at: Coordinates<'t>,
+    pub extension: Option<Token<'t>>,
+}
+
+/// A via at the last point of a path.
+#[derive(Clone, Copy, Drop)]
+pub struct WireVia<'t> {
+    pub name: Token<'t>,
+    pub orient: Option<Orient>,
+}
+
+/// Columns and rows of vias, and how far apart they are, in x and in y.
+#[derive(Clone, Copy)]
+pub struct ViaArray<'t> {
+    pub columns: Token<'t>,
+    pub rows: Token<'t>,
+    pub step: Coordinates<'t>,
+}
+
+/// A via of a special net, which may be an array.
+#[derive(Clone, Copy, Drop)]
+pub struct SpecialVia<'t> {
+    pub via: WireVia<'t>,
+    pub array: Option<ViaArray<'t>>,
+}
+
+/// What a path goes on with.
+#[derive(Clone, Copy, Drop)]
+pub enum PathItem<'t, V> {
+    Mask(Token<'t>),
+    /// A point to which no wire goes.
+    Virtual(Coordinates<'t>),
+    /// Two corners, from the path's last point on.
+    Rectangle(Corners<'t>),
+    Point(WirePoint<'t>),
+    Via(V),
+}
+
+/// A path from a point on.
+#[derive(Clone, Copy)]
+pub struct Path<'t, V> {
+    pub mask: Option<Token<'t>>,
+    pub start: WirePoint<'t>,
+    pub items: Parts<'t, PathItem<'t, V>>,
+}
+
+/// `[int]`, 0 or more
+fn extension_at<'t>(cursor: Cursor<'t>) -> Option<(Option<Token<'t>>, Cursor<'t>)>
+    ensures gives { Gives (with_rest mask_view) result (read extension (rest_of cursor.entry)) }
+    ensures later { IfSome result (λ x. IsLater cursor.entry x.1) }
+    ensures lent { IfSome result (λ x. MaskIn cursor.entry.tokens.text.now x.0) }
+{
+    if next_is_place(cursor) {
+        let (number, cursor) = size_at(cursor)?;
+        Some((Some(number), cursor))
+    } else {
+        Some((None, cursor))
+    }
+}
+
+/// Whether a word is next that can stand in the place of a number.
+fn next_is_place<'t>(cursor: Cursor<'t>) -> bool
+    ensures { result ≡ next_passes is_place (rest_of cursor.entry) }
+{
+    match cursor.peek() {
+        Some(token) => is_place(token.bytes),
+        None => false,
+    }
+}
+
+/// `( x y [extension] )`, which begins a path
+#[tactic(auto, unfolding(def_grammar::specs::Wiring::wire_start))]
+pub fn wire_start_at<'t>(cursor: Cursor<'t>) -> Option<(WirePoint<'t>, Cursor<'t>)>
+    ensures gives { Gives (with_rest wire_point_view) result (read wire_start (rest_of cursor.entry)) }
+    ensures later { IfSome result (λ x. IsLater cursor.entry x.1) }
+    ensures lent { IfSome result (λ x. WirePointIn cursor.entry.tokens.text.now x.0) }
+{
+    let (x, cursor) = int_at(cursor.key(b"(")?)?;
+    let (y, cursor) = int_at(cursor)?;
+    let (extension, cursor) = extension_at(cursor)?;
+    let cursor = cursor.key(b")")?;
+    let at = Coordinates { x, y };
+    Some((WirePoint { at, extension }, cursor))
+}
+
+/// `( x y [extension] )`, where x and y can be `*`
+#[tactic(auto, unfolding(def_grammar::specs::Wiring::wire_point))]
+pub fn wire_point_at<'t>(cursor: Cursor<'t>) -> Option<(WirePoint<'t>, Cursor<'t>)>
+    ensures gives { Gives (with_rest wire_point_view) result (read wire_point (rest_of cursor.entry)) }
+    ensures later { IfSome result (λ x. IsLater cursor.entry x.1) }
+    ensures lent { IfSome result (λ x. WirePointIn cursor.entry.tokens.text.now x.0) }
+{
+    let (x, cursor) = coordinate_at(cursor.key(b"(")?)?;
+    let (y, cursor) = coordinate_at(cursor)?;
+    let (extension, cursor) = extension_at(cursor)?;
+    let cursor = cursor.key(b")")?;
+    let at = Coordinates { x, y };
+    Some((WirePoint { at, extension }, cursor))
+}
+
+/// `( x1 y1 x2 y2 )`
+#[tactic(auto, unfolding(def_grammar::specs::Wiring::wire_rectangle))]
+pub fn wire_rectangle_at<'t>(cursor: Cursor<'t>) -> Option<(Corners<'t>, Cursor<'t>)>
+    ensures gives { Gives (with_rest corners_view) result (read wire_rectangle (rest_of cursor.entry)) }
+    ensures later { IfSome result (λ x. IsLater cursor.entry x.1) }
+    ensures lent { IfSome result (λ x. CornersIn cursor.entry.tokens.text.now x.0) }
+{
+    let (first, cursor) = two_numbers_at(cursor.key(b"(")?)?;
+    let (second, cursor) = two_numbers_at(cursor)?;
+    let cursor = cursor.key(b")")?;
+    Some((Corners { first, second }, cursor))
+}
+
+/// `[orient]`
+#[tactic(auto, unfolding(def_grammar::specs::Parts::orient))]
+fn via_orient_at<'t>(cursor: Cursor<'t>) -> Option<(Option<Orient>, Cursor<'t>)>
+    ensures gives { Gives (with_rest same) result (read (opt is_orient orient) (rest_of cursor.entry)) }
+    ensures later { IfSome result (λ x. IsLater cursor.entry x.1) }
+{
+    let Some((word, later)) = cursor.next() else {
+        return Some((None, cursor));
+    };
+    match Orient::of_word(word.bytes) {
+        Some(orient) => Some((Some(orient), later)),
+        None => Some((None, cursor)),
+    }
+}
+
+/// `name [orient]`
+#[tactic(auto, unfolding(def_grammar::specs::Wiring::wire_via))]
+pub fn wire_via_at<'t>(cursor: Cursor<'t>) -> Option<(WireVia<'t>, Cursor<'t>)>
+    ensures gives { Gives (with_rest wire_via_view) result (read wire_via (rest_of cursor.entry)) }
+    ensures later { IfSome result (λ x. IsLater cursor.entry x.1) }
+    ensures lent { IfSome result (λ x. WireViaIn cursor.entry.tokens.text.now x.0) }
+{
+    let (name, cursor) = cursor.name()?;
+    let (orient, cursor) = via_orient_at(cursor)?;
+    Some((WireVia { name, orient }, cursor))
+}
+
+/// A via of a path, by the section of its net.
+pub trait PathVia<'t>: Sized + Copy + Drop {
+    ghost Value: { Type 0 };
+
+    ghost view: { Self → Value };
+
+    ghost lent: { List ℕ → Self → Type 0 };
+
+    ghost form: { Form Value };
+
+    /// A via by its form.
+    fn read(cursor: Cursor<'t>) -> Option<(Self, Cursor<'t>)>
+        ensures gives { Gives (with_rest view) result (read form (rest_of cursor.entry)) }
+        ensures later { IfSome result (λ x. IsLater cursor.entry x.1) }
+        ensures lent { IfSome result (λ x. lent cursor.entry.tokens.text.now x.0) };
+}
+
+impl<'t> PathVia<'t> for WireVia<'t> {
+    ghost use Rattle.def_grammar.specs.Wiring.{WireVia as TheVia};
+
+    ghost Value = { TheVia };
+
+    ghost view = { wire_via_view };
+
+    ghost lent = { WireViaIn };
+
+    ghost form = { wire_via };
+
+    fn read(cursor: Cursor<'t>) -> Option<(WireVia<'t>, Cursor<'t>)>
+        ensures gives { Gives (with_rest wire_via_view) result (read wire_via (rest_of cursor.entry)) }
+        ensures later { IfSome result (λ x. IsLater cursor.entry x.1) }
+        ensures lent { IfSome result (λ x. WireViaIn cursor.entry.tokens.text.now x.0) }
+    {
+        wire_via_at(cursor)
+    }
+}
+
+/// `columns BY rows`
+fn array_counts_at<'t>(cursor: Cursor<'t>) -> Option<((Token<'t>, Token<'t>), Cursor<'t>)>
+    ensures gives { Gives (with_rest counts_view) result (read array_counts (rest_of cursor.entry)) }
+    ensures later { IfSome result (λ x. IsLater cursor.entry x.1) }
+    ensures lent { IfSome result (λ x. IsIn cursor.entry.tokens.text.now x.0.0 × IsIn cursor.entry.tokens.text.now x.0.1) }
+{
+    let (columns, cursor) = copies_at(cursor)?;
+    let (rows, cursor) = copies_at(cursor.key(b"BY")?)?;
+    Some(((columns, rows), cursor))
+}
+
+/// `columns BY rows`, where at most 1000000 vias are valid
+#[tactic(auto, unfolding(def_grammar::specs::Wiring::array_size))]
+fn array_size_at<'t>(cursor: Cursor<'t>) -> Option<((Token<'t>, Token<'t>), Cursor<'t>)>
+    ensures gives { Gives (with_rest counts_view) result (read array_size (rest_of cursor.entry)) }
+    ensures later { IfSome result (λ x. IsLater cursor.entry x.1) }
+    ensures lent { IfSome result (λ x. IsIn cursor.entry.tokens.text.now x.0.0 × IsIn cursor.entry.tokens.text.now x.0.1) }
+{
+    let ((columns, rows), later) = array_counts_at(cursor)?;
+    let good = is_array(columns.bytes, rows.bytes);
+    Some(((columns, rows), later.noted(good, cursor.len())))
+}
+
+/// `columns BY rows STEP x y`, after `DO`
+#[tactic(auto, unfolding(def_grammar::specs::Wiring::via_array))]
+fn via_array_at<'t>(cursor: Cursor<'t>) -> Option<(ViaArray<'t>, Cursor<'t>)>
+    ensures gives { Gives (with_rest via_array_view) result (read via_array (rest_of cursor.entry)) }
+    ensures later { IfSome result (λ x. IsLater cursor.entry x.1) }
+    ensures lent { IfSome result (λ x. ViaArrayIn cursor.entry.tokens.text.now x.0) }
+{
+    let ((columns, rows), cursor) = array_size_at(cursor)?;
+    let (step, cursor) = two_numbers_at(cursor.key(b"STEP")?)?;
+    let array = ViaArray {
+        columns,
+        rows,
+        step,
+    };
+    Some((array, cursor))
+}
+
+/// `name [orient] [DO columns BY rows STEP x y]`
+#[tactic(auto, unfolding(def_grammar::specs::Wiring::special_via))]
+pub fn special_via_at<'t>(cursor: Cursor<'t>) -> Option<(SpecialVia<'t>, Cursor<'t>)>
+    ensures gives { Gives (with_rest special_via_view) result (read special_via (rest_of cursor.entry)) }
+    ensures later { IfSome result (λ x. IsLater cursor.entry x.1) }
+    ensures lent { IfSome result (λ x. SpecialViaIn cursor.entry.tokens.text.now x.0) }
+{
+    let (via, cursor) = wire_via_at(cursor)?;
+    if cursor.next_is(b"DO") {
+        let (array, cursor) = via_array_at(cursor.key(b"DO")?)?;
+        let array = Some(array);
+        Some((SpecialVia { via, array }, cursor))
+    } else {
+        let array = None;
+        Some((SpecialVia { via, array }, cursor))
+    }
+}
+
+impl<'t> PathVia<'t> for SpecialVia<'t> {
+    ghost use Rattle.def_grammar.specs.Wiring.{SpecialVia as TheVia};
+
+    ghost Value = { TheVia };
+
+    ghost view = { special_via_view };
+
+    ghost lent = { SpecialViaIn };
+
+    ghost form = { special_via };
+
+    fn read(cursor: Cursor<'t>) -> Option<(SpecialVia<'t>, Cursor<'t>)>
+        ensures gives { Gives (with_rest special_via_view) result (read special_via (rest_of cursor.entry)) }
+        ensures later { IfSome result (λ x. IsLater cursor.entry x.1) }
+        ensures lent { IfSome result (λ x. SpecialViaIn cursor.entry.tokens.text.now x.0) }
+    {
+        special_via_at(cursor)
+    }
+}
+
+/// Whether a path goes on with what a word begins.
+pub fn goes_on(word: &[u8]) -> bool
+    ensures { result ≡ goes_on word.now }
+{
+    is_open(word) || (is_name(word) && !is_word(word, b"NEW") && !is_word(word, b"DO"))
+}
+
+/// A mask, a point, a point without wire, a rectangle, or a via
+fn path_item_at<'t, V: PathVia<'t>>(cursor: Cursor<'t>) -> Option<(PathItem<'t, V>, Cursor<'t>)>
+    ensures gives { Gives (with_rest (item_view V.view)) result (read (path_item V.form) (rest_of cursor.entry)) }
+    ensures later { IfSome result (λ x. IsLater cursor.entry x.1) }
+    ensures lent { IfSome result (λ x. ItemIn V.lent cursor.entry.tokens.text.now x.0) }
+{
+    if cursor.next_is(b"MASK") {
+        let (word, cursor) = cursor.key(b"MASK")?.plain_word()?;
+        Some((PathItem::Mask(word), cursor))
+    } else if cursor.next_is(b"VIRTUAL") {
+        let (point, cursor) = later_point_at(cursor.key(b"VIRTUAL")?)?;
+        Some((PathItem::Virtual(point.at), cursor))
+    } else if cursor.next_is(b"RECT") {
+        let (corners, cursor) = wire_rectangle_at(cursor.key(b"RECT")?)?;
+        Some((PathItem::Rectangle(corners), cursor))
+    } else if next_is_open(cursor) {
+        let (at, cursor) = wire_point_at(cursor)?;
+        Some((PathItem::Point(at), cursor))
+    } else {
+        let (via, cursor) = V::read(cursor)?;
+        Some((PathItem::Via(via), cursor))
+    }
+}
+
+impl<'t, V: PathVia<'t>> Part<'t> for PathItem<'t, V> {
+    ghost use Rattle.def_grammar.specs.Wiring.{PathItem as TheItem};
+
+    ghost Value = { TheItem V.Value };
+
+    ghost view = { item_view V.view };
+
+    ghost lent = { ItemIn V.lent };
+
+    ghost test = { goes_on };
+
+    ghost reads = { read (path_item V.form) };
+
+    ghost spells = { spell (path_item V.form) };
+
+    ghost spelled = { λ r p e. ((path_item V.form).exact.shows r p e).words };
+
+    fn begins(word: &[u8]) -> bool
+        ensures { result ≡ goes_on word.now }
+    {
+        goes_on(word)
+    }
+
+    fn read(cursor: Cursor<'t>) -> Option<(PathItem<'t, V>, Cursor<'t>)>
+        ensures gives { Gives (with_rest (item_view V.view)) result (read (path_item V.form) (rest_of cursor.entry)) }
+        ensures later { IfSome result (λ x. IsLater cursor.entry x.1) }
+        ensures lent { IfSome result (λ x. ItemIn V.lent cursor.entry.tokens.text.now x.0) }
+    {
+        path_item_at(cursor)
+    }
+}
+
+/// `[MASK word]`, the first point, and what the path goes on with
+#[tactic(auto, unfolding(def_grammar::specs::Wiring::net_path, def_grammar::specs::Wiring::net_item))]
+pub fn net_path_at<'t>(cursor: Cursor<'t>) -> Option<(Path<'t, WireVia<'t>>, Cursor<'t>)>
+    ensures gives { Gives (with_rest net_path_view) result (read net_path (rest_of cursor.entry)) }
+    ensures later { IfSome result (λ x. IsLater cursor.entry x.1) }
+    ensures lent { IfSome result (λ x. PathIn cursor.entry.tokens.text.now x.0) }
+{
+    let (mask, cursor) = mask_at(cursor)?;
+    let (start, cursor) = wire_start_at(cursor)?;
+    let (items, cursor) = read_parts::<PathItem<'t, WireVia<'t>>>(cursor)?;
+    Some((Path { mask, start, items }, cursor))
+}
+
+/// `[MASK word]`, the first point, and what the path of a special net goes on with
+#[tactic(auto, unfolding(def_grammar::specs::Wiring::special_path, def_grammar::specs::Wiring::special_item))]
+pub fn special_path_at<'t>(cursor: Cursor<'t>) -> Option<(Path<'t, SpecialVia<'t>>, Cursor<'t>)>
+    ensures gives { Gives (with_rest special_path_view) result (read special_path (rest_of cursor.entry)) }
+    ensures later { IfSome result (λ x. IsLater cursor.entry x.1) }
+    ensures lent { IfSome result (λ x. PathIn cursor.entry.tokens.text.now x.0) }
+{
+    let (mask, cursor) = mask_at(cursor)?;
+    let (start, cursor) = wire_start_at(cursor)?;
+    let (items, cursor) = read_parts::<PathItem<'t, SpecialVia<'t>>>(cursor)?;
+    Some((Path { mask, start, items }, cursor))
+}

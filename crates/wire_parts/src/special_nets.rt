@@ -1,0 +1,205 @@
+//! Entries of SPECIALNETS (LEF/DEF 5.8 Language Reference, "Special Nets").
+
+ghost use Rattle.std.specs.Prelude.{◌≡◌, IfSome};
+ghost use Rattle.form_meanings.specs.Words.{Gives, is_plus};
+ghost use Rattle.statement_model.specs.Form.{left, or_else, read, right, spell};
+ghost use Rattle.def_grammar.specs.Clauses.{kept_clause};
+ghost use Rattle.def_grammar.specs.SpecialNets.{placed_via, special_clause, special_listed, special_net_form, special_shape};
+ghost use Rattle.lefdef_tokens.specs.Views.{IsLater, rest_of};
+ghost use Rattle.def_parts.specs.PointViews.{with_rest};
+ghost use Rattle.wire_parts.specs.SpecialNetViews.{PlacedViaIn, SpecialClauseIn, SpecialNetIn, placed_via_view, special_by_word, special_clause_view, special_net_view};
+
+use crate::paths::{WireVia, wire_via_at};
+use crate::terminals::Terminal;
+use crate::wiring::{SpecialWiring, special_wiring_at};
+use def_parts::clauses::{KeptClause, kept_clause_at};
+use def_parts::point::{Coordinates, point_at};
+use def_parts::points::{Corners, LaterPoint, Polygon, corners_at, polygon_at};
+use lefdef_tokens::{Cursor, Token, TokenRun, is_plus};
+use statement_reader::parts::{Part, Parts, read_parts};
+
+/// A via at one point and more.
+#[derive(Clone, Copy)]
+pub struct PlacedVia<'t> {
+    pub via: WireVia<'t>,
+    pub first: Coordinates<'t>,
+    pub others: Parts<'t, LaterPoint<'t>>,
+}
+
+/// A clause of an entry, without its `+`.
+#[derive(Clone, Copy, Drop)]
+pub enum SpecialClause<'t> {
+    /// All tokens up to the entry's end, without meaning.
+    Subnet(TokenRun<'t>),
+    Use(Token<'t>),
+    Shape(Token<'t>),
+    Mask(Token<'t>),
+    /// A rectangle on a layer.
+    Rectangle(Token<'t>, Corners<'t>),
+    Vias(PlacedVia<'t>),
+    /// A polygon on a layer.
+    Polygon(Token<'t>, Polygon<'t>),
+    Wiring(SpecialWiring<'t>),
+    /// A clause without meaning, or one that hasn't its form.
+    Other(KeptClause<'t>),
+}
+
+/// An entry: its name, its terminals, and its clauses.
+#[derive(Clone, Copy)]
+pub struct SpecialNetParts<'t> {
+    pub name: Token<'t>,
+    pub terminals: Parts<'t, Terminal<'t>>,
+    pub clauses: Parts<'t, SpecialClause<'t>>,
+}
+
+/// `name [orient] point+`, after `VIA`
+#[tactic(auto, unfolding(def_grammar::specs::SpecialNets::placed_via))]
+fn placed_via_at<'t>(cursor: Cursor<'t>) -> Option<(PlacedVia<'t>, Cursor<'t>)>
+    ensures gives { Gives (with_rest placed_via_view) result (read placed_via (rest_of cursor.entry)) }
+    ensures later { IfSome result (λ x. IsLater cursor.entry x.1) }
+    ensures lent { IfSome result (λ x. PlacedViaIn cursor.entry.tokens.text.now x.0) }
+{
+    let (via, cursor) = wire_via_at(cursor)?;
+    let (first, cursor) = point_at(cursor)?;
+    let (others, cursor) = read_parts::<LaterPoint<'t>>(cursor)?;
+    Some((PlacedVia { via, first, others }, cursor))
+}
+
+/// `RECT layer ..`, `VIA ..`, `POLYGON layer ..`, or wiring
+#[tactic(auto, unfolding(def_grammar::specs::SpecialNets::special_shape))]
+fn shape_at<'t>(cursor: Cursor<'t>) -> Option<(SpecialClause<'t>, Cursor<'t>)>
+    ensures gives { Gives (with_rest special_clause_view) result (read (right (left (right (right (right special_shape))))) (rest_of cursor.entry)) }
+    ensures later { IfSome result (λ x. IsLater cursor.entry x.1) }
+    ensures lent { IfSome result (λ x. SpecialClauseIn cursor.entry.tokens.text.now x.0) }
+{
+    if cursor.next_is(b"RECT") {
+        let (layer, cursor) = cursor.key(b"RECT")?.name()?;
+        let (corners, cursor) = corners_at(cursor)?;
+        Some((SpecialClause::Rectangle(layer, corners), cursor))
+    } else if cursor.next_is(b"VIA") {
+        let (via, cursor) = placed_via_at(cursor.key(b"VIA")?)?;
+        Some((SpecialClause::Vias(via), cursor))
+    } else if cursor.next_is(b"POLYGON") {
+        let (layer, cursor) = cursor.key(b"POLYGON")?.name()?;
+        let (polygon, cursor) = polygon_at(cursor)?;
+        Some((SpecialClause::Polygon(layer, polygon), cursor))
+    } else {
+        let (wiring, cursor) = special_wiring_at(cursor)?;
+        Some((SpecialClause::Wiring(wiring), cursor))
+    }
+}
+
+/// `USE word`, `SHAPE word`, `MASK word`, a shape, or wiring
+fn clause_by_word_at<'t>(cursor: Cursor<'t>) -> Option<(SpecialClause<'t>, Cursor<'t>)>
+    ensures gives { Gives (with_rest special_clause_view) result (read (right (left special_by_word)) (rest_of cursor.entry)) }
+    ensures later { IfSome result (λ x. IsLater cursor.entry x.1) }
+    ensures lent { IfSome result (λ x. SpecialClauseIn cursor.entry.tokens.text.now x.0) }
+{
+    if cursor.next_is(b"USE") {
+        let (word, cursor) = cursor.key(b"USE")?.plain_word()?;
+        Some((SpecialClause::Use(word), cursor))
+    } else if cursor.next_is(b"SHAPE") {
+        let (word, cursor) = cursor.key(b"SHAPE")?.plain_word()?;
+        Some((SpecialClause::Shape(word), cursor))
+    } else if cursor.next_is(b"MASK") {
+        let (word, cursor) = cursor.key(b"MASK")?.plain_word()?;
+        Some((SpecialClause::Mask(word), cursor))
+    } else {
+        shape_at(cursor)
+    }
+}
+
+/// A clause that has its form, before a `+` or a `;`
+#[tactic(auto, unfolding(def_grammar::specs::SpecialNets::special_listed))]
+fn listed_at<'t>(cursor: Cursor<'t>) -> Option<(SpecialClause<'t>, Cursor<'t>)>
+    ensures gives { Gives (with_rest special_clause_view) result (read (right (left special_listed)) (rest_of cursor.entry)) }
+    ensures later { IfSome result (λ x. IsLater cursor.entry x.1) }
+    ensures lent { IfSome result (λ x. SpecialClauseIn cursor.entry.tokens.text.now x.0) }
+{
+    let (clause, cursor) = clause_by_word_at(cursor)?;
+    if cursor.next_is_stop() {
+        Some((clause, cursor))
+    } else {
+        None
+    }
+}
+
+/// A clause that has its form, or any other
+fn listed_or_kept_at<'t>(cursor: Cursor<'t>) -> Option<(SpecialClause<'t>, Cursor<'t>)>
+    ensures gives { Gives (with_rest special_clause_view) result (read (right (or_else special_listed kept_clause)) (rest_of cursor.entry)) }
+    ensures later { IfSome result (λ x. IsLater cursor.entry x.1) }
+    ensures lent { IfSome result (λ x. SpecialClauseIn cursor.entry.tokens.text.now x.0) }
+{
+    if let Some(listed) = listed_at(cursor) {
+        return Some(listed);
+    }
+    let (clause, cursor) = kept_clause_at(cursor)?;
+    Some((SpecialClause::Other(clause), cursor))
+}
+
+/// `+ SUBNET any*`, or another clause behind its `+`
+#[tactic(auto, unfolding(def_grammar::specs::SpecialNets::special_clause))]
+fn special_clause_at<'t>(cursor: Cursor<'t>) -> Option<(SpecialClause<'t>, Cursor<'t>)>
+    ensures gives { Gives (with_rest special_clause_view) result (read special_clause (rest_of cursor.entry)) }
+    ensures later { IfSome result (λ x. IsLater cursor.entry x.1) }
+    ensures lent { IfSome result (λ x. SpecialClauseIn cursor.entry.tokens.text.now x.0) }
+{
+    let cursor = cursor.key(b"+")?;
+    if cursor.next_is(b"SUBNET") {
+        let (tokens, cursor) = cursor.key(b"SUBNET")?.up_to_semicolon();
+        Some((SpecialClause::Subnet(tokens), cursor))
+    } else {
+        listed_or_kept_at(cursor)
+    }
+}
+
+impl<'t> Part<'t> for SpecialClause<'t> {
+    ghost use Rattle.def_grammar.specs.SpecialNets.{SpecialClause as TheClause};
+
+    ghost Value = { TheClause };
+
+    ghost view = { special_clause_view };
+
+    ghost lent = { SpecialClauseIn };
+
+    ghost test = { is_plus };
+
+    ghost reads = { read special_clause };
+
+    ghost spells = { spell special_clause };
+
+    ghost spelled = { λ r p e. (special_clause.exact.shows r p e).words };
+
+    fn begins(word: &[u8]) -> bool
+        ensures { result ≡ is_plus word.now }
+    {
+        is_plus(word)
+    }
+
+    fn read(cursor: Cursor<'t>) -> Option<(SpecialClause<'t>, Cursor<'t>)>
+        ensures gives { Gives (with_rest special_clause_view) result (read special_clause (rest_of cursor.entry)) }
+        ensures later { IfSome result (λ x. IsLater cursor.entry x.1) }
+        ensures lent { IfSome result (λ x. SpecialClauseIn cursor.entry.tokens.text.now x.0) }
+    {
+        special_clause_at(cursor)
+    }
+}
+
+/// `- name terminal* (+ clause)* ;`
+#[tactic(auto, unfolding(def_grammar::specs::SpecialNets::special_net_form))]
+pub fn special_net_at<'t>(cursor: Cursor<'t>) -> Option<(SpecialNetParts<'t>, Cursor<'t>)>
+    ensures gives { Gives (with_rest special_net_view) result (read special_net_form (rest_of cursor.entry)) }
+    ensures later { IfSome result (λ x. IsLater cursor.entry x.1) }
+    ensures lent { IfSome result (λ x. SpecialNetIn cursor.entry.tokens.text.now x.0) }
+{
+    let (name, cursor) = cursor.key(b"-")?.name()?;
+    let (terminals, cursor) = read_parts::<Terminal<'t>>(cursor)?;
+    let (clauses, cursor) = read_parts::<SpecialClause<'t>>(cursor)?;
+    let cursor = cursor.key(b";")?;
+    let parts = SpecialNetParts {
+        name,
+        terminals,
+        clauses,
+    };
+    Some((parts, cursor))
+}

@@ -1,0 +1,111 @@
+//! The terminals of nets (LEF/DEF 5.8 Language Reference, "Nets").
+
+ghost use Rattle.std.specs.Prelude.{◌≡◌, IfSome};
+ghost use Rattle.form_meanings.specs.Words.{Gives};
+ghost use Rattle.statement_model.specs.Form.{read, spell};
+ghost use Rattle.def_grammar.specs.Points.{is_open};
+ghost use Rattle.def_grammar.specs.Terminals.{is_of_all, is_of_design, is_virtual, synthesized, terminal};
+ghost use Rattle.lefdef_tokens.specs.Views.{IsLater, rest_of};
+ghost use Rattle.def_parts.specs.PointViews.{same, with_rest};
+ghost use Rattle.wire_parts.specs.TerminalViews.{TerminalIn, terminal_view};
+
+use def_parts::points::is_open;
+use lefdef_tokens::{Cursor, Token, is_word};
+use statement_reader::parts::Part;
+
+/// A terminal of a net: whose pin it is, the pin, and whether the clock tree or the scan chain was synthesized with it.
+#[derive(Clone, Copy, Drop)]
+pub struct Terminal<'t> {
+    /// A component, `PIN` for a pin of the design, `VPIN`, or `*` for each component that has the pin.
+    pub owner: Token<'t>,
+    pub pin: Token<'t>,
+    pub is_synthesized: bool,
+}
+
+impl<'t> Terminal<'t> {
+    /// Whether it is the pin of each component that has one.
+    pub fn is_of_all(&self) -> bool
+        ensures { result ≡ is_of_all (terminal_view self.now) }
+    {
+        is_word(self.owner.bytes, b"*")
+    }
+
+    /// Whether it is a pin of the design.
+    pub fn is_of_design(&self) -> bool
+        ensures { result ≡ is_of_design (terminal_view self.now) }
+    {
+        is_word(self.owner.bytes, b"PIN")
+    }
+
+    /// Whether it is a virtual pin, which means nothing.
+    pub fn is_virtual(&self) -> bool
+        ensures { result ≡ is_virtual (terminal_view self.now) }
+    {
+        is_word(self.owner.bytes, b"VPIN")
+    }
+}
+
+/// `[+ SYNTHESIZED]`
+#[tactic(auto, unfolding(def_grammar::specs::Terminals::synthesized))]
+fn synthesized_at<'t>(cursor: Cursor<'t>) -> Option<(bool, Cursor<'t>)>
+    ensures gives { Gives (with_rest same) result (read synthesized (rest_of cursor.entry)) }
+    ensures later { IfSome result (λ x. IsLater cursor.entry x.1) }
+{
+    if cursor.next_is_plus() {
+        let cursor = cursor.key(b"+")?.key(b"SYNTHESIZED")?;
+        Some((true, cursor))
+    } else {
+        Some((false, cursor))
+    }
+}
+
+/// `( owner pin [+ SYNTHESIZED] )`
+#[tactic(auto, unfolding(def_grammar::specs::Terminals::terminal))]
+pub fn terminal_at<'t>(cursor: Cursor<'t>) -> Option<(Terminal<'t>, Cursor<'t>)>
+    ensures gives { Gives (with_rest terminal_view) result (read terminal (rest_of cursor.entry)) }
+    ensures later { IfSome result (λ x. IsLater cursor.entry x.1) }
+    ensures lent { IfSome result (λ x. TerminalIn cursor.entry.tokens.text.now x.0) }
+{
+    let (owner, cursor) = cursor.key(b"(")?.place()?;
+    let (pin, cursor) = cursor.name()?;
+    let (is_synthesized, cursor) = synthesized_at(cursor)?;
+    let cursor = cursor.key(b")")?;
+    let terminal = Terminal {
+        owner,
+        pin,
+        is_synthesized,
+    };
+    Some((terminal, cursor))
+}
+
+impl<'t> Part<'t> for Terminal<'t> {
+    ghost use Rattle.def_grammar.specs.Terminals.{Terminal as TheTerminal};
+
+    ghost Value = { TheTerminal };
+
+    ghost view = { terminal_view };
+
+    ghost lent = { TerminalIn };
+
+    ghost test = { is_open };
+
+    ghost reads = { read terminal };
+
+    ghost spells = { spell terminal };
+
+    ghost spelled = { λ r p e. (terminal.exact.shows r p e).words };
+
+    fn begins(word: &[u8]) -> bool
+        ensures { result ≡ is_open word.now }
+    {
+        is_open(word)
+    }
+
+    fn read(cursor: Cursor<'t>) -> Option<(Terminal<'t>, Cursor<'t>)>
+        ensures gives { Gives (with_rest terminal_view) result (read terminal (rest_of cursor.entry)) }
+        ensures later { IfSome result (λ x. IsLater cursor.entry x.1) }
+        ensures lent { IfSome result (λ x. TerminalIn cursor.entry.tokens.text.now x.0) }
+    {
+        terminal_at(cursor)
+    }
+}
