@@ -14,7 +14,11 @@ use Rattle.statement_model.specs.Reading.{read_at, repeats, with_key, fault_at, 
 use Rattle.lefdef_tokens.specs.Views.{span_of}
 use Rattle.lefdef_tokens.specs.declared.span.Span.{Span}
 use Rattle.statement_reader.specs.Located.{located_at}
-use Rattle.statement_reader.proofs.LocatedSteps.{located_first}
+use Rattle.statement_reader.proofs.LocatedSteps.{located_first, located_ends}
+use Rattle.statement_reader.specs.ReadingLaws.{RecordsAreLocated}
+use Rattle.std.proofs.lemmas.List.{append-nil}
+use Rattle.def_reader.specs.TextViews.{statement_spans}
+use Rattle.def_reader.proofs.RecordSteps.{located_is}
 use Rattle.statement_reader.proofs.SoFar.{SoFar, so_far_start, so_far_on, so_far_fault, so_far_repeats, so_far_ends, so_far_lacks}
 use Rattle.statement_reader.proofs.Steps.{form_read}
 use Rattle.def_grammar.specs.Records.{def, def_ending, Record, key_of, read_def, without_units}
@@ -35,6 +39,20 @@ pub one_more_span : (mode after : Mode) (text : List ℕ) (pos end : ℕ) (ps : 
 one_more_span mode after text pos end ps rec all spans span at read is so_far =
     so_far ∙ ap (λ (z : List (List Piece × Record)). spans ++ map (λ x. span_of x.0) z) (located_first def mode after (left_from text pos) (left_from text end) ps rec at read)
     ∙ rw is (sym (append_assoc spans (span ∷ []) (spans_at after text end)))
+
+pub starts : (ps : List Piece) → (span_of ps).lo ≡ pos_of ps
+starts [] = refl
+starts (p ∷ ps) = refl
+
+-- all of them, where none is left
+pub all_spans : (law : RecordsAreLocated def) (text : List ℕ) (mode : Mode) (pos n : ℕ) (spans : List Span) (design : List Record)
+    → read_def text ≡ Ok design
+    → spans_at Top text 0 ≡ spans ++ spans_at mode text pos
+    → left_from text pos ≡ record { pieces = []; end = Ok n }
+    → spans ≡ statement_spans text design
+all_spans law text mode pos n spans design reads so_far ended =
+    let none : spans_at mode text pos ≡ [] = ap (map (λ (x : List Piece × Record). span_of x.0)) (located_ends def mode (left_from text pos) n ended) in
+    sym (ap (map (λ (x : List Piece × Record). span_of x.0)) (located_is law text design reads) ∙ so_far ∙ ap (λ (z : List Span). spans ++ z) none ∙ append-nil spans)
 
 -- the text reads so far, and sets of words stand for its keys
 pub record Going (text : List ℕ) (words names : List (Bor (List ℕ))) (mode : Mode) (pos : ℕ) : Type 0 where

@@ -1,5 +1,5 @@
 -- The statements of a text that reads, with what they say.
-use Rattle.std.proofs.Common.{◌≡◌, ℕ, true, List, [], ◌∷◌, ◌++◌, map, refl, sym, ap, ◌∙◌, subst, inl, inr, append_assoc, Some, Result, Ok, Err}
+use Rattle.std.proofs.Common.{◌≡◌, ℕ, true, false, List, [], ◌∷◌, ◌++◌, map, refl, sym, ap, ◌∙◌, subst, inl, inr, append_assoc, Some, Result, Ok, Err}
 use Rattle.std.specs.Prelude.{IsOk}
 use Rattle.std.specs.List.{All, zip}
 use Rattle.std.proofs.lemmas.Bool.{cases_Bool}
@@ -8,6 +8,7 @@ use Rattle.std.proofs.lemmas.List.Elements.{All-push}
 use Rattle.design_model.specs.declared.fault.Fault.{Fault}
 use Rattle.design_model.specs.declared.mode.Mode.{Mode}
 use Rattle.design_model.specs.declared.mode.Mode.TheVariants.{Top, In}
+use Rattle.design_model.specs.declared.mode.Section.{Section}
 use Rattle.design_model.specs.declared.mode.Section.TheVariants.{Components}
 use Rattle.form_meanings.specs.Words.{is_empty, start}
 use Rattle.statement_model.specs.Tokens.{Piece, left_from, tokens}
@@ -18,8 +19,9 @@ use Rattle.statement_reader.specs.Located.{in_front, located_on, located_at}
 use Rattle.statement_reader.specs.ReadingLaws.{RecordsAreLocated}
 use Rattle.statement_reader.specs.declared.grammar.Read.{Read}
 use Rattle.def_grammar.specs.Components.{Component, component_form}
-use Rattle.def_grammar.specs.Records.{def, def_ending, Record, entry, component, component_of, statement, entries_form, read_def}
+use Rattle.def_grammar.specs.Records.{def, def_ending, Record, entry, entry_of, component, component_of, statement, entries_form, read_def}
 use Rattle.design_rules.specs.Edits.{located, component_at, component_if}
+use Rattle.design_rules.specs.Entries.{entry_at, is_entry}
 use Rattle.def_reader.specs.Lent.{ReadIn}
 use Rattle.def_reader.specs.RecordViews.{record_of, located_view}
 use Rattle.def_reader.specs.declared.statement.Statement.{Statement}
@@ -126,3 +128,11 @@ module _ (name : List ℕ) (m : Mode) (text : List ℕ) (pos : ℕ) (s : List Pi
     (first : located_at def m text pos ≡ (s, rec) ∷ located_at def after text end) where
   pub named_here : (found : List Piece × Component) → Some found ≡ component_if name s (component_of rec) → Some found ≡ component_at name front
   named_here found is = sym (same ∙ ap (component_at name) first ∙ rw (← is) refl)
+
+-- so is an entry of a section
+module _ (s : Section) (name : List ℕ) (front later : List (List Piece × Record)) (ps : List Piece) (rec : Record) (first : front ≡ (ps, rec) ∷ later) where
+  pub entry_here : is_entry s name (entry_of rec) ≡ true → entry_at s name front ≡ Some (ps, rec)
+  entry_here is = rw first (rw is refl)
+
+  pub entry_later : is_entry s name (entry_of rec) ≡ false → entry_at s name front ≡ entry_at s name later
+  entry_later other = rw first (rw other refl)

@@ -4,11 +4,13 @@ ghost use Rattle.std.specs.Prelude.{◌≡◌, false, IfSome};
 ghost use Rattle.std.specs.Option.{option_map};
 ghost use Rattle.form_meanings.specs.Words.{Gives};
 ghost use Rattle.statement_model.specs.Form.{read};
-ghost use Rattle.def_grammar.specs.Records.{entries_form, name_of, section_of, skipped_entries};
+ghost use Rattle.def_grammar.specs.Records.{entries_form, entry_key, name_of, section_of, skipped_entries};
 ghost use Rattle.lefdef_tokens.specs.Views.{IsLater, rest_of};
 ghost use Rattle.def_parts.specs.PointViews.{with_rest};
 ghost use Rattle.def_reader.specs.EntryViews.{EntryIn, bytes_of, entry_view, is_place_section};
+ghost use Rattle.def_reader.specs.SeenViews.{key_view};
 
+use crate::seen::Key;
 use design_model::mode::Section;
 use lefdef_tokens::{Cursor, TokenRun};
 use place_parts::blockages::{BlockageEntry, blockage_entry_at};
@@ -70,6 +72,16 @@ impl<'t> Entry<'t> {
             Entry::Via(parts) => Some(parts.name.bytes),
             Entry::Rule(parts) => Some(parts.name.bytes),
             Entry::Blockage(_) | Entry::Skipped(_, _) => None,
+        }
+    }
+
+    /// What of it a text has once.
+    pub(crate) fn key(&self) -> Key<'t>
+        ensures { key_view result ≡ entry_key (section_of (entry_view self.now)) (name_of (entry_view self.now)) }
+    {
+        match self.name() {
+            Some(name) => Key::Entry(self.section(), name),
+            None => Key::Nothing,
         }
     }
 }

@@ -21,7 +21,7 @@ pub enum Property<'t> {
 
 /// `END PROPERTYDEFINITIONS`
 fn end_at<'t>(cursor: Cursor<'t>) -> Option<Cursor<'t>>
-    ensures gives { Gives (λ left. ((), rest_of left)) result (read (codes "END" ▸ codes "PROPERTYDEFINITIONS" ▸ empty) (rest_of cursor.entry)) }
+    ensures gives { Gives (λ left. (tt, rest_of left)) result (read (codes "END" ▸ codes "PROPERTYDEFINITIONS" ▸ empty) (rest_of cursor.entry)) }
     ensures later { IfSome result (λ left. IsLater cursor.entry left) }
 {
     // Most statements are no END, and a look reads no token.

@@ -7,11 +7,13 @@ ghost use Rattle.def_reader.specs.TextViews.{ReadsText, statement_spans};
 
 use crate::read_statement::read_statement;
 use crate::seen::Seen;
+use crate::statement::Statement;
 use design_model::MAX_TEXT;
 use design_model::fault::{Fault, FaultCode, ReadError};
 use design_model::mode::Mode;
 use design_model::sequence::Sequence;
 use lefdef_tokens::Span;
+use statement_reader::laws::records_are_read;
 use std::alloc::{Allocator, Global};
 
 /// Where the statements of a text stand, in its order.
@@ -24,6 +26,7 @@ pub fn read_def<A: Allocator + Copy>(alloc: A, text: &[u8]) -> Result<Spans<A>, 
     ensures reads { ReadsText text.now result }
     ensures spans { IfOk result (λ spans. (design : List Record) → read_def text.now ≡ Ok design → spans ≡ statement_spans text.now design) }
 {
+    records_are_read::<Statement<'_>>();
     if text.len() > MAX_TEXT {
         return Err(ReadError::Fault(Fault {
             code: FaultCode::TooLong,

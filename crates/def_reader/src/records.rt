@@ -20,7 +20,7 @@ use crate::entry::Entry;
 use crate::read_statement::Read;
 use crate::statement::Statement;
 use design_model::mode::{Mode, Section};
-use lefdef_tokens::TokenRun;
+use lefdef_tokens::{TokenRun, is_word};
 use statement_reader::laws::records_are_read;
 use statement_reader::text;
 use std::alloc::{AllocError, Allocator};
@@ -96,7 +96,7 @@ fn is_entry(statement: &Statement<'_>, section: Section, name: &[u8]) -> bool
     let Some(own) = entry.name() else {
         return false;
     };
-    entry.section().word() == section.word() && own == name
+    is_word(entry.section().word(), section.word()) && is_word(own, name)
 }
 
 /// The first entry of a section of this name. No statement after it is read.

@@ -9,7 +9,7 @@ ghost use Rattle.def_grammar.specs.Records.{component_of, def, def_ending, entry
 ghost use Rattle.lefdef_tokens.specs.Views.{IsLater, rest_of, words_of};
 ghost use Rattle.statement_reader.specs.Endings.{ending_view};
 ghost use Rattle.place_parts.specs.ComponentViews.{component_view, ComponentIn};
-ghost use Rattle.def_reader.specs.EntryViews.{entry_view};
+ghost use Rattle.def_reader.specs.EntryViews.{EntryIn, entry_view};
 ghost use Rattle.def_reader.specs.Lent.{StatementIn};
 ghost use Rattle.def_parts.specs.PointViews.{with_rest};
 ghost use Rattle.def_reader.specs.SeenViews.{key_view};
@@ -52,36 +52,36 @@ impl<'t> Statement<'t> {
     pub fn key(&self) -> Key<'t>
         ensures { key_view result ≡ key_of (record_view self.now) }
     {
+        if let Statement::Entry(entry) = self {
+            return entry.key();
+        }
         match self {
             Statement::Units(_) => Key::Statement(b"UNITS"),
             Statement::Header(section, _) => Key::Statement(section.word()),
             Statement::Properties => Key::Statement(b"PROPERTYDEFINITIONS"),
             Statement::Floor(Floor::DieArea(_)) => Key::Statement(b"DIEAREA"),
-            Statement::Entry(entry) => match entry.name() {
-                Some(name) => Key::Entry(entry.section(), name),
-                None => Key::Nothing,
-            },
             _ => Key::Nothing,
         }
     }
 
     /// The component of an entry.
-    pub fn component(&self) -> Option<ComponentParts<'t>>
-        ensures gives { option_map component_view result ≡ component_of (record_view self.now) }
-        ensures lent { (text : List ℕ) → StatementIn text self.now → IfSome result (λ c. ComponentIn text c) }
+    pub fn component(self) -> Option<ComponentParts<'t>>
+        ensures gives { option_map component_view result ≡ component_of (record_view self.entry) }
+        ensures lent { (text : List ℕ) → StatementIn text self.entry → IfSome result (λ c. ComponentIn text c) }
     {
         match self {
-            Statement::Entry(Entry::Component(parts)) => Some(*parts),
+            Statement::Entry(Entry::Component(parts)) => Some(parts),
             _ => None,
         }
     }
 
     /// The entry that it is.
-    pub fn entry(&self) -> Option<Entry<'t>>
-        ensures { option_map entry_view result ≡ entry_of (record_view self.now) }
+    pub fn entry(self) -> Option<Entry<'t>>
+        ensures gives { option_map entry_view result ≡ entry_of (record_view self.entry) }
+        ensures lent { (text : List ℕ) → StatementIn text self.entry → IfSome result (λ e. EntryIn text e) }
     {
         match self {
-            Statement::Entry(entry) => Some(*entry),
+            Statement::Entry(entry) => Some(entry),
             _ => None,
         }
     }

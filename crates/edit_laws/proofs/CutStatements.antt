@@ -9,7 +9,7 @@ use Rattle.std.proofs.lemmas.Bool.{cases_Bool as cases}
 use Rattle.statement_laws.proofs.StatementLists.{statements_join}
 
 -- the tokens of statements one after the other
-abbrev joined : List (List Piece) → List Piece
+abbrev pub joined : List (List Piece) → List Piece
 joined [] = []
 joined (s ∷ ss) = s ++ joined ss
 
@@ -36,7 +36,7 @@ module _ (ending : List ℕ → Ending) where
   IsBegun ps = statements ending [] ps ≡ ([], ps)
 
   -- the tokens of the statements, and those left over, are all
-  all_kept : (before ps : List Piece) → joined (statements ending before ps).0 ++ (statements ending before ps).1 ≡ before ++ ps
+  pub all_kept : (before ps : List Piece) → joined (statements ending before ps).0 ++ (statements ending before ps).1 ≡ before ++ ps
   unfolding statements
   all_kept before [] = sym (append-nil before)
   all_kept before (p ∷ ps) =

@@ -62,7 +62,7 @@ entries_are_written text from state recs ps e reads s =
 some_left : (text : List ℕ) (k : ℕ) → 0 < length (drop k text) → k ≤ length text
 some_left text k some = omega (arith, length-drop k text)
 
-tokens_need_text : (text : List ℕ) (front ps behind : List Piece) → (tokens text).pieces ≡ front ++ (ps ++ behind) → 0 < length ps → 0 < length text
+pub tokens_need_text : (text : List ℕ) (front ps behind : List Piece) → (tokens text).pieces ≡ front ++ (ps ++ behind) → 0 < length ps → 0 < length text
 unfolding lex
 tokens_need_text (b ∷ bs) front ps behind e some = omega arith
 tokens_need_text [] (p ∷ front) ps behind e some = absurd (cc)

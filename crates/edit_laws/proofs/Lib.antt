@@ -1,3 +1,4 @@
+pub mod AloneEntries
 pub mod ChangedTokens
 pub mod CutStatements
 pub mod EditRuns
@@ -6,6 +7,7 @@ pub mod EditedTexts
 pub mod EntryForms
 pub mod EntriesChanged
 pub mod FoundComponents
+pub mod FoundEntries
 pub mod Keys
 pub mod MappedParts
 pub mod MovedChanges

@@ -1,3 +1,4 @@
+pub mod AloneLaws
 pub mod EditLaws
 pub mod EntryLaws
 pub mod PlacingLaws

@@ -6,9 +6,11 @@
 //!
 //! `entries` has the laws that name no edit: a change within an entry, of any kind and from any place of a text on
 //! (`specs/EntryLaws`). An edit owes that it is such a change; `placing` says so of `place` (`specs/PlacingLaws`). The
-//! edits themselves are defined in `design_rules/specs/Edits`.
+//! edits themselves are defined in `design_rules/specs/Edits`. `alone` says that an entry reads from its own bytes as
+//! it does in its text.
 #![tactic(auto)]
 
+pub mod alone;
 pub mod editing;
 pub mod entries;
 pub mod placing;

@@ -24,6 +24,10 @@ pub ok_so : {T E : Type 0} (P Q : T → Type 0) (r : Result T E) → ((t : T) �
 ok_so P Q (Ok t) so h = so t h
 ok_so P Q (Err e) so h = tt
 
+pub ok_of_both : {T E : Type 0} (P Q R : T → Type 0) (r : Result T E) → ((t : T) → P t → Q t → R t) → IfOk r P → IfOk r Q → IfOk r R
+ok_of_both P Q R (Ok t) so g h = so t g h
+ok_of_both P Q R (Err e) so g h = tt
+
 pub err_so : {T E : Type 0} (P Q : E → Type 0) (r : Result T E) → ((e : E) → P e → Q e) → IfErr r P → IfErr r Q
 err_so P Q (Ok t) so h = tt
 err_so P Q (Err e) so h = so e h

@@ -20,8 +20,8 @@ use Rattle.lef_grammar.specs.Library.{Library}
 use Rattle.def_grammar.specs.Records.{Record}
 use Rattle.def_grammar.specs.Records.{read_def}
 use Rattle.design_rules.specs.Runs.{Step, design_edit, text_edit, Answers, Makes, new_text}
-use Rattle.design_rules.specs.Script.{Question, Order, nothing, make, refuse, ask, bad, order_of, trimmed_lines, script_lines}
-use Rattle.design_rules.specs.Output.{Counts, LineAnswers, Output, reply_line, refusal_line, counted, answer_to, bad_line, no_lines}
+use Rattle.design_rules.specs.Script.{Order, nothing, make, refuse, ask, bad, order_of, trimmed_lines, script_lines}
+use Rattle.design_rules.specs.Output.{Counts, LineAnswers, Output, reply_line, refusal_line, counted, answer_to, asked_counts, asked_line, bad_line, no_lines}
 use Rattle.edit_script.specs.Ends.{WritesRun, WritesRunPart}
 
 abbrev Lines : Type 0
@@ -82,7 +82,8 @@ some_line library n (make step) old t reads =
 some_line library n (refuse code) old t reads = (refusal_line n (Refused code), record t { refused = t.refused + 1 }, (refl, refl, refl))
 some_line library n (ask question) old t reads =
     let (design, is) = some_design (read_def old) reads in
-    (answer_to library design question, t, (design, is, refl, refl, refl))
+    let answer = answer_to library old design question in
+    (asked_line n answer, asked_counts answer t, (design, is, refl, refl, refl))
 some_line library n bad old t reads = (bad_line n, record t { bad = t.bad + 1 }, (refl, refl, refl))
 
 -- there is an output of any lines, over a text that reads

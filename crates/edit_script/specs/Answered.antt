@@ -1,12 +1,10 @@
 -- What the answer to one line says.
-use Rattle.std.specs.Prelude.{◌≡◌, ◌≤◌, ◌<◌, ◌+◌, ◌^◌, ℕ, List, Option, Some, Result, Ok, Err, length}
+use Rattle.std.specs.Prelude.{◌≡◌, ◌≤◌, ◌<◌, ◌+◌, ◌^◌, ℕ, List, Option, Some, Result, Err, length}
 use Rattle.design_model.specs.declared.edit.Done.{Done}
 use Rattle.design_model.specs.declared.edit.EditRefusal.{EditRefusal}
 use Rattle.design_rules.specs.Runs.{Answers, text_edit}
 use Rattle.lef_grammar.specs.Library.{Library}
-use Rattle.def_grammar.specs.Records.{Record, read_def}
-use Rattle.design_rules.specs.Script.{Question}
-use Rattle.design_rules.specs.Output.{Counts, answer_to}
+use Rattle.design_rules.specs.Output.{Counts}
 use Rattle.edit_script.specs.declared.run.Tally.{Tally}
 
 abbrev pub counts_of : Tally → Counts
@@ -32,7 +30,3 @@ RefusesText text_len a b put_len refusal =
 -- a text edit may be answered so, where its bytes are written with good escapes
 abbrev pub AnswersText : Library → List ℕ → ℕ → ℕ → Option (List ℕ) → Result Done EditRefusal → List ℕ → Type 0
 AnswersText library old a b put reply new = (bytes : List ℕ) → put ≡ Some bytes → Answers library old (text_edit a b bytes) reply new
-
--- what a question is answered, of a text that reads
-abbrev pub Says : Library → List ℕ → Question → List ℕ → Type 0
-Says library text question bytes = (design : List Record) × (read_def text ≡ Ok design) × (bytes ≡ answer_to library design question)

@@ -3,9 +3,9 @@
 ghost use Rattle.std.specs.Prelude.{◌≡◌, ◌+◌, ◌<◌, ◌≤◌, ◌^◌, ◌⊎◌, IfErr, IfOk, IsErrOf, IsOk, OnErr, length};
 ghost use Rattle.counted_devices.specs.Counting.{HasFailed};
 ghost use Rattle.design_rules.specs.Output.{LineAnswers, counted, reply_line};
-ghost use Rattle.design_rules.specs.Script.{order_of, script_lines, unescaped};
+ghost use Rattle.design_rules.specs.Script.{ask, order_of, script_lines, unescaped};
 ghost use Rattle.def_grammar.specs.Records.{read_def};
-ghost use Rattle.edit_script.specs.Answered.{AnswersText, Grows, HasRoom, RefusesText, Says, counts_of};
+ghost use Rattle.edit_script.specs.Answered.{AnswersText, Grows, HasRoom, RefusesText, counts_of};
 ghost use Rattle.script_lines.specs.Orders.{question_seen};
 ghost use Rattle.edit_script.specs.Ends.{AnswersPart, AnswersWhole, RunsOver, RunsWhole, StopsBy, StopsOver, WritesRun, WritesRunPart, hard_after_run};
 
@@ -18,7 +18,7 @@ use design_model::MAX_TEXT;
 use design_model::edit::{Done, EditCode, EditRefusal};
 use design_model::fault::{Fault, ReadError};
 use edit_session::session::Session;
-use script_lines::answer::{bad_text, check_text, reply_text};
+use script_lines::answer::{bad_text, check_text, entry_text, reply_text};
 use script_lines::command::{Command, Question, parse};
 use script_lines::escape::{EscapedBytes, unescaped};
 use script_lines::line::next_line;
@@ -118,20 +118,31 @@ fn counted_reply<A: Allocator>(
     Ok(text)
 }
 
-/// The answer to a question.
+/// The answer to a question, which is counted where it is refused.
 fn answer_question<A: Allocator + Copy>(
     alloc: A,
     session: &Session<'_, '_, A>,
-    question: Question,
+    number: u64,
+    question: Question<'_>,
+    tally: &mut Tally,
 ) -> Result<Vec<u8, A>, AllocError>
-    requires { IsOk (read_def session.now.text) }
-    ensures { IfOk result (λ v. Says session.now.library session.now.text (question_seen question) v.items) }
+    requires room { HasRoom tally.old }
+    requires reads { IsOk (read_def session.now.text) }
+    ensures gives { IfOk result (λ v. LineAnswers session.now.library number (ask (question_seen question.entry)) session.now.text (counts_of tally.old) v.items session.now.text (counts_of tally.new)) }
+    ensures grows { Grows tally.old tally.new }
 {
     match question {
         Question::Report => {
             let lines = session.diagnostics()?;
             check_text(alloc, &lines)
         }
+        Question::Show(section, name) => match session.statement(section, name) {
+            Some(entry) => entry_text(alloc, entry.bytes),
+            None => {
+                let reply = Err(EditRefusal::Refused(EditCode::UnknownName));
+                counted_reply(alloc, number, reply, tally)
+            }
+        },
     }
 }
 
@@ -164,7 +175,7 @@ fn answer<A: Allocator + Copy>(
             let reply = Err(EditRefusal::Refused(code));
             counted_reply(alloc, number, reply, tally)
         }
-        Command::Ask(question) => answer_question(alloc, session, question),
+        Command::Ask(question) => answer_question(alloc, session, number, question, tally),
         Command::Bad => {
             let text = bad_text(alloc, number)?;
             tally.bad += 1;

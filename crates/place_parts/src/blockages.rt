@@ -97,7 +97,7 @@ fn blockage_clause_at<'t>(cursor: Cursor<'t>) -> Option<(BlockageClause<'t>, Cur
     if !is_plain(keyword.bytes) || is_shape(keyword.bytes) {
         return None;
     }
-    let (rest, cursor) = cursor.rest();
+    let (rest, cursor) = cursor.up_to::<ShapeOrStop>();
     let kept = KeptClause { keyword, rest };
     Some((BlockageClause { kept }, cursor))
 }

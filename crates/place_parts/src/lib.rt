@@ -1,11 +1,12 @@
-//! Parts of the entries and statements of a DEF text that are about places (LEF/DEF 5.8 Language Reference, "DEF Syntax").
+//! Parts of the entries and statements of a DEF text that are about places (LEF/DEF 5.8 Language Reference,
+//! "DEF Syntax").
 //!
-//! Begin with `components::component_at`, an entry of COMPONENTS; each section and statement has its file, and `placing`
-//! says how a component is placed.
+//! Begin with `components::component_at`, an entry of COMPONENTS; each section and statement has its file, and
+//! `placing` says how a component is placed.
 //!
-//! What they say is in `def_grammar/specs`, in the file of the same name; `specs/NAMEViews` have the views of these parts
-//! there, and what they lend. Tokens are lent from the text that was read, parts that are repeated are read when they are
-//! asked for (`statement_reader::parts`), and nothing takes memory.
+//! What they say is in `def_grammar/specs`, in the file of the same name; `specs/NAMEViews` have the views of these
+//! parts there, and what they lend. Tokens are lent from the text that was read, parts that are repeated are read when
+//! they are asked for (`statement_reader::parts`), and nothing takes memory.
 //!
 //! Where an entry isn't in its form a function answers `None`. An invalid number is noted by the cursor after it.
 #![tactic(auto)]

@@ -2,13 +2,14 @@
 use Rattle.std.specs.Prelude.{ℕ, List, Option, Some, None, if◌then◌else◌}
 use Rattle.design_rules.specs.Edits.{change_of}
 use Rattle.design_rules.specs.Runs.{design_edit, text_edit}
-use Rattle.design_rules.specs.Script.{Question, report, Order, nothing, make, refuse, ask, bad, no_words, unescaped}
+use Rattle.design_rules.specs.Script.{Question, report, shown, Order, nothing, make, refuse, ask, bad, no_words, unescaped}
 use Rattle.script_lines.specs.declared.command.Command as command
 use Rattle.script_lines.specs.declared.command.Question as code_question
 use Rattle.script_lines.specs.declared.command.Command.{Command}
 
 abbrev pub question_seen : code_question.Question → Question
 question_seen code_question.TheVariants.Report = report
+question_seen (code_question.TheVariants.Show section name) = shown section name.now
 
 abbrev pub text_seen : ℕ → ℕ → Option (List ℕ) → Order
 text_seen a b None = bad

@@ -88,3 +88,12 @@ pub fn check_text<A: Allocator + Copy>(
     text.push(b'\n')?;
     Ok(text)
 }
+
+/// The answer to `show`: the bytes of the entry, and a line end.
+pub fn entry_text<A: Allocator>(alloc: A, bytes: &[u8]) -> Result<Vec<u8, A>, AllocError>
+    ensures { IfOk result (λ v. v.items ≡ bytes.now ++ 10 ∷ []) }
+{
+    let mut text = Vec::from_slice(alloc, bytes)?;
+    text.push(b'\n')?;
+    Ok(text)
+}

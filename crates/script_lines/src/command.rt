@@ -1,7 +1,7 @@
 //! The lines of a script.
 
 ghost use Rattle.std.specs.Prelude.{◌≡◌, drop};
-ghost use Rattle.design_rules.specs.Script.{after_word, line_words, number_or_out, order_of, place_order, text_or_bad, text_words, unescaped, words_order};
+ghost use Rattle.design_rules.specs.Script.{after_word, line_words, number_or_out, order_of, place_order, show_order, text_or_bad, text_words, unescaped, words_order};
 ghost use Rattle.design_model.specs.Units.{whole};
 ghost use Rattle.script_lines.specs.Orders.{check_order, order_seen};
 
@@ -9,13 +9,16 @@ use crate::escape::{EscapedBytes, checked};
 use crate::line::next_word;
 use design_model::edit::{Edit, EditCode};
 use design_model::geometry::Orient;
+use design_model::mode::Section;
 use unit_numbers::whole;
 
 /// What a line asks of a design.
 #[derive(Clone, Copy, Debug, PartialEq, Eq)]
-pub enum Question {
+pub enum Question<'a> {
     /// All diagnostics.
     Report,
+    /// The entry of a section with this name.
+    Show(Section, &'a [u8]),
 }
 
 /// What a line of a script asks.
@@ -32,7 +35,7 @@ pub enum Command<'a> {
     },
     /// An edit that is refused before the session is asked.
     Refused(EditCode),
-    Ask(Question),
+    Ask(Question<'a>),
     /// No command, or one with a wrong number of words or a word out of its form.
     Bad,
 }
@@ -133,6 +136,25 @@ fn check(line: &[u8]) -> Command<'_>
     }
 }
 
+/// `show S n` after its first word.
+fn show(line: &[u8]) -> Command<'_>
+    ensures { order_seen result ≡ show_order (line_words line.now) }
+{
+    let Some((section, line)) = next_word(line) else {
+        return Command::Bad;
+    };
+    let Some((name, line)) = next_word(line) else {
+        return Command::Bad;
+    };
+    if let Some(_) = next_word(line) {
+        return Command::Bad;
+    }
+    match Section::of_word(section) {
+        Some(section) => Command::Ask(Question::Show(section, name)),
+        None => Command::Bad,
+    }
+}
+
 /// What the words of a line ask.
 fn command_of(line: &[u8]) -> Command<'_>
     ensures { order_seen result ≡ words_order line.now (line_words line.now) }
@@ -146,6 +168,8 @@ fn command_of(line: &[u8]) -> Command<'_>
         check(rest)
     } else if name == b"text".as_slice() {
         text(rest)
+    } else if name == b"show".as_slice() {
+        show(rest)
     } else {
         Command::Bad
     }

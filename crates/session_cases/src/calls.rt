@@ -5,7 +5,9 @@ use cell_library::lef_texts::LefTexts;
 use cell_library::library::Library;
 use counted_devices::counted::Counted;
 use design_model::edit::{Done, Edit, EditCode, EditRefusal};
+use def_reader::entry::Entry;
 use design_model::geometry::Orient;
+use design_model::mode::Section;
 use edit_session::session::Session;
 use std::alloc::Global;
 use std::test::Fail;
@@ -68,6 +70,33 @@ fn a_session_from_its_opening_to_its_text(rt: HostRuntime) -> Result<(), Fail> {
     let mut out = Counted::new(Vec::new(rt.alloc()));
     assert!(rt; session.write_to(&mut out).is_ok());
     assert_eq!(rt; out.into_inner().len(), 271);
+    Ok(())
+}
+
+#[test]
+fn an_entry_is_lent_where_it_stands_now(rt: HostRuntime) -> Result<(), Fail> {
+    let mut lefs = LefTexts::new(rt.alloc());
+    lefs.push(INVERTER)?;
+    let library = Library::read(rt.alloc(), &lefs)?;
+    let mut session = Session::open(rt.alloc(), &library, TWO_INVERTERS)?;
+    for wanted in [194, 213] {
+        let view = session.statement(Section::Components, b"u2").ok_or("no u2")?;
+        assert_eq!(rt; view.pos, wanted);
+        assert_eq!(rt; view.bytes, b"- u2 INV + PLACED ( 920 0 ) N ;".as_slice());
+        let Entry::Component(parts) = view.parts else {
+            return Err("u2 is no component".into());
+        };
+        assert_eq!(rt; parts.name.pos, 2);
+        assert_eq!(rt; parts.cell.bytes, b"INV".as_slice());
+        session.edit(&Edit::Place {
+            component: b"u1",
+            x: 0,
+            y: 0,
+            orient: Orient::N,
+        })?;
+    }
+    assert!(rt; session.statement(Section::Components, b"u3").is_none());
+    assert!(rt; session.statement(Section::Nets, b"u2").is_none());
     Ok(())
 }
 

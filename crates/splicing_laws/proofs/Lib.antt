@@ -1,6 +1,7 @@
 pub mod KeptBytes
 pub mod PrintedNumbers
 pub mod PutTokens
+pub mod SlicedTexts
 pub mod SplicingEnds
 pub mod SplicingParts
 pub mod SplicingPlaces

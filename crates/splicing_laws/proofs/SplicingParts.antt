@@ -29,12 +29,12 @@ longer Left pos to b state next bytes ended ps good ends opens part =
     }
 
 -- a first token, and what is read after it
-pub first_is : (p q : Piece) (l : Lexed) (qs : List Piece) (n : ℕ) → before (p ∷ []) l ≡ record { pieces = q ∷ qs; end = Ok n } → (p ≡ q) × (l ≡ record { pieces = qs; end = Ok n })
-first_is p q l qs n e =
+pub first_is : (p q : Piece) (l : Lexed) (qs : List Piece) (end : Result ℕ Fault) → before (p ∷ []) l ≡ record { pieces = q ∷ qs; end = end } → (p ≡ q) × (l ≡ record { pieces = qs; end = end })
+first_is p q l qs end e =
     let pieces : p ∷ l.pieces ≡ q ∷ qs = ap (λ (k : Lexed). k.pieces) e in
-    let end : l.end ≡ Ok n = ap (λ (k : Lexed). k.end) e in
+    let ends : l.end ≡ end = ap (λ (k : Lexed). k.end) e in
     let later : l.pieces ≡ qs = cc in
-    (cc, ap₂ (λ (ps : List Piece) (r : Result ℕ Fault). record { pieces = ps; end = r }) later end)
+    (cc, ap₂ (λ (ps : List Piece) (r : Result ℕ Fault). record { pieces = ps; end = r }) later ends)
 
 -- where some tokens are all, none of them is missing
 pub none_is_one : (first after : List Piece) (p : Piece) → [] ≡ first ++ p ∷ after → ⊥

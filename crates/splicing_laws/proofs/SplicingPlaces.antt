@@ -1,40 +1,41 @@
 -- The text up to the place of a token.
-use Rattle.std.proofs.Common.{◌≡◌, ℕ, ◌+◌, true, false, List, [], ◌∷◌, ◌++◌, Ok, refl, ap, subst, ◌∙◌, ⊎_elim, add-zero, ◌==◌}
+use Rattle.std.proofs.Common.{◌≡◌, ℕ, ◌+◌, true, false, List, [], ◌∷◌, ◌++◌, Ok, refl, ap, subst, ◌∙◌, ⊎_elim, add-zero, ◌==◌, Result}
 use Rattle.statement_model.specs.Tokens.{Open, Piece, Lexed, lex, before, next_open, ended_by, at_end, is_white, is_refused, closes}
 use Rattle.statement_model.specs.Tokens.Open.{between, comment, word, string}
+use Rattle.design_model.specs.declared.fault.Fault.{Fault}
 use Rattle.design_model.specs.declared.token_kind.TokenKind.TheVariants.{Word, Quoted}
 use Rattle.std.proofs.lemmas.Bool.{cases_Bool as cases}
 use Rattle.lefdef_tokens.specs.Laws.{state_after}
 use Rattle.splicing_laws.proofs.SplicingParts.{Part, longer, first_is, none_is_one}
 
 -- an open word or string is the first token
-word_starts : (bytes : List ℕ) (pos n start : ℕ) (so_far : List ℕ) (after : List Piece) (p : Piece) → lex pos (word start so_far) bytes ≡ record { pieces = p ∷ after; end = Ok n } → start ≡ p.pos
+word_starts : (bytes : List ℕ) (pos : ℕ) (end : Result ℕ Fault) (start : ℕ) (so_far : List ℕ) (after : List Piece) (p : Piece) → lex pos (word start so_far) bytes ≡ record { pieces = p ∷ after; end = end } → start ≡ p.pos
 unfolding lex
-word_starts [] pos n start so_far after p e =
-    let is = first_is (record { kind = Word; bytes = so_far; pos = start }) p (record { pieces = []; end = Ok pos }) after n e in
+word_starts [] pos end start so_far after p e =
+    let is = first_is (record { kind = Word; bytes = so_far; pos = start }) p (record { pieces = []; end = Ok pos }) after end e in
     ap (λ (q : Piece). q.pos) is.0
-word_starts (b ∷ bytes) pos n start so_far after p e = ⊎_elim
-    (λ refused. let h = rw refused at e in let k = ap (λ (l : Lexed). l.end) h in absurd (cc))
+word_starts (b ∷ bytes) pos end start so_far after p e = ⊎_elim
+    (λ refused. let h = rw refused at e in absurd (none_is_one [] after p (ap (λ (l : Lexed). l.pieces) h)))
     (λ (good : is_refused b ≡ false). ⊎_elim
     (λ (white : is_white b ≡ true).
     let h = rw (good, white) at e in
-    let is = first_is (record { kind = Word; bytes = so_far; pos = start }) p (lex (pos + 1) between bytes) after n h in
+    let is = first_is (record { kind = Word; bytes = so_far; pos = start }) p (lex (pos + 1) between bytes) after end h in
     ap (λ (q : Piece). q.pos) is.0)
-    (λ (more : is_white b ≡ false). let h = rw (good, more) at e in word_starts bytes (pos + 1) n start (so_far ++ b ∷ []) after p h)
+    (λ (more : is_white b ≡ false). let h = rw (good, more) at e in word_starts bytes (pos + 1) end start (so_far ++ b ∷ []) after p h)
     (cases (is_white b)))
     (cases (is_refused b))
 
-string_starts : (bytes : List ℕ) (pos n start last : ℕ) (so_far : List ℕ) (after : List Piece) (p : Piece) → lex pos (string start so_far last) bytes ≡ record { pieces = p ∷ after; end = Ok n } → start ≡ p.pos
+string_starts : (bytes : List ℕ) (pos : ℕ) (end : Result ℕ Fault) (start last : ℕ) (so_far : List ℕ) (after : List Piece) (p : Piece) → lex pos (string start so_far last) bytes ≡ record { pieces = p ∷ after; end = end } → start ≡ p.pos
 unfolding lex
-string_starts [] pos n start last so_far after p e = let k = ap (λ (l : Lexed). l.end) e in absurd (cc)
-string_starts (b ∷ bytes) pos n start last so_far after p e = ⊎_elim
-    (λ refused. let h = rw refused at e in let k = ap (λ (l : Lexed). l.end) h in absurd (cc))
+string_starts [] pos end start last so_far after p e = absurd (none_is_one [] after p (ap (λ (l : Lexed). l.pieces) e))
+string_starts (b ∷ bytes) pos end start last so_far after p e = ⊎_elim
+    (λ refused. let h = rw refused at e in absurd (none_is_one [] after p (ap (λ (l : Lexed). l.pieces) h)))
     (λ (good : is_refused b ≡ false). ⊎_elim
     (λ (quote : closes last b ≡ true).
     let h = rw (good, quote) at e in
-    let is = first_is (record { kind = Quoted; bytes = so_far ++ b ∷ []; pos = start }) p (lex (pos + 1) between bytes) after n h in
+    let is = first_is (record { kind = Quoted; bytes = so_far ++ b ∷ []; pos = start }) p (lex (pos + 1) between bytes) after end h in
     ap (λ (q : Piece). q.pos) is.0)
-    (λ (more : closes last b ≡ false). let h = rw (good, more) at e in string_starts bytes (pos + 1) n start b (so_far ++ b ∷ []) after p h)
+    (λ (more : closes last b ≡ false). let h = rw (good, more) at e in string_starts bytes (pos + 1) end start b (so_far ++ b ∷ []) after p h)
     (cases (closes last b)))
     (cases (is_refused b))
 
@@ -56,21 +57,21 @@ IsAmong (string start bytes last) [] = ⊥
 IsAmong (string start bytes last) (q ∷ qs) = Unit {0}
 
 abbrev Later : ℕ → List ℕ → Type 0
-Later pos bytes = (n : ℕ) (state : Open) (first after : List Piece) (p : Piece) → IsAmong state first → lex pos state bytes ≡ record { pieces = first ++ p ∷ after; end = Ok n } → Starts pos state bytes first p
+Later pos bytes = (end : Result ℕ Fault) (state : Open) (first after : List Piece) (p : Piece) → IsAmong state first → lex pos state bytes ≡ record { pieces = first ++ p ∷ after; end = end } → Starts pos state bytes first p
 
 -- a byte that ends no token
-none_ends : (pos n b : ℕ) (state next : Open) (bytes : List ℕ) (first after : List Piece) (p : Piece) → is_refused b ≡ false → ended_by state b ≡ [] → next_open pos state b ≡ next
-    → IsAmong next first → lex (pos + 1) next bytes ≡ record { pieces = first ++ p ∷ after; end = Ok n } → Later (pos + 1) bytes → Starts pos state (b ∷ bytes) first p
-none_ends pos n b state next bytes first after p good ended opens among e later =
-    longer Nothing pos p.pos b state next bytes [] first good ended opens (later n next first after p among e)
+none_ends : (pos : ℕ) (end : Result ℕ Fault) (b : ℕ) (state next : Open) (bytes : List ℕ) (first after : List Piece) (p : Piece) → is_refused b ≡ false → ended_by state b ≡ [] → next_open pos state b ≡ next
+    → IsAmong next first → lex (pos + 1) next bytes ≡ record { pieces = first ++ p ∷ after; end = end } → Later (pos + 1) bytes → Starts pos state (b ∷ bytes) first p
+none_ends pos end b state next bytes first after p good ended opens among e later =
+    longer Nothing pos p.pos b state next bytes [] first good ended opens (later end next first after p among e)
 
 -- a byte that ends the first
-one_ends : (pos n b : ℕ) (state : Open) (bytes : List ℕ) (qs after : List Piece) (p q r : Piece) → is_refused b ≡ false → ended_by state b ≡ r ∷ [] → next_open pos state b ≡ between
-    → before (r ∷ []) (lex (pos + 1) between bytes) ≡ record { pieces = q ∷ (qs ++ p ∷ after); end = Ok n } → Later (pos + 1) bytes → Starts pos state (b ∷ bytes) (q ∷ qs) p
-one_ends pos n b state bytes qs after p q r good ended opens e later =
-    let is = first_is r q (lex (pos + 1) between bytes) (qs ++ p ∷ after) n e in
+one_ends : (pos : ℕ) (end : Result ℕ Fault) (b : ℕ) (state : Open) (bytes : List ℕ) (qs after : List Piece) (p q r : Piece) → is_refused b ≡ false → ended_by state b ≡ r ∷ [] → next_open pos state b ≡ between
+    → before (r ∷ []) (lex (pos + 1) between bytes) ≡ record { pieces = q ∷ (qs ++ p ∷ after); end = end } → Later (pos + 1) bytes → Starts pos state (b ∷ bytes) (q ∷ qs) p
+one_ends pos end b state bytes qs after p q r good ended opens e later =
+    let is = first_is r q (lex (pos + 1) between bytes) (qs ++ p ∷ after) end e in
     subst (λ (t : Piece). Part Nothing pos state (b ∷ bytes) (t ∷ qs) p.pos) is.0
-    (longer Nothing pos p.pos b state between bytes (r ∷ []) qs good ended opens (later n between qs after p tt is.1))
+    (longer Nothing pos p.pos b state between bytes (r ∷ []) qs good ended opens (later end between qs after p tt is.1))
 
 -- a token begins here
 here : (pos : ℕ) (bytes : List ℕ) (p : Piece) → pos ≡ p.pos → Starts pos between bytes [] p
@@ -84,79 +85,79 @@ here pos bytes p is = record {
   left = refl;
 }
 
-word_opens : (pos n b : ℕ) (bytes : List ℕ) (first after : List Piece) (p : Piece) → is_refused b ≡ false → next_open pos between b ≡ word pos (b ∷ [])
-    → lex (pos + 1) (word pos (b ∷ [])) bytes ≡ record { pieces = first ++ p ∷ after; end = Ok n } → Later (pos + 1) bytes → Starts pos between (b ∷ bytes) first p
-word_opens pos n b bytes [] after p good opens e later = here pos (b ∷ bytes) p (word_starts bytes (pos + 1) n pos (b ∷ []) after p e)
-word_opens pos n b bytes (q ∷ qs) after p good opens e later = none_ends pos n b between (word pos (b ∷ [])) bytes (q ∷ qs) after p good refl opens tt e later
+word_opens : (pos : ℕ) (end : Result ℕ Fault) (b : ℕ) (bytes : List ℕ) (first after : List Piece) (p : Piece) → is_refused b ≡ false → next_open pos between b ≡ word pos (b ∷ [])
+    → lex (pos + 1) (word pos (b ∷ [])) bytes ≡ record { pieces = first ++ p ∷ after; end = end } → Later (pos + 1) bytes → Starts pos between (b ∷ bytes) first p
+word_opens pos end b bytes [] after p good opens e later = here pos (b ∷ bytes) p (word_starts bytes (pos + 1) end pos (b ∷ []) after p e)
+word_opens pos end b bytes (q ∷ qs) after p good opens e later = none_ends pos end b between (word pos (b ∷ [])) bytes (q ∷ qs) after p good refl opens tt e later
 
-string_opens : (pos n b : ℕ) (bytes : List ℕ) (first after : List Piece) (p : Piece) → is_refused b ≡ false → next_open pos between b ≡ string pos (b ∷ []) b
-    → lex (pos + 1) (string pos (b ∷ []) b) bytes ≡ record { pieces = first ++ p ∷ after; end = Ok n } → Later (pos + 1) bytes → Starts pos between (b ∷ bytes) first p
-string_opens pos n b bytes [] after p good opens e later = here pos (b ∷ bytes) p (string_starts bytes (pos + 1) n pos b (b ∷ []) after p e)
-string_opens pos n b bytes (q ∷ qs) after p good opens e later = none_ends pos n b between (string pos (b ∷ []) b) bytes (q ∷ qs) after p good refl opens tt e later
+string_opens : (pos : ℕ) (end : Result ℕ Fault) (b : ℕ) (bytes : List ℕ) (first after : List Piece) (p : Piece) → is_refused b ≡ false → next_open pos between b ≡ string pos (b ∷ []) b
+    → lex (pos + 1) (string pos (b ∷ []) b) bytes ≡ record { pieces = first ++ p ∷ after; end = end } → Later (pos + 1) bytes → Starts pos between (b ∷ bytes) first p
+string_opens pos end b bytes [] after p good opens e later = here pos (b ∷ bytes) p (string_starts bytes (pos + 1) end pos b (b ∷ []) after p e)
+string_opens pos end b bytes (q ∷ qs) after p good opens e later = none_ends pos end b between (string pos (b ∷ []) b) bytes (q ∷ qs) after p good refl opens tt e later
 
 -- a byte between tokens
-between_step : (pos n b : ℕ) (bytes : List ℕ) (first after : List Piece) (p : Piece) → is_refused b ≡ false
-    → lex (pos + 1) (next_open pos between b) bytes ≡ record { pieces = first ++ p ∷ after; end = Ok n } → Later (pos + 1) bytes → Starts pos between (b ∷ bytes) first p
-between_step pos n b bytes first after p good e later = ⊎_elim
+between_step : (pos : ℕ) (end : Result ℕ Fault) (b : ℕ) (bytes : List ℕ) (first after : List Piece) (p : Piece) → is_refused b ≡ false
+    → lex (pos + 1) (next_open pos between b) bytes ≡ record { pieces = first ++ p ∷ after; end = end } → Later (pos + 1) bytes → Starts pos between (b ∷ bytes) first p
+between_step pos end b bytes first after p good e later = ⊎_elim
     (λ (white : is_white b ≡ true).
     let h = rw white at e in
-    none_ends pos n b between between bytes first after p good refl (rw white refl) tt h later)
+    none_ends pos end b between between bytes first after p good refl (rw white refl) tt h later)
     (λ (no_white : is_white b ≡ false). ⊎_elim
     (λ (hash : (b == 35) ≡ true).
     let h = rw (no_white, hash) at e in
-    none_ends pos n b between comment bytes first after p good refl (rw (no_white, hash) refl) tt h later)
+    none_ends pos end b between comment bytes first after p good refl (rw (no_white, hash) refl) tt h later)
     (λ (no_hash : (b == 35) ≡ false). ⊎_elim
-    (λ (quote : (b == 34) ≡ true). let h = rw (no_white, no_hash, quote) at e in string_opens pos n b bytes first after p good (rw (no_white, no_hash, quote) refl) h later)
-    (λ (no_quote : (b == 34) ≡ false). let h = rw (no_white, no_hash, no_quote) at e in word_opens pos n b bytes first after p good (rw (no_white, no_hash, no_quote) refl) h later)
+    (λ (quote : (b == 34) ≡ true). let h = rw (no_white, no_hash, quote) at e in string_opens pos end b bytes first after p good (rw (no_white, no_hash, quote) refl) h later)
+    (λ (no_quote : (b == 34) ≡ false). let h = rw (no_white, no_hash, no_quote) at e in word_opens pos end b bytes first after p good (rw (no_white, no_hash, no_quote) refl) h later)
     (cases (b == 34)))
     (cases (b == 35)))
     (cases (is_white b))
 
 -- one byte
-starts_step : (pos n b : ℕ) (state : Open) (bytes : List ℕ) (first after : List Piece) (p : Piece) → is_refused b ≡ false → IsAmong state first
-    → before (ended_by state b) (lex (pos + 1) (next_open pos state b) bytes) ≡ record { pieces = first ++ p ∷ after; end = Ok n } → Later (pos + 1) bytes → Starts pos state (b ∷ bytes) first p
-starts_step pos n b between bytes first after p good among e later = between_step pos n b bytes first after p good e later
-starts_step pos n b comment bytes first after p good among e later = ⊎_elim
-    (λ (end : (b == 10) ≡ true). let h = rw end at e in none_ends pos n b comment between bytes first after p good refl (rw end refl) tt h later)
-    (λ (more : (b == 10) ≡ false). let h = rw more at e in none_ends pos n b comment comment bytes first after p good refl (rw more refl) tt h later)
+starts_step : (pos : ℕ) (end : Result ℕ Fault) (b : ℕ) (state : Open) (bytes : List ℕ) (first after : List Piece) (p : Piece) → is_refused b ≡ false → IsAmong state first
+    → before (ended_by state b) (lex (pos + 1) (next_open pos state b) bytes) ≡ record { pieces = first ++ p ∷ after; end = end } → Later (pos + 1) bytes → Starts pos state (b ∷ bytes) first p
+starts_step pos end b between bytes first after p good among e later = between_step pos end b bytes first after p good e later
+starts_step pos end b comment bytes first after p good among e later = ⊎_elim
+    (λ (over : (b == 10) ≡ true). let h = rw over at e in none_ends pos end b comment between bytes first after p good refl (rw over refl) tt h later)
+    (λ (more : (b == 10) ≡ false). let h = rw more at e in none_ends pos end b comment comment bytes first after p good refl (rw more refl) tt h later)
     (cases (b == 10))
-starts_step pos n b (word start so_far) bytes [] after p good among e later = absurd among
-starts_step pos n b (word start so_far) bytes (q ∷ qs) after p good among e later = ⊎_elim
+starts_step pos end b (word start so_far) bytes [] after p good among e later = absurd among
+starts_step pos end b (word start so_far) bytes (q ∷ qs) after p good among e later = ⊎_elim
     (λ (white : is_white b ≡ true).
     let h = rw white at e in
-    one_ends pos n b (word start so_far) bytes qs after p q (record { kind = Word; bytes = so_far; pos = start }) good (rw white refl) (rw white refl) h later)
+    one_ends pos end b (word start so_far) bytes qs after p q (record { kind = Word; bytes = so_far; pos = start }) good (rw white refl) (rw white refl) h later)
     (λ (more : is_white b ≡ false).
     let h = rw more at e in
-    none_ends pos n b (word start so_far) (word start (so_far ++ b ∷ [])) bytes (q ∷ qs) after p good (rw more refl) (rw more refl) tt h later)
+    none_ends pos end b (word start so_far) (word start (so_far ++ b ∷ [])) bytes (q ∷ qs) after p good (rw more refl) (rw more refl) tt h later)
     (cases (is_white b))
-starts_step pos n b (string start so_far last) bytes [] after p good among e later = absurd among
-starts_step pos n b (string start so_far last) bytes (q ∷ qs) after p good among e later = ⊎_elim
+starts_step pos end b (string start so_far last) bytes [] after p good among e later = absurd among
+starts_step pos end b (string start so_far last) bytes (q ∷ qs) after p good among e later = ⊎_elim
     (λ (quote : closes last b ≡ true).
     let h = rw quote at e in
-    one_ends pos n b (string start so_far last) bytes qs after p q (record { kind = Quoted; bytes = so_far ++ b ∷ []; pos = start }) good (rw quote refl) (rw quote refl) h later)
+    one_ends pos end b (string start so_far last) bytes qs after p q (record { kind = Quoted; bytes = so_far ++ b ∷ []; pos = start }) good (rw quote refl) (rw quote refl) h later)
     (λ (more : closes last b ≡ false).
     let h = rw more at e in
-    none_ends pos n b (string start so_far last) (string start (so_far ++ b ∷ []) b) bytes (q ∷ qs) after p good (rw more refl) (rw more refl) tt h later)
+    none_ends pos end b (string start so_far last) (string start (so_far ++ b ∷ []) b) bytes (q ∷ qs) after p good (rw more refl) (rw more refl) tt h later)
     (cases (closes last b))
 
 -- no token begins at the end
-none_at_end : (pos n : ℕ) (state : Open) (first after : List Piece) (p : Piece) → IsAmong state first → at_end pos state ≡ record { pieces = first ++ p ∷ after; end = Ok n } → ⊥
-none_at_end pos n between first after p among e = none_is_one first after p (ap (λ (l : Lexed). l.pieces) e)
-none_at_end pos n comment first after p among e = none_is_one first after p (ap (λ (l : Lexed). l.pieces) e)
-none_at_end pos n (word start so_far) [] after p among e = among
-none_at_end pos n (word start so_far) (q ∷ qs) after p among e =
-    let is = first_is (record { kind = Word; bytes = so_far; pos = start }) q (record { pieces = []; end = Ok pos }) (qs ++ p ∷ after) n e in
+none_at_end : (pos : ℕ) (end : Result ℕ Fault) (state : Open) (first after : List Piece) (p : Piece) → IsAmong state first → at_end pos state ≡ record { pieces = first ++ p ∷ after; end = end } → ⊥
+none_at_end pos end between first after p among e = none_is_one first after p (ap (λ (l : Lexed). l.pieces) e)
+none_at_end pos end comment first after p among e = none_is_one first after p (ap (λ (l : Lexed). l.pieces) e)
+none_at_end pos end (word start so_far) [] after p among e = among
+none_at_end pos end (word start so_far) (q ∷ qs) after p among e =
+    let is = first_is (record { kind = Word; bytes = so_far; pos = start }) q (record { pieces = []; end = Ok pos }) (qs ++ p ∷ after) end e in
     none_is_one qs after p (ap (λ (l : Lexed). l.pieces) is.1)
-none_at_end pos n (string start so_far last) first after p among e = let k = ap (λ (l : Lexed). l.end) e in absurd (cc)
+none_at_end pos end (string start so_far last) first after p among e = none_is_one first after p (ap (λ (l : Lexed). l.pieces) e)
 
 starts : (bytes : List ℕ) (pos : ℕ) → Later pos bytes
 unfolding lex
-starts [] pos n state first after p among e = absurd (none_at_end pos n state first after p among e)
-starts (b ∷ bytes) pos n state first after p among e = ⊎_elim
-    (λ refused. let h = rw refused at e in let k = ap (λ (l : Lexed). l.end) h in absurd (cc))
-    (λ good. let h = rw good at e in starts_step pos n b state bytes first after p good among h (starts bytes (pos + 1)))
+starts [] pos end state first after p among e = absurd (none_at_end pos end state first after p among e)
+starts (b ∷ bytes) pos end state first after p among e = ⊎_elim
+    (λ refused. let h = rw refused at e in absurd (none_is_one first after p (ap (λ (l : Lexed). l.pieces) h)))
+    (λ good. let h = rw good at e in starts_step pos end b state bytes first after p good among h (starts bytes (pos + 1)))
     (cases (is_refused b))
 
 -- a text up to the place of a token
-pub token_starts : (text : List ℕ) (n : ℕ) (first after : List Piece) (p : Piece) → lex 0 between text ≡ record { pieces = first ++ p ∷ after; end = Ok n } → Starts 0 between text first p
-token_starts text n first after p e = starts text 0 n between first after p tt e
+pub token_starts : (text : List ℕ) (end : Result ℕ Fault) (first after : List Piece) (p : Piece) → lex 0 between text ≡ record { pieces = first ++ p ∷ after; end = end } → Starts 0 between text first p
+token_starts text end first after p e = starts text 0 end between first after p tt e

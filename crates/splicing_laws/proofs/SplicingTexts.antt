@@ -12,29 +12,29 @@ use Rattle.splicing_laws.proofs.SplicingPlaces.{token_starts}
 use Rattle.splicing_laws.proofs.SplicingWords.{words_left, tokens_before, gap_before, spaced_apart, spaced}
 
 -- the bytes of a part, and those after it
-part_front : (Left : Open → List ℕ → Type 0) (state : Open) (text : List ℕ) (ps : List Piece) (to : ℕ) (part : Part Left 0 state text ps to) → slice_range text 0 to ≡ part.front
+pub part_front : (Left : Open → List ℕ → Type 0) (state : Open) (text : List ℕ) (ps : List Piece) (to : ℕ) (part : Part Left 0 state text ps to) → slice_range text 0 to ≡ part.front
 part_front Left state text ps to part =
     let long : length part.front ≡ to = sym (zero-add (length part.front)) ∙ part.place in
     let all : to - 0 ≡ to = omega arith in
     ap (λ (k : ℕ). take k text) all ∙ ap (take to) part.whole ∙ take_at part.front part.rest to long
 
-part_rest : (Left : Open → List ℕ → Type 0) (state : Open) (text : List ℕ) (ps : List Piece) (to : ℕ) (part : Part Left 0 state text ps to) → drop to text ≡ part.rest
+pub part_rest : (Left : Open → List ℕ → Type 0) (state : Open) (text : List ℕ) (ps : List Piece) (to : ℕ) (part : Part Left 0 state text ps to) → drop to text ≡ part.rest
 part_rest Left state text ps to part =
     let long : length part.front ≡ to = sym (zero-add (length part.front)) ∙ part.place in
     ap (drop to) part.whole ∙ drop_at part.front part.rest to long
 
 -- the last of some tokens, and those before it
-abbrev LastOf : Piece → List Piece → Type 0
+abbrev pub LastOf : Piece → List Piece → Type 0
 LastOf p run = (first : List Piece) × (last : Piece) × (p ∷ run ≡ first ++ last ∷ []) × (end_of_all (p ∷ run) ≡ end_of last)
 
-last_of_run : (p : Piece) (run : List Piece) → LastOf p run
+pub last_of_run : (p : Piece) (run : List Piece) → LastOf p run
 last_of_run p [] = ([], p, refl, refl)
 last_of_run p (q ∷ qs) = let later = last_of_run q qs in (p ∷ later.0, later.1, ap (λ (ps : List Piece). p ∷ ps) later.2, later.3)
 
 -- a text has after a token the words of the tokens after it
 words_behind : (text : List ℕ) (n : ℕ) (first after : List Piece) (p : Piece) → tokens text ≡ record { pieces = first ++ p ∷ after; end = Ok n } → HasWords (drop (end_of p) text) (words after)
 words_behind text n first after p e =
-    let part = token_ends text n first after p e in
+    let part = token_ends text (Ok n) first after p e in
     subst (λ (rest : List ℕ). HasWords rest (words after)) (sym (part_rest _ between text (first ++ p ∷ []) (end_of p) part)) (words_left part.rest (end_of p) n after part.left.1)
 
 -- and so it does after a run
@@ -59,7 +59,7 @@ put_apart (b ∷ bs) rest apart = apart
 pub tokens_are_replaced : TokensAreReplaced
 tokens_are_replaced text put first run after ps p n e are =
     let hi = end_of_all (p ∷ run) in
-    let part = token_starts text n first (run ++ after) p e in
+    let part = token_starts text (Ok n) first (run ++ after) p e in
     let rest = (put ++ space_before (drop hi text)) ++ drop hi text in
     let has = put_before put (drop hi text) ps (words after) are (words_behind_all text n first run after p e) in
     subst (λ (front : List ℕ). HasWords (front ++ rest) (words first ++ (words ps ++ words after))) (sym (part_front _ between text first p.pos part))
@@ -69,7 +69,7 @@ pub tokens_are_inserted : TokensAreInserted
 tokens_are_inserted text put first after ps p n e are apart =
     let hi = end_of p in
     let is = e ∙ ap (λ (qs : List Piece). record { pieces = qs; end = Ok n }) (append_assoc first (p ∷ []) after) in
-    let part = token_ends text n first after p is in
+    let part = token_ends text (Ok n) first after p is in
     let rest = (put ++ space_before (drop hi text)) ++ drop hi text in
     let has = put_before put (drop hi text) ps (words after) are (words_behind text n first after p is) in
     let end : (tokens part.front).end ≡ Ok (length part.front) = ap (λ (l : Lexed). l.end) part.read ∙ ap (λ (k : ℕ). Ok k) (sym part.place ∙ zero-add (length part.front)) in

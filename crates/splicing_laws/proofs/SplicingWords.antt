@@ -13,7 +13,7 @@ use Rattle.lefdef_tokens.proofs.Moving.{tokens_move}
 use Rattle.splicing_laws.specs.SplicingLaws.{AreTokens, HasWords}
 
 -- what is read ends where the text does
-end_is : (text : List ℕ) (pos n : ℕ) (state : Open) → (lex pos state text).end ≡ Ok n → n ≡ pos + length text
+pub end_is : (text : List ℕ) (pos n : ℕ) (state : Open) → (lex pos state text).end ≡ Ok n → n ≡ pos + length text
 unfolding lex
 end_is [] pos n between e = let same : pos ≡ n = cc in omega arith
 end_is [] pos n comment e = let same : pos ≡ n = cc in omega arith
@@ -29,7 +29,7 @@ moved_words : (k : ℕ) (ps : List Piece) → words ps ≡ words (map (moved_pie
 moved_words k [] = refl
 moved_words k (p ∷ ps) = ap (λ (ws : List (List ℕ)). p.bytes ∷ ws) (moved_words k ps)
 
-read_at : (text : List ℕ) (k : ℕ) → lex k between text ≡ moved k (tokens text)
+pub read_at : (text : List ℕ) (k : ℕ) → lex k between text ≡ moved k (tokens text)
 read_at text k = ap (λ (j : ℕ). lex j between text) (sym (add-zero k)) ∙ tokens_move text k 0
 
 -- a text from a place on that has these words
@@ -44,7 +44,7 @@ at_place text ws k has = record {
 }
 
 -- an end that was moved
-end_at : (k n : ℕ) (end : Result ℕ Fault) → moved_end k end ≡ Ok n → (m : ℕ) × (end ≡ Ok m)
+pub end_at : (k n : ℕ) (end : Result ℕ Fault) → moved_end k end ≡ Ok n → (m : ℕ) × (end ≡ Ok m)
 end_at k n (Ok m) e = (m, refl)
 end_at k n (Err f) e = absurd (cc)
 
@@ -75,7 +75,7 @@ pub tokens_before : (put rest : List ℕ) (ps : List Piece) (ws : List (List ℕ
 tokens_before put rest ps ws are apart has = joined put rest ps ws are.pieces (tokens_join put rest (length put) are.end are.closed apart) has
 
 -- bytes after which nothing is open, before any text
-closed_before : (front rest : List ℕ) (pos n : ℕ) (state : Open) → (lex pos state front).end ≡ Ok n → state_after pos state front ≡ between
+pub closed_before : (front rest : List ℕ) (pos n : ℕ) (state : Open) → (lex pos state front).end ≡ Ok n → state_after pos state front ≡ between
     → lex pos state (front ++ rest) ≡ before (lex pos state front).pieces (lex (pos + length front) between rest)
 unfolding lex state_after
 closed_before [] rest pos n state ok closed = rw (add-zero, closed) refl

@@ -1,3 +1,4 @@
 pub mod KeepingLaws
+pub mod SliceLaws
 pub mod SplicingLaws
 pub mod WordLaws
