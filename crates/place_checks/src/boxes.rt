@@ -18,7 +18,6 @@ use cell_library::macro_view::Macro;
 use cell_library::numbers::in_units;
 use place_parts::components::{Clause, Placement};
 use def_parts::number::int_of;
-use def_reader::entry::Entry;
 use def_reader::read_statement::Read;
 use def_reader::statement::Statement;
 use design_model::geometry::{Point, Rect, Status};
@@ -116,7 +115,7 @@ fn box_of<'t, A: Allocator + Copy>(
     requires few { scale ≤ 100000 }
     ensures { option_map boxed_view result ≡ box_of library.now scale (record_view statement.entry) }
 {
-    let Statement::Entry(Entry::Component(parts)) = statement else {
+    let Some(parts) = statement.component() else {
         return None;
     };
     let name = parts.name.bytes;

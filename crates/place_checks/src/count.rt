@@ -23,7 +23,7 @@ fn entries_before_end(records: &[Read<'_>]) -> usize
         if let Statement::EndSection(_) = read.statement {
             return count;
         }
-        if read.statement.entry().is_some() {
+        if let Statement::Entry(_) = read.statement {
             count += 1;
         }
     }

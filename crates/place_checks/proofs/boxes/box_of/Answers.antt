@@ -5,8 +5,9 @@ use Rattle.place_checks.proofs.boxes.box_of.Goals as goal
 
 pub returns-in_ok-macro_of-in-Placed : goal.returns-in_ok-macro_of-in-Placed
 returns-in_ok-macro_of-in-Placed g c =
-    let cell = c.in-Component.parts.cell.bytes.now in
+    let cell = c.in-Some.parts.cell.bytes.now in
     let placed = rw c.in-Some-Placed.field-0-is at c.in-Some-Placed.ensures.gives in
-    rw c.in-Component.is
-    (known_box c.args.library.now c.args.scale (component_view c.in-Component.parts) _ _ _ (macro_view (cell, c.in_ok-macro_of-in-Placed.field-0.now)) _
+    let here = rw c.in-Some.is at c.component.ensures.gives in
+    rw (← here)
+    (known_box c.args.library.now c.args.scale (component_view c.in-Some.parts) _ _ _ (macro_view (cell, c.in_ok-macro_of-in-Placed.field-0.now)) _
     placed c.in-Placed.is c.in_ok-macro_of-in-Placed.ensures (c.box_at.ensures cell))
