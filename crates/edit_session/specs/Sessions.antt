@@ -8,11 +8,13 @@ use Rattle.design_model.specs.declared.fault.ReadError as error
 use Rattle.design_model.specs.declared.fault.ReadError.{ReadError}
 use Rattle.design_model.specs.Lines.{IsOfItsKind}
 use Rattle.design_model.specs.Order.{texts}
+use Rattle.design_model.specs.declared.mode.Mode.TheVariants.{In}
 use Rattle.design_model.specs.declared.mode.Section.{Section}
-use Rattle.statement_model.specs.Cuts.{Cut, with_cuts}
-use Rattle.statement_model.specs.Reading.{pos_of}
-use Rattle.statement_model.specs.Tokens.{Piece}
-use Rattle.def_grammar.specs.Records.{Record, entry, read_def}
+use Rattle.lefdef_tokens.specs.declared.span.Span.{Span}
+use Rattle.statement_model.specs.Cuts.{Cut, with_cuts, end_of_all}
+use Rattle.statement_model.specs.Reading.{pos_of, read_at}
+use Rattle.statement_model.specs.Tokens.{Piece, Lexed, left_from}
+use Rattle.def_grammar.specs.Records.{Entry, Record, def, entry, read_def}
 use Rattle.lef_grammar.specs.Library.{Library}
 use Rattle.design_rules.specs.Diagnostics.{diagnostics}
 use Rattle.design_rules.specs.Edits.{Change, applied, is_long, located}
@@ -56,6 +58,21 @@ abbrev pub ReplacesText : {V : Type 0} → (V → List ℕ) → List ℕ → ℕ
 ReplacesText items old a b put (Ok v) = text_outcome old a b put ≡ Ok (items v)
 ReplacesText items old a b put (Err Memory) = (a ≤ b) × (b ≤ length old) × (is_long (new_text old a b put) ≡ false)
 ReplacesText items old a b put (Err refusal) = text_outcome old a b put ≡ Err refusal
+
+-- where an entry stands, in the text that reads as a design: from the first of its tokens to the last; or there is none
+abbrev pub StandsAt : List ℕ → Section → List ℕ → Option Span → Type 0
+StandsAt text s name found =
+    (design : List Record)
+    × (read_def text ≡ Ok design)
+    × MatchOption found (entry_at s name (located text design) ≡ None)
+    (λ span. (x : List Piece × Record) × (entry_at s name (located text design) ≡ Some x) × (pos_of x.0 ≡ span.lo) × (end_of_all x.0 ≡ span.hi))
+
+-- these bytes alone say this entry of a section
+abbrev pub SaysAlone : Section → List ℕ → Entry → Type 0
+SaysAlone s bytes e = (left : Lexed) × (read_at def (In s) (left_from bytes 0) ≡ Ok (Some (entry e, In s, left)))
+
+abbrev pub IsAlone : Section → List ℕ → Type 0
+IsAlone s bytes = (e : Entry) × SaysAlone s bytes e
 
 -- what looking for an entry says: there is none of this section and name, or it is lent with its bytes and their place
 abbrev pub Views : List ℕ → Section → List ℕ → Option View → Type 0

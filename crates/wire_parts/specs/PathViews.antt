@@ -1,16 +1,13 @@
 -- Points, vias and paths of the program as those of the definitions, and what they lend from a text.
-use Rattle.std.specs.Prelude.{◌≡◌, ℕ, List, Option, codes, IfSome}
+use Rattle.std.specs.Prelude.{ℕ, List, codes, IfSome}
 use Rattle.std.specs.Option.{option_map}
-use Rattle.design_model.specs.declared.geometry.Orient.{Orient}
 use Rattle.form_meanings.specs.Meaning.{items}
 use Rattle.statement_model.specs.Form.{Form, number, read, ◌▸◌, ◌⨟◌}
 use Rattle.def_grammar.specs.Limits.{is_copies}
-use Rattle.def_grammar.specs.Points.{Corners}
 use Rattle.def_grammar.specs.Wiring.{WirePoint, WireVia, wire_via, ViaArray, SpecialVia, special_via, PathItem, path_mask, path_virtual, path_rectangle, path_point, path_via, goes_on, path_item, Path}
 use Rattle.lefdef_tokens.specs.Views.{IsIn, rest_of}
 use Rattle.lefdef_tokens.specs.declared.token.Token.{Token}
 use Rattle.statement_reader.specs.declared.parts.Parts.{Parts}
-use Rattle.def_parts.specs.declared.points.Corners as code_corners
 use Rattle.def_parts.specs.ClauseViews.{MaskIn, mask_view}
 use Rattle.def_parts.specs.PointViews.{CornersIn, PartsIn, PointIn, corners_view, point_view}
 use Rattle.wire_parts.specs.declared.paths.WirePoint as code_point

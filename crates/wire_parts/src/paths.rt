@@ -1,13 +1,11 @@
 //! Paths of wires: points, vias and rectangles (LEF/DEF 5.8 Language Reference, "Regular Wiring Statement" and "Special
 //! Wiring Statement").
 
-ghost use Rattle.std.specs.Prelude.{◌≡◌, ℕ, List, length, IfSome};
+ghost use Rattle.std.specs.Prelude.{◌≡◌, ℕ, List, IfSome};
 ghost use Rattle.form_meanings.specs.Words.{Gives, is_place, next_passes};
-ghost use Rattle.statement_model.specs.Form.{Form, many, number, opt, opt_on, read, seen, spell, ◌⨟◌};
-ghost use Rattle.def_grammar.specs.Clauses.{mask};
-ghost use Rattle.def_grammar.specs.Limits.{is_size};
+ghost use Rattle.statement_model.specs.Form.{Form, opt, read, spell};
 ghost use Rattle.def_grammar.specs.Parts.{orient};
-ghost use Rattle.def_grammar.specs.Wiring.{array_size, as_path, extension, goes_on, is_orient, net_path, special_path, path_item, special_via, via_array, wire_point, wire_rectangle, wire_start, wire_via};
+ghost use Rattle.def_grammar.specs.Wiring.{array_size, extension, goes_on, is_orient, net_path, special_path, path_item, special_via, via_array, wire_point, wire_rectangle, wire_start, wire_via};
 ghost use Rattle.lefdef_tokens.specs.Views.{IsIn, IsLater, rest_of};
 ghost use Rattle.def_parts.specs.ClauseViews.{MaskIn, mask_view};
 ghost use Rattle.def_parts.specs.PointViews.{CornersIn, corners_view, same, with_rest};
@@ -25,6 +23,7 @@ use statement_reader::parts::{Part, Parts, read_parts};
 #[derive(Clone, Copy)]
 pub struct WirePoint<'t> {
     pub at: Coordinates<'t>,
+    /// In database units, 0 or more.
     pub extension: Option<Token<'t>>,
 }
 
@@ -96,7 +95,7 @@ fn next_is_place<'t>(cursor: Cursor<'t>) -> bool
 
 /// `( x y [extension] )`, which begins a path
 #[tactic(auto, unfolding(def_grammar::specs::Wiring::wire_start))]
-pub fn wire_start_at<'t>(cursor: Cursor<'t>) -> Option<(WirePoint<'t>, Cursor<'t>)>
+fn wire_start_at<'t>(cursor: Cursor<'t>) -> Option<(WirePoint<'t>, Cursor<'t>)>
     ensures gives { Gives (with_rest wire_point_view) result (read wire_start (rest_of cursor.entry)) }
     ensures later { IfSome result (λ x. IsLater cursor.entry x.1) }
     ensures lent { IfSome result (λ x. WirePointIn cursor.entry.tokens.text.now x.0) }
@@ -111,7 +110,7 @@ pub fn wire_start_at<'t>(cursor: Cursor<'t>) -> Option<(WirePoint<'t>, Cursor<'t
 
 /// `( x y [extension] )`, where x and y can be `*`
 #[tactic(auto, unfolding(def_grammar::specs::Wiring::wire_point))]
-pub fn wire_point_at<'t>(cursor: Cursor<'t>) -> Option<(WirePoint<'t>, Cursor<'t>)>
+fn wire_point_at<'t>(cursor: Cursor<'t>) -> Option<(WirePoint<'t>, Cursor<'t>)>
     ensures gives { Gives (with_rest wire_point_view) result (read wire_point (rest_of cursor.entry)) }
     ensures later { IfSome result (λ x. IsLater cursor.entry x.1) }
     ensures lent { IfSome result (λ x. WirePointIn cursor.entry.tokens.text.now x.0) }
@@ -126,7 +125,7 @@ pub fn wire_point_at<'t>(cursor: Cursor<'t>) -> Option<(WirePoint<'t>, Cursor<'t
 
 /// `( x1 y1 x2 y2 )`
 #[tactic(auto, unfolding(def_grammar::specs::Wiring::wire_rectangle))]
-pub fn wire_rectangle_at<'t>(cursor: Cursor<'t>) -> Option<(Corners<'t>, Cursor<'t>)>
+fn wire_rectangle_at<'t>(cursor: Cursor<'t>) -> Option<(Corners<'t>, Cursor<'t>)>
     ensures gives { Gives (with_rest corners_view) result (read wire_rectangle (rest_of cursor.entry)) }
     ensures later { IfSome result (λ x. IsLater cursor.entry x.1) }
     ensures lent { IfSome result (λ x. CornersIn cursor.entry.tokens.text.now x.0) }
@@ -280,7 +279,7 @@ impl<'t> PathVia<'t> for SpecialVia<'t> {
 }
 
 /// Whether a path goes on with what a word begins.
-pub fn goes_on(word: &[u8]) -> bool
+fn goes_on(word: &[u8]) -> bool
     ensures { result ≡ goes_on word.now }
 {
     is_open(word) || (is_name(word) && !is_word(word, b"NEW") && !is_word(word, b"DO"))

@@ -13,7 +13,7 @@ use def_parts::points::is_open;
 use lefdef_tokens::{Cursor, Token, is_word};
 use statement_reader::parts::Part;
 
-/// A terminal of a net: whose pin it is, the pin, and whether the clock tree or the scan chain was synthesized with it.
+/// A terminal of a net: whose pin it is, the pin, and whether it is of a synthesized scan chain.
 #[derive(Clone, Copy, Drop)]
 pub struct Terminal<'t> {
     /// A component, `PIN` for a pin of the design, `VPIN`, or `*` for each component that has the pin.

@@ -156,7 +156,9 @@ fn via_rectangle_at<'t>(cursor: Cursor<'t>) -> Option<(ViaRectangle<'t>, Cursor<
 }
 
 /// `layer + MASK word point*`, before a `+` or a `;`
-fn masked_points_at<'t>(cursor: Cursor<'t>) -> Option<((Token<'t>, Token<'t>, Option<PointRow<'t>>), Cursor<'t>)>
+fn masked_points_at<'t>(
+    cursor: Cursor<'t>,
+) -> Option<((Token<'t>, Token<'t>, Option<PointRow<'t>>), Cursor<'t>)>
     ensures gives { Gives (with_rest masked_view) result (read (closed is_stop (name ⨟ plus_mask ⨟ points)) (rest_of cursor.entry)) }
     ensures later { IfSome result (λ x. IsLater cursor.entry x.1) }
     ensures lent { IfSome result (λ x. IsIn cursor.entry.tokens.text.now x.0.0 × IsIn cursor.entry.tokens.text.now x.0.1 × MaybeRowIn cursor.entry.tokens.text.now x.0.2) }
@@ -172,7 +174,9 @@ fn masked_points_at<'t>(cursor: Cursor<'t>) -> Option<((Token<'t>, Token<'t>, Op
 }
 
 /// `layer point*`, before a `+` or a `;`
-fn unmasked_points_at<'t>(cursor: Cursor<'t>) -> Option<((Token<'t>, Option<PointRow<'t>>), Cursor<'t>)>
+fn unmasked_points_at<'t>(
+    cursor: Cursor<'t>,
+) -> Option<((Token<'t>, Option<PointRow<'t>>), Cursor<'t>)>
     ensures gives { Gives (with_rest unmasked_view) result (read (closed is_stop (name ⨟ points)) (rest_of cursor.entry)) }
     ensures later { IfSome result (λ x. IsLater cursor.entry x.1) }
     ensures lent { IfSome result (λ x. IsIn cursor.entry.tokens.text.now x.0.0 × MaybeRowIn cursor.entry.tokens.text.now x.0.1) }
@@ -195,12 +199,20 @@ fn via_polygon_at<'t>(cursor: Cursor<'t>) -> Option<(ViaPolygon<'t>, Cursor<'t>)
     ensures lent { IfSome result (λ x. ViaPolygonIn cursor.entry.tokens.text.now x.0) }
 {
     if let Some(((layer, mask, points), later)) = masked_points_at(cursor) {
-        let mask = Some(mask);
-        return Some((ViaPolygon { layer, mask, points }, later));
+        let polygon = ViaPolygon {
+            layer,
+            mask: Some(mask),
+            points,
+        };
+        return Some((polygon, later));
     }
     let ((layer, points), cursor) = unmasked_points_at(cursor)?;
-    let mask = None;
-    Some((ViaPolygon { layer, mask, points }, cursor))
+    let polygon = ViaPolygon {
+        layer,
+        mask: None,
+        points,
+    };
+    Some((polygon, cursor))
 }
 
 /// Two sizes without parentheses, in x and in y

@@ -23,7 +23,9 @@ use statement_reader::parts::{Part, Parts, read_parts};
 pub enum WiringStatus {
     /// An edit may take its place.
     Routed,
+    /// No edit takes its place.
     Fixed,
+    /// No edit takes its place.
     Cover,
 }
 
@@ -59,6 +61,7 @@ pub enum WireMark<'t> {
 #[derive(Clone, Copy, Drop)]
 pub struct SpecialWire<'t> {
     pub layer: Token<'t>,
+    /// In database units, 0 or more.
     pub width: Token<'t>,
     pub marks: Parts<'t, WireMark<'t>>,
     pub path: Path<'t, SpecialVia<'t>>,
@@ -226,7 +229,6 @@ impl<'t> Part<'t> for Wire<'t> {
 }
 
 /// `NOSHIELD`, or a status
-#[tactic(auto)]
 fn wiring_kind_at<'t>(cursor: Cursor<'t>) -> Option<(WiringKind, Cursor<'t>)>
     ensures gives { Gives (with_rest kind_view) result (read (on (codes "NOSHIELD") empty wiring_status) (rest_of cursor.entry)) }
     ensures later { IfSome result (λ x. IsLater cursor.entry x.1) }

@@ -1,7 +1,5 @@
 use Rattle.std.proofs.Common.{refl, sym, ap, ◌∙◌, Some}
-use Rattle.form_meanings.specs.Words.{noted}
 use Rattle.lefdef_tokens.specs.Views.{rest_of}
-use Rattle.def_parts.specs.PointViews.{with_rest}
 use Rattle.wire_parts.specs.PathViews.{counts_view}
 use Rattle.wire_parts.proofs.ArrayTokens.{size_reads}
 use Rattle.wire_parts.proofs.paths.array_size_at.Goals as goal
