@@ -1,6 +1,6 @@
 //! Reads the statements of DEF texts, and whole DEF texts (LEF/DEF 5.8 Language Reference, "DEF Syntax").
 //!
-//! Begin with `read_def::check_def`, which says whether a text reads or what its fault is. Of a text that reads
+//! Begin with `read_def::read_def`, which says where the statements of a text stand, or what its fault is. Of a text that reads
 //! `records::statements_of` gives all statements in order, and `records::component_named` the entry of a component.
 //! `read_statement::read_statement` reads one statement, and `components` has the parts of an entry.
 //!

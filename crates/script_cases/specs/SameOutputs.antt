@@ -16,3 +16,5 @@ pub record IsSame (got wanted : Outputs) : Type 0 where
   pub answers : got.answers.items ≡ wanted.answers.items
   pub errors : got.errors.items ≡ wanted.errors.items
   pub text : IsSameText got.text wanted.text
+  pub prefixes : IsSameText got.prefixes wanted.prefixes
+  pub refused_bytes : IsSameText got.refused_bytes wanted.refused_bytes

@@ -79,6 +79,8 @@ impl<'a, R: Files + AllocGlobal + Clone + Drop> Folder<'a, R> {
             answers: self.file_or("stdout", b"")?,
             errors: self.file_or("stderr", b"")?,
             text: self.file("out.def")?,
+            prefixes: self.file("prefixes")?,
+            refused_bytes: self.file("refused_bytes")?,
         })
     }
 

@@ -6,6 +6,7 @@ mod case;
 mod difference;
 mod outputs;
 mod run_case;
+mod tables;
 
 use crate::case::{case_names, read_case};
 use crate::outputs::compare;

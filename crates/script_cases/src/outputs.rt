@@ -17,6 +17,10 @@ pub struct Outputs {
     pub errors: Vec<u8>,
     /// The text in the end, where one is written.
     pub text: Option<Vec<u8>>,
+    /// What is told of each prefix of the DEF text, where the case asks for it.
+    pub prefixes: Option<Vec<u8>>,
+    /// What is told of the DEF text spoilt at each byte, where the case asks for it.
+    pub refused_bytes: Option<Vec<u8>>,
 }
 
 /// What differs between the outputs of a run and those that it must give.
@@ -44,7 +48,9 @@ pub fn compare<'a>(got: &'a Outputs, wanted: &'a Outputs) -> Option<Differences<
     let is_same = got.status == wanted.status
         && got.answers == wanted.answers
         && got.errors == wanted.errors
-        && is_same_text(&got.text, &wanted.text);
+        && is_same_text(&got.text, &wanted.text)
+        && is_same_text(&got.prefixes, &wanted.prefixes)
+        && is_same_text(&got.refused_bytes, &wanted.refused_bytes);
     if is_same {
         None
     } else {
@@ -68,6 +74,19 @@ fn write_difference<W: fmt::Write>(
     write!(f, "; {part} at line {number}: {got:?}, must be {wanted:?}")
 }
 
+/// Writes where a table differs. A run makes the tables that its case has.
+fn write_table_difference<W: fmt::Write>(
+    f: &mut fmt::Formatter<W>,
+    part: &str,
+    got: &Option<Vec<u8>>,
+    wanted: &Option<Vec<u8>>,
+) -> fmt::Result {
+    match (got, wanted) {
+        (Some(got), Some(wanted)) => write_difference(f, part, got, wanted),
+        _ => Ok(()),
+    }
+}
+
 impl<'a> fmt::Display for Differences<'a> {
     fn fmt<W: fmt::Write>(&self, f: &mut fmt::Formatter<W>) -> fmt::Result {
         let Differences { got, wanted } = *self;
@@ -75,10 +94,17 @@ impl<'a> fmt::Display for Differences<'a> {
         write_difference(f, "answers", &got.answers, &wanted.answers)?;
         write_difference(f, "standard error", &got.errors, &wanted.errors)?;
         match (&got.text, &wanted.text) {
-            (Some(got), Some(wanted)) => write_difference(f, "text", got, wanted),
-            (Some(_), None) => f.write_str("; a text is written, and none may be"),
-            (None, Some(_)) => f.write_str("; no text is written"),
-            (None, None) => Ok(()),
+            (Some(got), Some(wanted)) => write_difference(f, "text", got, wanted)?,
+            (Some(_), None) => f.write_str("; a text is written, and none may be")?,
+            (None, Some(_)) => f.write_str("; no text is written")?,
+            (None, None) => (),
         }
+        write_table_difference(f, "prefixes", &got.prefixes, &wanted.prefixes)?;
+        write_table_difference(
+            f,
+            "refused bytes",
+            &got.refused_bytes,
+            &wanted.refused_bytes,
+        )
     }
 }

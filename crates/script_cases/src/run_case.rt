@@ -5,6 +5,7 @@ ghost use Rattle.defedit_program.specs.Statuses.{status_of};
 
 use crate::case::Case;
 use crate::outputs::Outputs;
+use crate::tables::{answers_of_prefixes, answers_of_refused_bytes, table_text};
 use counted_devices::counted::Counted;
 use defedit_program::ending::run_to_end;
 use defedit_program::outcome::{Outcome, Stop};
@@ -27,12 +28,14 @@ fn stopped(alloc: Global, answers: Vec<u8>, fault: RunFault) -> Result<Outputs, 
         answers,
         errors: format!(in alloc; "{stop}\n")?.into_bytes(),
         text: None,
+        prefixes: None,
+        refused_bytes: None,
     })
 }
 
 /// Runs the script of a case over its texts. The outputs are those of the program: a text is written where the run
 /// reaches its end, and else a line on standard error says why not.
-pub fn outputs_of(alloc: Global, case: &Case) -> Result<Outputs, AllocError> {
+fn outputs_of_run(alloc: Global, case: &Case) -> Result<Outputs, AllocError> {
     let mut script = Counted::new(case.script.as_slice());
     let mut answers = Counted::new(Vec::new(alloc));
     let result = run_to_end(alloc, &case.lefs, &case.def, &mut script, &mut answers);
@@ -43,7 +46,23 @@ pub fn outputs_of(alloc: Global, case: &Case) -> Result<Outputs, AllocError> {
             answers,
             errors: Vec::new(alloc),
             text: Some(ended.text),
+            prefixes: None,
+            refused_bytes: None,
         }),
         Err(fault) => stopped(alloc, answers, fault),
     }
+}
+
+/// Runs a case: its script, and the reader over the texts of its tables.
+pub fn outputs_of(alloc: Global, case: &Case) -> Result<Outputs, AllocError> {
+    let mut outputs = outputs_of_run(alloc, case)?;
+    if case.wanted.prefixes.is_some() {
+        let answers = answers_of_prefixes(alloc, &case.def)?;
+        outputs.prefixes = Some(table_text(alloc, &answers)?);
+    }
+    if case.wanted.refused_bytes.is_some() {
+        let answers = answers_of_refused_bytes(alloc, &case.def)?;
+        outputs.refused_bytes = Some(table_text(alloc, &answers)?);
+    }
+    Ok(outputs)
 }
