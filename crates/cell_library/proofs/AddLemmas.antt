@@ -1,5 +1,5 @@
 -- What a text defines, as a loop over its statements finds it.
-use Rattle.std.proofs.Common.{◌≡◌, ℕ, ◌≤◌, List, [], ◌∷◌, ◌++◌, length, refl, sym, ap, ◌∙◌, append_assoc, OnOk, Result, Ok, Err, Some, None}
+use Rattle.std.proofs.Common.{◌≡◌, ℕ, ◌≤◌, List, [], ◌∷◌, ◌++◌, length, refl, sym, ap, ◌∙◌, append_assoc, Ok, Err, Some, None}
 use Rattle.std.proofs.lemmas.List.{append-nil}
 use Rattle.design_model.specs.declared.TheConstants.{MAX_TEXT}
 use Rattle.design_model.specs.declared.fault.Fault.{Fault}

@@ -8,3 +8,4 @@ pub mod NamedLemmas
 pub mod ReadLemmas
 pub mod ShapeLemmas
 pub mod UnitLemmas
+pub mod WalkLemmas

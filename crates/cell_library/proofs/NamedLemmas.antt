@@ -10,7 +10,7 @@ use Rattle.std.proofs.lemmas.Iterator.Adapters.{position_from-zero}
 use Rattle.std.proofs.lemmas.Slice.Eq.{bytes_eq-Decides}
 use Rattle.indexmap.specs.IndexMap.{insert_entry}
 use Rattle.lef_grammar.specs.Firsts.{find_named, has_name, with_first}
-use Rattle.cell_library.specs.Naming.{entries_view, name_of, named, place_of, seen_by}
+use Rattle.cell_library.specs.Naming.{entries_view, entry_seen, name_of, named, place_of, seen_by}
 use Rattle.cell_library.specs.Records.{word_view}
 
 bytes_eq_sym : (a b : List ℕ) → bytes_eq a b ≡ bytes_eq b a
@@ -128,8 +128,48 @@ module _ (D C : Type 0) (view : List ℕ × D → C) (name_in : C → List ℕ) 
   pub lent_seen : (name : List ℕ) (r : Option (Bor D)) (es : List (List ℕ × D)) → option_copied r ≡ named es name → option_map (seen_by view name) r ≡ find_named name_in (map view es) name
   lent_seen name r es h = copied_seen name r (find_named name_of es name) h ∙ sym (found_seen name es)
 
+  named_step : (b : Bool) (e : List ℕ × D) (r : Option C) (q : Option (List ℕ × D)) → r ≡ option_map view q → (if b then Some (view e) else r) ≡ option_map view (if b then Some e else q)
+  named_step true e r q h = refl
+  named_step false e r q h = h
+
+  named_seen : (name : List ℕ) (es : List (List ℕ × D)) → find_named name_in (map view es) name ≡ option_map view (find_named name_of es name)
+  named_seen name [] = refl
+  named_seen name (e ∷ es) = rw (named_so e) (named_step (bytes_eq e.0 name) e (find_named name_in (map view es) name) (find_named name_of es name) (named_seen name es))
+
+  both_seen : (r : Option (Bor (List ℕ) × Bor D)) → option_map (λ e. view (entry_seen e)) r ≡ option_map view (option_map entry_seen r)
+  both_seen None = refl
+  both_seen (Some e) = refl
+
+  -- what a map lends with its name is the definition of the name
+  pub found_as : (name : List ℕ) (r : Option (Bor (List ℕ) × Bor D)) (es : List (List ℕ × D)) → option_map entry_seen r ≡ find_named name_of es name → option_map (λ e. view (entry_seen e)) r ≡ find_named name_in (map view es) name
+  found_as name r es h = both_seen r ∙ ap (option_map view) h ∙ sym (named_seen name es)
+
 -- the name at a place
 pub name_there : {D : Type 0} (es : List (Bor (List ℕ) × D)) (i : ℕ) (e : Bor (List ℕ) × D) → Some e ≡ slice_get es i → Some (word_view e.0) ≡ option_map name_of (slice_get (entries_view es) i)
 name_there {D} es i e h =
     let seen_of : Bor (List ℕ) × D → List ℕ × D = λ x. (x.0.now, x.1) in
     rw (slice_get-map seen_of es i, ← h) refl
+
+-- the definition at a place, with its name
+pub entry_there : {D : Type 0} (es : List (Bor (List ℕ) × D)) (i : ℕ) (e : Bor (List ℕ) × D) → Some e ≡ slice_get es i → Some (e.0.now, e.1) ≡ slice_get (entries_view es) i
+entry_there {D} es i e h =
+    let seen_of : Bor (List ℕ) × D → List ℕ × D = λ x. (x.0.now, x.1) in
+    rw (slice_get-map seen_of es i, ← h) refl
+
+-- what stands at the place of a name, if there is one
+abbrev pub at_place : {E : Type 0} → List E → Option ℕ → Option E
+at_place es None = None
+at_place es (Some i) = slice_get es i
+
+at_later : {E : Type 0} (e : E) (es : List E) (o : Option ℕ) → at_place (e ∷ es) (option_map suc o) ≡ at_place es o
+at_later e es None = refl
+at_later e es (Some i) = refl
+
+find_place_step : {E : Type 0} (b : Bool) (e : E) (es : List E) (o : Option ℕ) (r : Option E) → r ≡ at_place es o → (if b then Some e else r) ≡ at_place (e ∷ es) (if b then Some 0 else option_map suc o)
+find_place_step true e es o r h = refl
+find_place_step false e es o r h = h ∙ sym (at_later e es o)
+
+-- the definition of a name is the one at its place
+pub found_at_place : {D : Type 0} (name : List ℕ) (es : List (List ℕ × D)) → find_named name_of es name ≡ at_place es (place_of es name)
+found_at_place name [] = refl
+found_at_place name (e ∷ es) = find_place_step (bytes_eq e.0 name) e es (place_of es name) (find_named name_of es name) (found_at_place name es)

@@ -1,3 +1,4 @@
+pub mod CellViews
 pub mod LayerViews
 pub mod LibraryViews
 pub mod MacroViews
@@ -7,5 +8,6 @@ pub mod PinViews
 pub mod Records
 pub mod RuleViews
 pub mod ShapeViews
+pub mod ShapesLeft
 pub mod SiteViews
 pub mod ViaViews

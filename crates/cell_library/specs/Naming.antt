@@ -10,6 +10,10 @@ name_of e = e.0
 abbrev pub entries_view : {D : Type 0} → List (Bor (List ℕ) × D) → List (List ℕ × D)
 entries_view es = map (λ e. (e.0.now, e.1)) es
 
+-- a definition with its name, as both are lent
+abbrev pub entry_seen : {D : Type 0} → Bor (List ℕ) × Bor D → List ℕ × D
+entry_seen e = (e.0.now, e.1.now)
+
 -- what a name stands for
 abbrev pub named : {D : Type 0} → List (List ℕ × D) → List ℕ → Option D
 named es name = option_map (λ e. e.1) (find_named name_of es name)

@@ -2,6 +2,7 @@
 //!
 //! Begin with `lef_texts::LefTexts`, which keeps copies of the texts, and then `library::Library::read`, which reads them in
 //! their order. `Library` finds a layer, a site, a via, a rule or a macro by its name, and takes no memory for it.
+//! A macro comes as a `macro_view::MacroView`, which gives the shapes of its pins in database units one after the other.
 //!
 //! What texts define is said in `lef_grammar/specs/Library` (`library_of`): of each kind the first definition of each name.
 //! `specs/LibraryViews` ties the program to it, and a file of `specs/` for each kind. Names are borrowed from the texts, which
@@ -15,10 +16,12 @@ mod group;
 pub mod layer;
 pub mod lef_texts;
 pub mod library;
+pub mod macro_shapes;
 pub mod macro_view;
 pub mod named;
 pub mod numbers;
 pub mod pin;
+mod placing;
 pub mod rule;
 pub mod shapes;
 pub mod site;

@@ -8,7 +8,7 @@ ghost use Rattle.lef_reader.specs.StatementViews.{lef_view};
 ghost use Rattle.cell_library.specs.LayerViews.{layer_name, layer_view};
 ghost use Rattle.cell_library.specs.LibraryViews.{AddsText, ReadsLibrary, noted};
 ghost use Rattle.cell_library.specs.MacroViews.{macro_view};
-ghost use Rattle.cell_library.specs.Naming.{seen_by};
+ghost use Rattle.cell_library.specs.Naming.{entry_seen, seen_by};
 ghost use Rattle.cell_library.specs.Records.{records_view, word_view};
 ghost use Rattle.cell_library.specs.RuleViews.{rule_view};
 ghost use Rattle.cell_library.specs.SiteViews.{site_view};
@@ -128,11 +128,11 @@ impl<'l, A: Allocator + Copy> Library<'l, A> {
         self.rules.get(name)
     }
 
-    /// The macro of a name.
-    pub fn macro_of(&self, name: &[u8]) -> Option<&Macro<'l, A>>
-        ensures { option_map (seen_by macro_view name.now) result ≡ macro_named self.now name.now }
+    /// The macro of a name, with that name.
+    pub(crate) fn find_macro(&self, name: &[u8]) -> Option<(&'l [u8], &Macro<'l, A>)>
+        ensures { option_map (λ e. macro_view (entry_seen e)) result ≡ macro_named self.now name.now }
     {
-        self.macros.get(name)
+        self.macros.find(name)
     }
 
     /// Adds what the statements of a text define from one outside of all blocks up to the next.

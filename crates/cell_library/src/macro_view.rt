@@ -1,24 +1,29 @@
 //! Macros.
 
-ghost use Rattle.std.specs.Prelude.{◌≡◌, ◌<◌, ◌≤◌, List, ℕ, IfOk, OnOk, map};
+ghost use Rattle.std.specs.Prelude.{◌≡◌, ◌<◌, ◌≤◌, List, ℕ, IfOk, OnOk, map, nat_abs};
 ghost use Rattle.std.specs.List.{filter_map};
 ghost use Rattle.std.specs.Option.{option_map};
 ghost use Rattle.lef_grammar.specs.Definitions.{both_read, inner_record, macro_record, macro_with, macros_of, opened_macro, point_read};
 ghost use Rattle.lef_grammar.specs.Firsts.{first_of, front, with_all};
-ghost use Rattle.lef_grammar.specs.Library.{pin_named};
+ghost use Rattle.lef_grammar.specs.Library.{macro_named, pin_named};
+ghost use Rattle.lef_grammar.specs.MacroShapes.{in_library, macro_shapes};
 ghost use Rattle.lef_grammar.specs.Measures.{point_or_0};
 ghost use Rattle.lef_grammar.specs.MacroBlock.{class_of, origin_of, site_of, size_of};
 ghost use Rattle.lef_reader.specs.StatementViews.{lef_view};
+ghost use Rattle.cell_library.specs.CellViews.{cell_view};
 ghost use Rattle.cell_library.specs.MacroViews.{macro_name, macro_view, macros_view};
 ghost use Rattle.cell_library.specs.Naming.{seen_by};
 ghost use Rattle.cell_library.specs.Numbers.{point_view};
-ghost use Rattle.cell_library.specs.PinViews.{pin_view};
+ghost use Rattle.cell_library.specs.PinViews.{pin_view, pins_view};
 ghost use Rattle.cell_library.specs.Records.{records_view, word_view};
 
 use crate::group::inner_of;
+use crate::library::Library;
+use crate::macro_shapes::MacroShapes;
 use crate::named::Named;
 use crate::numbers::{MicronPoint, read_both, read_point};
 use crate::pin::{Pin, read_pins};
+use crate::placing::Placing;
 use design_model::geometry::Point;
 use design_model::sequence::Sequence;
 use lef_reader::macro_block::MacroStatement;
@@ -37,36 +42,107 @@ pub struct Macro<'l, A: Allocator = Global> {
     pub pins: Named<'l, Pin<'l, A>, A>,
 }
 
-impl<'l, A: Allocator + Copy> Macro<'l, A> {
+/// A macro of a library, with its name.
+#[derive(Clone, Copy)]
+pub struct MacroView<'a, 'l, A: Allocator = Global> {
+    library: &'a Library<'l, A>,
+    name: &'l [u8],
+    cell: &'a Macro<'l, A>,
+}
+
+impl<'l, A: Allocator + Copy> Library<'l, A> {
+    /// The macro of a name.
+    pub fn macro_of(&self, name: &[u8]) -> Option<MacroView<'_, 'l, A>>
+        ensures { option_map cell_view result ≡ option_map (in_library self.now) (macro_named self.now name.now) }
+    {
+        let (name, cell) = self.find_macro(name)?;
+        Some(MacroView {
+            library: self,
+            name,
+            cell,
+        })
+    }
+}
+
+impl<'a, 'l, A: Allocator + Copy> MacroView<'a, 'l, A> {
+    pub fn name(self) -> &'l [u8]
+        ensures { result.now ≡ (cell_view self.entry).cell.name }
+    {
+        self.name
+    }
+
+    /// The first word of its `CLASS`.
+    pub fn cell_class(self) -> Option<&'l [u8]>
+        ensures { option_map word_view result ≡ (cell_view self.entry).cell.class }
+    {
+        self.cell.class
+    }
+
     /// Width and height in database units, and 0 without a `SIZE`.
-    pub fn size(&self, per_micron: u32) -> Point
+    pub fn size(self, per_micron: u32) -> Point
         requires some { 0 < per_micron }
         requires few { per_micron ≤ 100000 }
-        ensures { result ≡ point_or_0 per_micron (option_map point_view self.now.size) }
+        ensures units { result ≡ point_or_0 per_micron (cell_view self.entry).cell.size }
+        ensures narrow { nat_abs result.x ≤ 100000000000 }
+        ensures low { nat_abs result.y ≤ 100000000000 }
     {
-        match self.size {
-            Some(size) => size.in_units(per_micron),
-            None => Point { x: 0, y: 0 },
-        }
+        point_or_origin(self.cell.size, per_micron)
     }
 
     /// Where geometry is moved to in database units, and (0, 0) without an `ORIGIN`.
-    pub fn origin(&self, per_micron: u32) -> Point
+    pub fn origin(self, per_micron: u32) -> Point
         requires some { 0 < per_micron }
         requires few { per_micron ≤ 100000 }
-        ensures { result ≡ point_or_0 per_micron (option_map point_view self.now.origin) }
+        ensures units { result ≡ point_or_0 per_micron (cell_view self.entry).cell.origin }
+        ensures near { nat_abs result.x ≤ 100000000000 }
+        ensures low { nat_abs result.y ≤ 100000000000 }
     {
-        match self.origin {
-            Some(origin) => origin.in_units(per_micron),
-            None => Point { x: 0, y: 0 },
-        }
+        point_or_origin(self.cell.origin, per_micron)
+    }
+
+    /// The names of all its sites.
+    pub fn sites(self) -> &'a [&'l [u8]]
+        ensures { map word_view result.now ≡ (cell_view self.entry).cell.sites }
+    {
+        self.cell.sites.as_slice()
+    }
+
+    /// Its pins, in the order of the text.
+    pub fn pins(self) -> &'a Named<'l, Pin<'l, A>, A>
+        ensures { pins_view result.now ≡ (cell_view self.entry).cell.pins }
+    {
+        &self.cell.pins
     }
 
     /// The pin of a name.
-    pub fn pin(&self, name: &[u8]) -> Option<&Pin<'l, A>>
-        ensures { (cell : List ℕ) → option_map (seen_by pin_view name.now) result ≡ pin_named (macro_view (cell, self.now)) name.now }
+    pub fn pin(self, name: &[u8]) -> Option<&'a Pin<'l, A>>
+        ensures { option_map (seen_by pin_view name.now) result ≡ pin_named (cell_view self.entry).cell name.now }
     {
-        self.pins.get(name)
+        self.cell.pins.get(name)
+    }
+
+    /// The shapes of its pins in database units, moved by `ORIGIN`.
+    pub fn shapes(self, per_micron: u32) -> MacroShapes<'a, 'l, A>
+        requires some { 0 < per_micron }
+        requires few { per_micron ≤ 100000 }
+        ensures { result ≡ macro_shapes per_micron (cell_view self.entry) }
+    {
+        let origin = self.origin(per_micron);
+        MacroShapes::new(self.library, self.pins(), Placing { per_micron, origin })
+    }
+}
+
+/// A point in database units, and (0, 0) where there is none.
+fn point_or_origin(point: Option<MicronPoint>, per_micron: u32) -> Point
+    requires some { 0 < per_micron }
+    requires few { per_micron ≤ 100000 }
+    ensures units { result ≡ point_or_0 per_micron (option_map point_view point) }
+    ensures near { nat_abs result.x ≤ 100000000000 }
+    ensures low { nat_abs result.y ≤ 100000000000 }
+{
+    match point {
+        Some(point) => point.in_units(per_micron),
+        None => Point { x: 0, y: 0 },
     }
 }
 

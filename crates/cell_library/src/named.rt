@@ -1,10 +1,10 @@
 //! Definitions by name.
 
-ghost use Rattle.std.specs.Prelude.{◌≡◌, [], OnOk, OnErr, slice_get};
+ghost use Rattle.std.specs.Prelude.{◌≡◌, ◌<◌, ◌^◌, [], IfSome, OnOk, OnErr, length, slice_get};
 ghost use Rattle.std.specs.Prelude.{option_copied};
 ghost use Rattle.std.specs.Option.{option_map};
-ghost use Rattle.lef_grammar.specs.Firsts.{with_first};
-ghost use Rattle.cell_library.specs.Naming.{place_of, name_of, named};
+ghost use Rattle.lef_grammar.specs.Firsts.{find_named, with_first};
+ghost use Rattle.cell_library.specs.Naming.{entry_seen, place_of, name_of, named};
 ghost use Rattle.cell_library.specs.Records.{word_view};
 
 use indexmap::IndexMap;
@@ -42,6 +42,29 @@ impl<'l, D: Drop, A: Allocator + Copy> Named<'l, D, A> {
         ensures { option_copied result ≡ named self.now name.now }
     {
         self.entries.get(name)
+    }
+
+    /// The definition of a name, with that name.
+    pub fn find(&self, name: &[u8]) -> Option<(&'l [u8], &D)>
+        ensures { option_map entry_seen result ≡ find_named name_of self.now name.now }
+    {
+        self.at(self.place_of(name)?)
+    }
+
+    /// How many definitions there are.
+    pub fn len(&self) -> usize
+        ensures { result ≡ length self.now }
+    {
+        self.entries.len()
+    }
+
+    /// The definition at a place, with its name.
+    pub fn at(&self, place: usize) -> Option<(&'l [u8], &D)>
+        ensures there { option_map entry_seen result ≡ slice_get self.now place }
+        ensures few { IfSome result (λ e. place < 2 ^ 63) }
+    {
+        let (name, definition) = self.entries.as_slice().get_index(place)?;
+        Some((*name, definition))
     }
 
     /// The place of a name among the others.

@@ -2,11 +2,13 @@
 
 ghost use Rattle.std.specs.Prelude.{◌≡◌, ◌<◌, ◌≤◌, nat_abs};
 ghost use Rattle.design_model.specs.Units.{nearest};
-ghost use Rattle.lef_grammar.specs.Measures.{point_in};
+ghost use Rattle.lef_grammar.specs.Measures.{point_in, rectangle_in};
+ghost use Rattle.design_model.specs.Geometry.{spanned};
+ghost use Rattle.design_model.specs.Views.{rectangle_of};
 ghost use Rattle.lef_reader.specs.Parts.{corners_view as written_corners, point_view as written_point};
 ghost use Rattle.lef_grammar.specs.Definitions.{both_read, corners_read, distance_read, point_read, whole_read};
 ghost use Rattle.unit_numbers.specs.Distances.{distance_of};
-ghost use Rattle.cell_library.specs.Numbers.{point_view, rectangle_view};
+ghost use Rattle.cell_library.specs.Numbers.{IsWithin, point_view, rectangle_view};
 
 use design_model::geometry;
 use lef_reader::point::{Corners, Point};
@@ -50,6 +52,30 @@ impl MicronPoint {
             x: in_units(self.x, per_micron),
             y: in_units(self.y, per_micron),
         }
+    }
+}
+
+impl MicronRect {
+    /// The rectangle between the corners in database units, each number by itself.
+    pub fn in_units(self, per_micron: u32) -> geometry::Rect
+        requires some { 0 < per_micron }
+        requires few { per_micron ≤ 100000 }
+        ensures units { rectangle_of result ≡ rectangle_in per_micron (rectangle_view self) }
+        ensures bound { IsWithin 100000000000 (rectangle_of result) }
+    {
+        span(self.from.in_units(per_micron), self.to.in_units(per_micron))
+    }
+}
+
+/// The least rectangle round two points.
+fn span(a: geometry::Point, b: geometry::Point) -> geometry::Rect
+    ensures { rectangle_of result ≡ spanned a b }
+{
+    geometry::Rect {
+        x1: a.x.min(b.x),
+        y1: a.y.min(b.y),
+        x2: a.x.max(b.x),
+        y2: a.y.max(b.y),
     }
 }
 

@@ -12,7 +12,7 @@ ghost use Rattle.cell_library.specs.ShapeViews.{shapes_view};
 
 use crate::named::Named;
 use crate::numbers::{MicronRect, read_corners};
-use crate::shapes::LayerShapes;
+use crate::shapes::{LayerShapes, fitted};
 use design_model::sequence::Sequence;
 use lef_reader::macro_block::{InnerHeader, MacroStatement};
 use lef_reader::port_block::{PortRect, PortStatement};
@@ -66,7 +66,7 @@ fn shapes_behind<'l, A: Allocator + Copy>(
             LefStatement::InPin(_) => {}
             LefStatement::InPort(part) => match part {
                 PortStatement::Layer(name, _) => {
-                    let rectangles = rectangles_behind(alloc, later)?;
+                    let rectangles = fitted(rectangles_behind(alloc, later)?);
                     shapes.push(LayerShapes {
                         layer: name.bytes,
                         rectangles,
@@ -109,7 +109,7 @@ fn read_pin<'l, A: Allocator + Copy>(
     ensures { IfOk result (λ pin. (name : List ℕ) → pin_view (name, pin) ≡ pin_with (name, front pin_record (records_view behind.now))) }
 {
     Ok(Pin {
-        shapes: shapes_behind(alloc, behind)?,
+        shapes: fitted(shapes_behind(alloc, behind)?),
         unchecked: count_behind(behind),
     })
 }

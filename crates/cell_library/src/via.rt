@@ -14,7 +14,7 @@ ghost use Rattle.cell_library.specs.ViaViews.{array_view, body_view, count_behin
 
 use crate::named::Named;
 use crate::numbers::{MicronPoint, MicronRect, read_both, read_corners, read_whole};
-use crate::shapes::LayerShapes;
+use crate::shapes::{LayerShapes, fitted};
 use design_model::sequence::Sequence;
 use lef_reader::outermost::{NamedHeader, OutermostStatement};
 use lef_reader::rule_block::RuleStatement;
@@ -257,7 +257,7 @@ fn shapes_behind<'l, A: Allocator + Copy>(
         match part {
             ViaStatement::Shape(shape) => match shape {
                 ViaShape::Layer(name, _) => {
-                    let rectangles = rectangles_behind(alloc, later)?;
+                    let rectangles = fitted(rectangles_behind(alloc, later)?);
                     shapes.push(LayerShapes {
                         layer: name.bytes,
                         rectangles,
@@ -314,7 +314,7 @@ fn read_body<'l, A: Allocator + Copy>(
 {
     match rule_of(behind) {
         Some(rule) => Ok(ViaBody::Generated(generated_by(rule, behind))),
-        None => Ok(ViaBody::Listed(shapes_behind(alloc, behind)?)),
+        None => Ok(ViaBody::Listed(fitted(shapes_behind(alloc, behind)?))),
     }
 }
 

@@ -6,6 +6,7 @@ pub mod LayerBlock
 pub mod LefRecords
 pub mod Library
 pub mod MacroBlock
+pub mod MacroShapes
 pub mod Measures
 pub mod Outermost
 pub mod PinBlock

@@ -61,11 +61,13 @@ opens_extension = inr (inr (inl (inr (inr (inr tt)))))
 pattern abbrev pub kept_outside : List ℕ → List (List ℕ) → OutermostRecord
 kept_outside w ws = inr (inr (inr (w, ws)))
 
+-- one of a rule or a via
+abbrev pub is_rule_header : List ℕ → Bool
+is_rule_header w = is_word (codes "NONDEFAULTRULE") w || is_word (codes "VIA") w || is_word (codes "VIARULE") w
+
 -- a header with a name behind it
 abbrev pub is_named_header : List ℕ → Bool
-is_named_header w =
-    is_word (codes "LAYER") w || is_word (codes "SITE") w || is_word (codes "MACRO") w || is_word (codes "NONDEFAULTRULE") w || is_word (codes "VIA") w
-    || is_word (codes "VIARULE") w
+is_named_header w = is_word (codes "LAYER") w || is_word (codes "SITE") w || is_word (codes "MACRO") w || is_rule_header w
 
 -- a header that stands alone
 abbrev pub is_bare_header : List ℕ → Bool
@@ -75,10 +77,11 @@ is_bare_header w = is_word (codes "UNITS") w || is_word (codes "SPACING") w || i
 abbrev pub outermost_ending : List ℕ → Ending
 outermost_ending w = if is_named_header w then with_next else (if is_bare_header w then alone else block_ending w)
 
+abbrev pub rule_header : Form (List ℕ ⊎ (List ℕ ⊎ List ℕ))
+rule_header = on (codes "NONDEFAULTRULE") name (on (codes "VIA") name (codes "VIARULE" ▸ name))
+
 unfoldable pub named_header : Form NamedHeader
-named_header =
-    on (codes "LAYER") name
-    (on (codes "SITE") name (on (codes "MACRO") name (on (codes "NONDEFAULTRULE") name (on (codes "VIA") name (codes "VIARULE" ▸ name)))))
+named_header = on (codes "LAYER") name (on (codes "SITE") name (on (codes "MACRO") name rule_header))
 
 unfoldable pub bare_header : Form BareHeader
 bare_header = on (codes "UNITS") empty (on (codes "SPACING") empty (on (codes "PROPERTYDEFINITIONS") empty (codes "BEGINEXT" ▸ empty)))

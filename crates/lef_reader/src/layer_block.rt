@@ -8,7 +8,7 @@ ghost use Rattle.lefdef_tokens.specs.Views.{IsIn, IsLater, rest_of, word_of};
 ghost use Rattle.lef_reader.specs.Parts.{WordsIn, with_rest, words_view};
 ghost use Rattle.lef_reader.specs.LayerViews.{LayerIn, layer_view};
 
-use crate::parts::{dec_at, extent_at, is_kept_word, kept_at, to_end_at};
+use crate::parts::{dec_at, extent_at, kept_at, kept_word_at, to_end_at};
 use lefdef_tokens::{Cursor, Token, TokenRun, is_word};
 
 /// A statement in a block LAYER.
@@ -41,10 +41,7 @@ fn type_at<'l>(cursor: Cursor<'l>) -> Option<(Token<'l>, Cursor<'l>)>
     ensures later { IfSome result (λ x. IsLater cursor.entry x.1) }
     ensures lent { IfSome result (λ x. IsIn cursor.entry.tokens.text.now x.0) }
 {
-    let (word, cursor) = cursor.next()?;
-    if !is_kept_word(word.bytes) {
-        return None;
-    }
+    let (word, cursor) = kept_word_at(cursor)?;
     let cursor = cursor.key(b";")?;
     Some((word, cursor))
 }

@@ -9,7 +9,7 @@ ghost use Rattle.statement_reader.specs.Endings.{ending_view};
 ghost use Rattle.lef_reader.specs.Parts.{PointIn, WordsIn, point_view, with_rest, words_view};
 ghost use Rattle.lef_reader.specs.MacroViews.{HeaderIn, MacroIn, header_view, macro_view};
 
-use crate::parts::{block_ending, is_kept_word, kept_at, name_to_end_at, size_at, to_end_at};
+use crate::parts::{block_ending, kept_at, kept_word_at, name_to_end_at, size_at, to_end_at};
 use crate::point::{Point, point_at};
 use lefdef_tokens::{Cursor, Token, TokenRun, is_word};
 use statement_reader::boundary::Ending;
@@ -83,10 +83,7 @@ fn class_at<'l>(cursor: Cursor<'l>) -> Option<((Token<'l>, TokenRun<'l>), Cursor
     ensures later { IfSome result (λ x. IsLater cursor.entry x.1) }
     ensures lent { IfSome result (λ x. WordsIn cursor.entry.tokens.text.now x.0) }
 {
-    let (word, cursor) = cursor.next()?;
-    if !is_kept_word(word.bytes) {
-        return None;
-    }
+    let (word, cursor) = kept_word_at(cursor)?;
     let (others, cursor) = to_end_at(cursor)?;
     Some(((word, others), cursor))
 }

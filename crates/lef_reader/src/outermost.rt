@@ -2,8 +2,8 @@
 
 ghost use Rattle.std.specs.Prelude.{◌≡◌, IfSome};
 ghost use Rattle.form_meanings.specs.Words.{Gives};
-ghost use Rattle.statement_model.specs.Form.{read};
-ghost use Rattle.lef_grammar.specs.Outermost.{bare_header, is_bare_header, is_named_header, named_header, outermost_ending, outermost_statement};
+ghost use Rattle.statement_model.specs.Form.{read, right};
+ghost use Rattle.lef_grammar.specs.Outermost.{bare_header, is_bare_header, is_named_header, is_rule_header, named_header, outermost_ending, outermost_statement, rule_header};
 ghost use Rattle.lefdef_tokens.specs.Views.{IsLater, rest_of};
 ghost use Rattle.statement_reader.specs.Endings.{ending_view};
 ghost use Rattle.lef_reader.specs.Parts.{with_rest};
@@ -47,6 +47,13 @@ pub enum OutermostStatement<'l> {
     Kept(Token<'l>, TokenRun<'l>),
 }
 
+/// Whether a word is the header of a rule or a via.
+fn is_rule_header(word: &[u8]) -> bool
+    ensures { result ≡ is_rule_header word.now }
+{
+    is_word(word, b"NONDEFAULTRULE") || is_word(word, b"VIA") || is_word(word, b"VIARULE")
+}
+
 /// Whether a word is a header that a name follows.
 fn is_named_header(word: &[u8]) -> bool
     ensures { result ≡ is_named_header word.now }
@@ -54,9 +61,7 @@ fn is_named_header(word: &[u8]) -> bool
     is_word(word, b"LAYER")
         || is_word(word, b"SITE")
         || is_word(word, b"MACRO")
-        || is_word(word, b"NONDEFAULTRULE")
-        || is_word(word, b"VIA")
-        || is_word(word, b"VIARULE")
+        || is_rule_header(word)
 }
 
 /// Whether a word is a header that stands alone.
@@ -82,6 +87,25 @@ pub(crate) fn outermost_ending(first: &[u8]) -> Ending
     }
 }
 
+/// The header of a rule or a via.
+fn rule_header_at<'l>(cursor: Cursor<'l>) -> Option<(NamedHeader<'l>, Cursor<'l>)>
+    ensures gives { Gives (with_rest named_view) result (read (right (right (right rule_header))) (rest_of cursor.entry)) }
+    ensures later { IfSome result (λ x. IsLater cursor.entry x.1) }
+    ensures lent { IfSome result (λ x. NamedIn cursor.entry.tokens.text.now x.0) }
+{
+    let (word, later) = cursor.next()?;
+    let (name, cursor) = later.name()?;
+    if is_word(word.bytes, b"NONDEFAULTRULE") {
+        Some((NamedHeader::Rule(name), cursor))
+    } else if is_word(word.bytes, b"VIA") {
+        Some((NamedHeader::Via(name), cursor))
+    } else if is_word(word.bytes, b"VIARULE") {
+        Some((NamedHeader::GeneratingRule(name), cursor))
+    } else {
+        None
+    }
+}
+
 /// The header of a block with a name.
 #[tactic(auto, unfolding(lef_grammar::specs::Outermost::named_header))]
 fn named_at<'l>(cursor: Cursor<'l>) -> Option<(NamedHeader<'l>, Cursor<'l>)>
@@ -90,21 +114,17 @@ fn named_at<'l>(cursor: Cursor<'l>) -> Option<(NamedHeader<'l>, Cursor<'l>)>
     ensures lent { IfSome result (λ x. NamedIn cursor.entry.tokens.text.now x.0) }
 {
     let (word, later) = cursor.next()?;
-    let (name, cursor) = later.name()?;
     if is_word(word.bytes, b"LAYER") {
+        let (name, cursor) = later.name()?;
         Some((NamedHeader::Layer(name), cursor))
     } else if is_word(word.bytes, b"SITE") {
+        let (name, cursor) = later.name()?;
         Some((NamedHeader::Site(name), cursor))
     } else if is_word(word.bytes, b"MACRO") {
+        let (name, cursor) = later.name()?;
         Some((NamedHeader::Macro(name), cursor))
-    } else if is_word(word.bytes, b"NONDEFAULTRULE") {
-        Some((NamedHeader::Rule(name), cursor))
-    } else if is_word(word.bytes, b"VIA") {
-        Some((NamedHeader::Via(name), cursor))
-    } else if is_word(word.bytes, b"VIARULE") {
-        Some((NamedHeader::GeneratingRule(name), cursor))
     } else {
-        None
+        rule_header_at(cursor)
     }
 }
 

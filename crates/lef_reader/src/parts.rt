@@ -2,7 +2,7 @@
 
 ghost use Rattle.std.specs.Prelude.{◌≡◌, IfSome};
 ghost use Rattle.form_meanings.specs.Words.{Gives};
-ghost use Rattle.statement_model.specs.Form.{◌⨟◌, read};
+ghost use Rattle.statement_model.specs.Form.{◌⨟◌, read, word};
 ghost use Rattle.lef_grammar.specs.Extents.{array_count, bare_block_ending, block_ending, dec, extent, is_array_count, is_distance, is_extent, is_kept_word, kept_statement, name, size_statement, to_end};
 ghost use Rattle.lefdef_tokens.specs.Views.{IsIn, IsLater, rest_of, run_of, word_of};
 ghost use Rattle.statement_reader.specs.Endings.{ending_view};
@@ -37,7 +37,7 @@ pub(crate) fn bare_block_ending(first: &[u8]) -> Ending
 }
 
 /// Whether a word is any but `;`.
-pub(crate) fn is_kept_word(word: &[u8]) -> bool
+fn is_kept_word(word: &[u8]) -> bool
     ensures { result ≡ is_kept_word word.now }
 {
     !(is_quoted(word) || is_semicolon(word))
@@ -107,6 +107,20 @@ pub(crate) fn array_count_at<'l>(cursor: Cursor<'l>) -> Option<(Token<'l>, Curso
     let (token, later) = cursor.place()?;
     let good = is_array_count(token.bytes);
     Some((token, later.noted(good, cursor.len())))
+}
+
+/// A word but `;`
+pub(crate) fn kept_word_at<'l>(cursor: Cursor<'l>) -> Option<(Token<'l>, Cursor<'l>)>
+    ensures gives { Gives word_of result (read (word is_kept_word) (rest_of cursor.entry)) }
+    ensures later { IfSome result (λ x. IsLater cursor.entry x.1) }
+    ensures lent { IfSome result (λ x. IsIn cursor.entry.tokens.text.now x.0) }
+{
+    let (word, later) = cursor.next()?;
+    if is_kept_word(word.bytes) {
+        Some((word, later))
+    } else {
+        None
+    }
 }
 
 /// `word any* ;`, with its `;` among the others

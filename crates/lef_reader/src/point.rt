@@ -7,7 +7,7 @@ ghost use Rattle.lef_grammar.specs.Extents.{corners, dec, is_kept_word, point, t
 ghost use Rattle.lefdef_tokens.specs.Views.{IsLater, rest_of};
 ghost use Rattle.lef_reader.specs.Parts.{CornersIn, MaskedIn, PairIn, PointIn, PointsIn, corners_view, masked_view, pair_view, point_view, two_points_view, with_rest};
 
-use crate::parts::{dec_at, is_kept_word};
+use crate::parts::{dec_at, kept_word_at};
 use lefdef_tokens::{Cursor, Token, is_word};
 
 /// A point, in parentheses or without.
@@ -82,10 +82,7 @@ fn masked_corners_at<'l>(
     if !is_word(first.bytes, b"MASK") {
         return None;
     }
-    let (mask, cursor) = cursor.key(b"MASK")?.next()?;
-    if !is_kept_word(mask.bytes) {
-        return None;
-    }
+    let (mask, cursor) = kept_word_at(cursor.key(b"MASK")?)?;
     let (points, cursor) = two_points_at(cursor)?;
     Some(((mask, points), cursor))
 }

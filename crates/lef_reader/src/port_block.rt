@@ -9,7 +9,7 @@ ghost use Rattle.lefdef_tokens.specs.Views.{IsLater, rest_of};
 ghost use Rattle.lef_reader.specs.Parts.{WordsIn, with_rest, words_view};
 ghost use Rattle.lef_reader.specs.PortViews.{PortIn, RectIn, port_view, rect_view};
 
-use crate::parts::{is_kept_word, kept_at, name_to_end_at, to_end_at};
+use crate::parts::{kept_at, kept_word_at, name_to_end_at, to_end_at};
 use crate::point::{Corners, corners_at};
 use lefdef_tokens::{Cursor, Token, TokenRun, is_word};
 
@@ -84,10 +84,7 @@ fn masked_array_at<'l>(cursor: Cursor<'l>) -> Option<((Token<'l>, TokenRun<'l>),
     if !is_word(first.bytes, b"MASK") {
         return None;
     }
-    let (mask, cursor) = cursor.key(b"MASK")?.next()?;
-    if !is_kept_word(mask.bytes) {
-        return None;
-    }
+    let (mask, cursor) = kept_word_at(cursor.key(b"MASK")?)?;
     let (others, cursor) = to_end_at(cursor.key(b"ITERATE")?)?;
     Some(((mask, others), cursor))
 }

@@ -72,44 +72,34 @@ fn statement_at<'l>(block: Block<'l>, cursor: Cursor<'l>) -> Option<(LefStatemen
 {
     match block {
         Block::Outermost => {
-            let (statement, cursor) = outermost_at(cursor)?;
-            Some((LefStatement::Outside(statement), cursor))
+            outermost_at(cursor).map(|(said, left)| (LefStatement::Outside(said), left))
         }
         Block::Layer(name) => {
-            let (statement, cursor) = layer_at(name, cursor)?;
-            Some((LefStatement::InLayer(statement), cursor))
+            layer_at(name, cursor).map(|(said, left)| (LefStatement::InLayer(said), left))
         }
         Block::Site(name) => {
-            let (statement, cursor) = site_at(name, cursor)?;
-            Some((LefStatement::InSite(statement), cursor))
+            site_at(name, cursor).map(|(said, left)| (LefStatement::InSite(said), left))
         }
         Block::Via { name, stage, .. } => {
-            let (statement, cursor) = via_at(name, stage, cursor)?;
-            Some((LefStatement::InVia(statement), cursor))
+            via_at(name, stage, cursor).map(|(said, left)| (LefStatement::InVia(said), left))
         }
         Block::Rule(name) => {
-            let (statement, cursor) = rule_at(name, cursor)?;
-            Some((LefStatement::InRule(statement), cursor))
+            rule_at(name, cursor).map(|(said, left)| (LefStatement::InRule(said), left))
         }
         Block::RuleLayer { name, .. } => {
-            let (statement, cursor) = rule_layer_at(name, cursor)?;
-            Some((LefStatement::InRuleLayer(statement), cursor))
+            rule_layer_at(name, cursor).map(|(said, left)| (LefStatement::InRuleLayer(said), left))
         }
         Block::Macro(name) => {
-            let (statement, cursor) = macro_at(name, cursor)?;
-            Some((LefStatement::InMacro(statement), cursor))
+            macro_at(name, cursor).map(|(said, left)| (LefStatement::InMacro(said), left))
         }
         Block::Pin { name, .. } => {
-            let (statement, cursor) = pin_at(name, cursor)?;
-            Some((LefStatement::InPin(statement), cursor))
+            pin_at(name, cursor).map(|(said, left)| (LefStatement::InPin(said), left))
         }
         Block::Port { has_layer, .. } => {
-            let (statement, cursor) = port_at(has_layer, cursor)?;
-            Some((LefStatement::InPort(statement), cursor))
+            port_at(has_layer, cursor).map(|(said, left)| (LefStatement::InPort(said), left))
         }
         Block::Kept(block) => {
-            let (statement, cursor) = kept_block_at(block, cursor)?;
-            Some((LefStatement::InKept(statement), cursor))
+            kept_block_at(block, cursor).map(|(said, left)| (LefStatement::InKept(said), left))
         }
     }
 }

@@ -1,12 +1,14 @@
 -- Boxes of macros whose corners may be out of order.
-use Rattle.std.proofs.Common.{◌≡◌, ℕ, ℤ, pos, neg_ℤ, ◌-ℤ◌, nat_abs, ◌≤◌, List, Option, Some, arith, refl, ap}
+use Rattle.std.proofs.Common.{◌≡◌, ℕ, ℤ, pos, neg_ℤ, ◌-ℤ◌, nat_abs, ◌≤◌, List, Option, Some, None, arith, refl, ap, ap₂, ◌∙◌}
 use Rattle.std.specs.Int.{int_min, int_max}
 use Rattle.std.proofs.lemmas.Int.{ints, clamps}
 use Rattle.design_model.specs.declared.geometry.Point.{Point}
 use Rattle.design_model.specs.declared.geometry.Orient.{Orient}
 use Rattle.design_model.specs.declared.geometry.Orient.TheVariants.{N, W, S, E, FN, FS, FW, FE}
 use Rattle.design_model.specs.Geometry.{Rectangle, turned, moved, placed_box, IsNear, IsNearRectangle}
-use Rattle.design_rules.specs.Boxes.{Boxed}
+use Rattle.lef_grammar.specs.Definitions.{Distances}
+use Rattle.lef_grammar.specs.Measures.{point_or_0}
+use Rattle.design_rules.specs.Boxes.{Boxed, boundary_of}
 use Rattle.place_checks.specs.Corners.{corner, in_order}
 
 -- the ends of an interval, ordered twice
@@ -56,3 +58,11 @@ near_high w x h e = rw e (record { low = omega (arith, ints, clamps); high = ome
 pub near_corner : (w h x1 y1 x2 y2 : ℤ) → nat_abs w ≤ 100000000000 → nat_abs h ≤ 100000000000 → x1 ≡ int_min (pos 0) w → y1 ≡ int_min (pos 0) h
     → x2 ≡ int_max (pos 0) w → y2 ≡ int_max (pos 0) h → IsNearRectangle (record { x1 = x1; y1 = y1; x2 = x2; y2 = y2 })
 near_corner w h x1 y1 x2 y2 narrow low a b c d = record { x1 = near_low w x1 narrow a; y1 = near_low h y1 low b; x2 = near_high w x2 narrow c; y2 = near_high h y2 low d }
+
+-- a boundary by its width and height
+corner_is : (u : ℕ) (size : Option Distances) → corner (point_or_0 u size).x (point_or_0 u size).y ≡ boundary_of u size
+corner_is u None = refl
+corner_is u (Some d) = refl
+
+pub boundary_by : (u : ℕ) (size : Option Distances) (p : Point) (w h : ℤ) (r : Rectangle) → p ≡ point_or_0 u size → w ≡ p.x → h ≡ p.y → r ≡ in_order (corner w h) → r ≡ in_order (boundary_of u size)
+boundary_by u size p w h r is wide high made = made ∙ ap₂ (λ (x y : ℤ). in_order (corner x y)) wide high ∙ ap (λ (q : Point). in_order (corner q.x q.y)) is ∙ ap in_order (corner_is u size)

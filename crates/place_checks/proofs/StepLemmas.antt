@@ -1,6 +1,7 @@
 -- The box of a component, and the boxes of one statement more.
-use Rattle.std.proofs.Common.{◌≡◌, ◌⊎◌, inl, inr, ◌∙◌, ℕ, List, [], ◌∷◌, ◌++◌, map, refl, sym, Option, Some, None}
+use Rattle.std.proofs.Common.{◌≡◌, ◌⊎◌, inl, inr, ◌∙◌, ℕ, List, [], ◌∷◌, ◌++◌, map, refl, sym, ap, Option, Some, None}
 use Rattle.std.specs.List.{filter_map}
+use Rattle.std.specs.Option.{option_map}
 use Rattle.std.proofs.lemmas.List.{append-nil, map-append}
 use Rattle.std.proofs.lemmas.List.Elements.{filter_map-append}
 use Rattle.design_model.specs.declared.geometry.Orient.{Orient}
@@ -12,6 +13,7 @@ use Rattle.def_grammar.specs.Components.{placed, Component}
 use Rattle.def_grammar.specs.Placing.{placing}
 use Rattle.def_grammar.specs.Records.{Record}
 use Rattle.lef_grammar.specs.Library.{Library, Macro, macro_named}
+use Rattle.lef_grammar.specs.MacroShapes.{LibraryMacro, in_library}
 use Rattle.design_rules.specs.Boxes.{Boxed, box_at, component_box}
 use Rattle.statement_reader.specs.declared.grammar.Read.{Read}
 use Rattle.def_reader.specs.declared.statement.Statement.{Statement}
@@ -26,6 +28,11 @@ known_box library u c Placed at o m box is either known made = rw (← is, ← k
 known_box library u c Fixed at o m box is either known made = rw (← is, ← known) made
 known_box library u c Cover at o m box is (inl e) known made = absurd (cc)
 known_box library u c Cover at o m box is (inr e) known made = absurd (cc)
+
+-- a macro of the library is the one of its name
+pub found_in : (l : Library) (found : Option Macro) (m : LibraryMacro) → Some m ≡ option_map (in_library l) found → Some m.cell ≡ found
+found_in l None m h = cc
+found_in l (Some x) m h = ap (option_map (λ (y : LibraryMacro). y.cell)) h
 
 -- the boxes after a statement that has one
 pub one_more : (f : Record → Option Boxed) (xs : List (Read Statement Mode)) (x : Read Statement Mode) (old new : List PlacedBox) (b : PlacedBox)

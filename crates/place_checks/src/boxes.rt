@@ -1,28 +1,25 @@
 //! The boxes of the components that take part in the place checks.
 
-ghost use Rattle.std.specs.Prelude.{◌≡◌, ◌≤◌, ◌<◌, ℕ, List, IfOk, map, nat_abs};
+ghost use Rattle.std.specs.Prelude.{◌≡◌, ◌≤◌, ◌<◌, IfOk, map, nat_abs};
 ghost use Rattle.std.specs.Option.{option_map};
 ghost use Rattle.design_model.specs.Geometry.{IsNearRectangle};
 ghost use Rattle.design_model.specs.Views.{rectangle_of};
 ghost use Rattle.design_rules.specs.Boxes.{boundary_of, box_at, box_of, boxes, is_cover, scale};
 ghost use Rattle.def_parts.specs.PointViews.{point_view};
 ghost use Rattle.def_reader.specs.StatementViews.{record_view};
-ghost use Rattle.cell_library.specs.MacroViews.{macro_view};
-ghost use Rattle.cell_library.specs.Numbers.{point_view as distances_view};
-ghost use Rattle.cell_library.specs.Records.{word_view};
+ghost use Rattle.cell_library.specs.CellViews.{cell_view};
 ghost use Rattle.place_checks.specs.Corners.{corner, in_order};
 ghost use Rattle.place_checks.specs.Views.{boxed_view, records_view};
 
 use cell_library::library::Library;
-use cell_library::macro_view::Macro;
-use cell_library::numbers::in_units;
-use place_parts::components::{Clause, Placement};
+use cell_library::macro_view::MacroView;
 use def_parts::number::int_of;
 use def_reader::read_statement::Read;
 use def_reader::statement::Statement;
 use design_model::geometry::{Point, Rect, Status};
 use lefdef_tokens::is_word;
 use orient_geom::place_box;
+use place_parts::components::{Clause, Placement};
 use std::alloc::{AllocError, Allocator};
 
 /// A component that takes part: its name and its box.
@@ -60,31 +57,29 @@ fn corner_box(width: i64, height: i64) -> Rect
 }
 
 /// The boundary of a macro, in database units: one without `SIZE` is a point.
-fn boundary_of<A: Allocator + Copy>(cell: &Macro<'_, A>, scale: u32) -> Rect
+fn boundary_of<A: Allocator + Copy>(cell: MacroView<'_, '_, A>, scale: u32) -> Rect
     requires some { 0 < scale }
     requires few { scale ≤ 100000 }
-    ensures spans { rectangle_of result ≡ in_order (boundary_of scale (option_map distances_view cell.now.size)) }
+    ensures spans { rectangle_of result ≡ in_order (boundary_of scale (cell_view cell.entry).cell.size) }
     ensures near { IsNearRectangle (rectangle_of result) }
 {
-    match cell.size {
-        Some(size) => corner_box(in_units(size.x, scale), in_units(size.y, scale)),
-        None => corner_box(0, 0),
-    }
+    let size = cell.size(scale);
+    corner_box(size.x, size.y)
 }
 
 /// Whether a macro is a cover.
-fn is_cover<A: Allocator + Copy>(cell: &Macro<'_, A>) -> bool
-    ensures { result ≡ is_cover (option_map word_view cell.now.class) }
+fn is_cover<A: Allocator + Copy>(cell: MacroView<'_, '_, A>) -> bool
+    ensures { result ≡ is_cover (cell_view cell.entry).cell.class }
 {
-    match cell.class {
+    match cell.cell_class() {
         Some(word) => is_word(word, b"COVER"),
         None => false,
     }
 }
 
-/// The box of a component of this name that is placed so, where its macro is no cover: whatever the macro's name is.
+/// The box of a component of this name that is placed so, where its macro is no cover.
 fn box_at<'t, A: Allocator + Copy>(
-    cell: &Macro<'_, A>,
+    cell: MacroView<'_, '_, A>,
     scale: u32,
     name: &'t [u8],
     placement: Placement<'t>,
@@ -92,7 +87,7 @@ fn box_at<'t, A: Allocator + Copy>(
     requires some { 0 < scale }
     requires few { scale ≤ 100000 }
     ensures { let placed = placement.entry in
-        (cell_name : List ℕ) → option_map boxed_view result ≡ box_at scale name.entry.now (point_view placed.at) placed.orient (macro_view (cell_name, cell.now)) }
+        option_map boxed_view result ≡ box_at scale name.entry.now (point_view placed.at) placed.orient (cell_view cell.entry).cell }
 {
     if is_cover(cell) {
         return None;

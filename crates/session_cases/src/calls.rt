@@ -6,7 +6,7 @@ use cell_library::library::Library;
 use counted_devices::counted::Counted;
 use design_model::edit::{Done, Edit, EditCode, EditRefusal};
 use def_reader::entry::Entry;
-use design_model::geometry::Orient;
+use design_model::geometry::{Orient, Point};
 use design_model::mode::Section;
 use edit_session::session::Session;
 use std::alloc::Global;
@@ -32,12 +32,13 @@ fn a_library_has_the_first_macro_of_each_name(rt: HostRuntime) -> Result<(), Fai
     lefs.push(b"MACRO INV SIZE 2 BY 3 ; END INV MACRO bare END bare")?;
     let library = Library::read(rt.alloc(), &lefs)?;
     let inverter = library.macro_of(b"INV").ok_or("no INV")?;
-    assert_eq!(rt; inverter.class.ok_or("no class")?, b"CORE".as_slice());
+    assert_eq!(rt; inverter.cell_class().ok_or("no class")?, b"CORE".as_slice());
     let extent = inverter.size(1000);
     assert_eq!(rt; extent.x, 920);
     assert_eq!(rt; extent.y, 2720);
     let bare = library.macro_of(b"bare").ok_or("no bare")?;
-    assert!(rt; bare.class.is_none() && bare.size.is_none());
+    assert!(rt; bare.cell_class().is_none());
+    assert_eq!(rt; bare.size(1000), Point { x: 0, y: 0 });
     assert!(rt; library.macro_of(b"core").is_none());
     Ok(())
 }

@@ -2,7 +2,6 @@ use Rattle.std.proofs.Common.{refl, ◌∙◌}
 use Rattle.lef_grammar.specs.LefRecords.{in_via}
 use Rattle.lef_grammar.specs.ViaBlock.{via_layer}
 use Rattle.lefdef_tokens.specs.Views.{words_of}
-use Rattle.lef_reader.specs.StatementViews.{lef_view}
 use Rattle.cell_library.specs.ShapeViews.{shapes_view}
 use Rattle.cell_library.specs.ViaViews.{rectangles_behind, shapes_behind}
 use Rattle.cell_library.proofs.ShapeLemmas.{one_layer, via_layer_first}
@@ -14,5 +13,5 @@ loop-left-preserved-in_ok-push-in-Layer g c =
     let words = words_of c.in-Layer.field-1 in
     one_layer shapes_view shapes_behind rectangles_behind c.loop-left.left.now c.statement-item.result c.in-len1-up.len_at_least c.statement-item.is
     c.loop-left.shapes c.push.new.self _ name (in_via (via_layer name words))
-    (rw (c.in-InVia.is, c.in-Shape.is, c.in-Layer.is) refl) (via_layer_first name words) (rw (c.in_ok-rectangles-in-Layer.ensures) refl) c.in_ok-push-in-Layer.ensures.ok
+    (rw (c.in-InVia.is, c.in-Shape.is, c.in-Layer.is) refl) (via_layer_first name words) (rw (c.fitted-rectangles.ensures, c.in_ok-rectangles_behind-in-Layer.ensures) refl) c.in_ok-push-in-Layer.ensures.ok
     ∙ c.loop-left.invariant

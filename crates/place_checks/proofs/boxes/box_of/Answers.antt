@@ -1,13 +1,13 @@
 use Rattle.place_parts.specs.ComponentViews.{component_view}
-use Rattle.cell_library.specs.MacroViews.{macro_view}
-use Rattle.place_checks.proofs.StepLemmas.{known_box}
+use Rattle.cell_library.specs.CellViews.{cell_view}
+use Rattle.place_checks.proofs.StepLemmas.{found_in, known_box}
 use Rattle.place_checks.proofs.boxes.box_of.Goals as goal
 
 pub returns-in_ok-macro_of-in-Placed : goal.returns-in_ok-macro_of-in-Placed
 returns-in_ok-macro_of-in-Placed g c =
-    let cell = c.in-Some.parts.cell.bytes.now in
+    let cell = cell_view c.in_ok-macro_of-in-Placed.field-0 in
     let placed = rw c.in-Some-Placed.field-0-is at c.in-Some-Placed.ensures.gives in
     let here = rw c.in-Some.is at c.component.ensures.gives in
     rw (← here)
-    (known_box c.args.library.now c.args.scale (component_view c.in-Some.parts) _ _ _ (macro_view (cell, c.in_ok-macro_of-in-Placed.field-0.now)) _
-    placed c.in-Placed.is c.in_ok-macro_of-in-Placed.ensures (c.box_at.ensures cell))
+    (known_box c.args.library.now c.args.scale (component_view c.in-Some.parts) _ _ _ cell.cell _
+    placed c.in-Placed.is (found_in c.args.library.now _ cell c.in_ok-macro_of-in-Placed.ensures) c.box_at.ensures)

@@ -1,4 +1,3 @@
-use Rattle.std.proofs.Common.{Ok, Err, refl}
 use Rattle.cell_library.proofs.GroupLemmas.{all_added}
 use Rattle.cell_library.proofs.library.Library.add_group.Goals as goal
 
