@@ -12,3 +12,4 @@ pub mod StatementRows
 pub mod TextRows
 pub mod TokenRows
 pub mod WholeRows
+pub mod WireRows
