@@ -40,10 +40,7 @@ pub fn read_def<A: Allocator + Copy>(alloc: A, text: &[u8]) -> Result<Spans<A>, 
     while let Some(read) = read_statement(mode, text, pos)? {
         let span = read.span();
         if let Some(code) = seen.note(read.statement.key())? {
-            return Err(ReadError::Fault(Fault {
-                code,
-                pos: span.lo,
-            }));
+            return Err(ReadError::Fault(Fault { code, pos: span.lo }));
         }
         spans.push(span)?;
         mode = read.place;

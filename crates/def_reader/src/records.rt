@@ -15,12 +15,12 @@ ghost use Rattle.def_reader.specs.Lent.{ReadIn, StatementIn};
 ghost use Rattle.def_reader.specs.StatementViews.{record_view};
 ghost use Rattle.def_reader.specs.RecordViews.{entry_view, located_view, record_of, with_tokens};
 
-use place_parts::components::ComponentParts;
 use crate::entry::Entry;
 use crate::read_statement::Read;
 use crate::statement::Statement;
 use design_model::mode::{Mode, Section};
 use lefdef_tokens::{TokenRun, is_word};
+use place_parts::components::ComponentParts;
 use statement_reader::laws::records_are_read;
 use statement_reader::text;
 use std::alloc::{AllocError, Allocator};

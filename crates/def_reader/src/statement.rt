@@ -21,8 +21,8 @@ use crate::properties::{Property, property_at};
 use crate::seen::Key;
 use crate::top::top_at;
 use design_model::mode::{Mode, Section};
-use place_parts::components::ComponentParts;
 use lefdef_tokens::{Cursor, Token, TokenRun, is_semicolon, is_word};
+use place_parts::components::ComponentParts;
 use statement_reader::boundary::Ending;
 use statement_reader::grammar;
 

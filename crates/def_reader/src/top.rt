@@ -10,9 +10,9 @@ ghost use Rattle.def_reader.specs.Lent.{KeptIn, StatementIn};
 ghost use Rattle.def_parts.specs.PointViews.{with_rest};
 ghost use Rattle.def_reader.specs.StatementViews.{header_view, kept_view, record_view};
 
-use def_parts::number::{count_at, scale_at};
 use crate::floor::{floor_at, next_is_floor};
 use crate::statement::Statement;
+use def_parts::number::{count_at, scale_at};
 use design_model::mode::Section;
 use lefdef_tokens::{Cursor, PartEnd, Token, TokenRun, is_quoted, is_word};
 

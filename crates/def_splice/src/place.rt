@@ -12,12 +12,12 @@ ghost use Rattle.place_parts.specs.ComponentViews.{clause_view};
 ghost use Rattle.def_splice.specs.SpliceViews.{clause_cut, cut_view, Moves, PlacesSplice};
 
 use crate::put::{placed_text, put_at};
-use place_parts::components::Clause;
 use def_reader::records::component_named;
 use design_model::MAX_TEXT;
 use design_model::edit::{EditCode, EditRefusal, Splice};
 use design_model::geometry::{Orient, Status};
 use lefdef_tokens::TokenRun;
+use place_parts::components::Clause;
 use std::alloc::{AllocError, Allocator};
 
 /// Whether the clause that places a component holds it where it is.

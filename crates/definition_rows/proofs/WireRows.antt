@@ -14,10 +14,10 @@ on layer x1 y1 x2 y2 = record { layer = layer; box = record { x1 = x1; y1 = y1; 
 abbrev shapes_of : List ℕ → List NamedShape
 shapes_of name =
     if bytes_eq name (codes "M1M2") then
-      on (codes "met1") (neg_ℤ (pos 100)) (neg_ℤ (pos 100)) (pos 100) (pos 100)
-      ∷ on (codes "via1") (neg_ℤ (pos 50)) (neg_ℤ (pos 50)) (pos 50) (pos 50)
-      ∷ on (codes "met2") (neg_ℤ (pos 100)) (neg_ℤ (pos 100)) (pos 100) (pos 100)
-      ∷ []
+    on (codes "met1") (neg_ℤ (pos 100)) (neg_ℤ (pos 100)) (pos 100) (pos 100)
+    ∷ on (codes "via1") (neg_ℤ (pos 50)) (neg_ℤ (pos 50)) (pos 50) (pos 50)
+    ∷ on (codes "met2") (neg_ℤ (pos 100)) (neg_ℤ (pos 100)) (pos 100) (pos 100)
+    ∷ []
     else []
 
 abbrev layers_of : List ℕ → Option (List (List ℕ))
@@ -61,19 +61,19 @@ unfolding pieces_from
 special_segments = refl
 
 generated : generated_shapes (record {
-      bottom = codes "met1";
-      cut = codes "via1";
-      top = codes "met2";
-      cut_size = record { x = pos 150; y = pos 150 };
-      cut_spacing = record { x = pos 170; y = pos 170 };
-      rows = pos 2;
-      columns = pos 3;
-      bottom_enclosure = record { x = pos 85; y = pos 55 };
-      top_enclosure = record { x = pos 55; y = pos 85 };
-      bottom_offset = record { x = pos 0; y = pos 0 };
-      top_offset = record { x = pos 0; y = pos 0 };
-      origin = record { x = pos 0; y = pos 0 };
-    })
+  bottom = codes "met1";
+  cut = codes "via1";
+  top = codes "met2";
+  cut_size = record { x = pos 150; y = pos 150 };
+  cut_spacing = record { x = pos 170; y = pos 170 };
+  rows = pos 2;
+  columns = pos 3;
+  bottom_enclosure = record { x = pos 85; y = pos 55 };
+  top_enclosure = record { x = pos 55; y = pos 85 };
+  bottom_offset = record { x = pos 0; y = pos 0 };
+  top_offset = record { x = pos 0; y = pos 0 };
+  origin = record { x = pos 0; y = pos 0 };
+})
     ≡ on (codes "met1") (neg_ℤ (pos 480)) (neg_ℤ (pos 290)) (pos 480) (pos 290)
     ∷ on (codes "via1") (neg_ℤ (pos 395)) (neg_ℤ (pos 235)) (pos 395) (pos 235)
     ∷ on (codes "met2") (neg_ℤ (pos 450)) (neg_ℤ (pos 320)) (pos 450) (pos 320)
@@ -84,10 +84,10 @@ generated = refl
 wire_over_a_via : pieces_from net_rules (from (codes "met1") (pos 0) (pos 0)) (to_point (point (pos 1000) (pos 0)) None ∷ m1m2 1 (point (pos 0) (pos 0)) ∷ to_point (point (pos 1000) (pos 500)) None ∷ [])
     ≡ segment (on (codes "met1") (neg_ℤ (pos 70)) (neg_ℤ (pos 70)) (pos 1070) (pos 70)) 1000
     ∷ via_at (codes "M1M2") (point (pos 1000) (pos 0)) (
-      on (codes "met1") (pos 900) (neg_ℤ (pos 100)) (pos 1100) (pos 100)
-      ∷ on (codes "via1") (pos 950) (neg_ℤ (pos 50)) (pos 1050) (pos 50)
-      ∷ on (codes "met2") (pos 900) (neg_ℤ (pos 100)) (pos 1100) (pos 100)
-      ∷ [])
+    on (codes "met1") (pos 900) (neg_ℤ (pos 100)) (pos 1100) (pos 100)
+    ∷ on (codes "via1") (pos 950) (neg_ℤ (pos 50)) (pos 1050) (pos 50)
+    ∷ on (codes "met2") (pos 900) (neg_ℤ (pos 100)) (pos 1100) (pos 100)
+    ∷ [])
     ∷ segment (on (codes "met2") (pos 930) (neg_ℤ (pos 70)) (pos 1070) (pos 570)) 500
     ∷ []
 unfolding pieces_from line_of
@@ -97,10 +97,10 @@ wire_over_a_via = refl
 vias_of_a_special_net : pieces_from (special_rules (pos 0)) (from (codes "via1") (pos 0) (pos 0)) (m1m2 2 (point (pos 300) (pos 0)) ∷ use_via (record { name = codes "none"; orient = W; columns = 1; rows = 1; step = point (pos 0) (pos 0) }) ∷ [])
     ≡ via_at (codes "M1M2") (point (pos 0) (pos 0)) (shapes_of (codes "M1M2"))
     ∷ via_at (codes "M1M2") (point (pos 300) (pos 0)) (
-      on (codes "met1") (pos 200) (neg_ℤ (pos 100)) (pos 400) (pos 100)
-      ∷ on (codes "via1") (pos 250) (neg_ℤ (pos 50)) (pos 350) (pos 50)
-      ∷ on (codes "met2") (pos 200) (neg_ℤ (pos 100)) (pos 400) (pos 100)
-      ∷ [])
+    on (codes "met1") (pos 200) (neg_ℤ (pos 100)) (pos 400) (pos 100)
+    ∷ on (codes "via1") (pos 250) (neg_ℤ (pos 50)) (pos 350) (pos 50)
+    ∷ on (codes "met2") (pos 200) (neg_ℤ (pos 100)) (pos 400) (pos 100)
+    ∷ [])
     ∷ via_off_layer (codes "M1M2")
     ∷ unknown_via (codes "none")
     ∷ []

@@ -4,8 +4,8 @@ use crate::texts::{INVERTER, TWO_INVERTERS};
 use cell_library::lef_texts::LefTexts;
 use cell_library::library::Library;
 use counted_devices::counted::Counted;
-use design_model::edit::{Done, Edit, EditCode, EditRefusal};
 use def_reader::entry::Entry;
+use design_model::edit::{Done, Edit, EditCode, EditRefusal};
 use design_model::geometry::{Orient, Point};
 use design_model::mode::Section;
 use edit_session::session::Session;
@@ -32,7 +32,10 @@ fn a_library_has_the_first_macro_of_each_name(rt: HostRuntime) -> Result<(), Fai
     lefs.push(b"MACRO INV SIZE 2 BY 3 ; END INV MACRO bare END bare")?;
     let library = Library::read(rt.alloc(), &lefs)?;
     let inverter = library.macro_of(b"INV").ok_or("no INV")?;
-    assert_eq!(rt; inverter.cell_class().ok_or("no class")?, b"CORE".as_slice());
+    assert_eq!(rt;
+        inverter.cell_class().ok_or("no class")?,
+        b"CORE".as_slice()
+    );
     let extent = inverter.size(1000);
     assert_eq!(rt; extent.x, 920);
     assert_eq!(rt; extent.y, 2720);
@@ -81,7 +84,9 @@ fn an_entry_is_lent_where_it_stands_now(rt: HostRuntime) -> Result<(), Fail> {
     let library = Library::read(rt.alloc(), &lefs)?;
     let mut session = Session::open(rt.alloc(), &library, TWO_INVERTERS)?;
     for wanted in [194, 213] {
-        let view = session.statement(Section::Components, b"u2").ok_or("no u2")?;
+        let view = session
+            .statement(Section::Components, b"u2")
+            .ok_or("no u2")?;
         assert_eq!(rt; view.pos, wanted);
         assert_eq!(rt; view.bytes, b"- u2 INV + PLACED ( 920 0 ) N ;".as_slice());
         let Entry::Component(parts) = view.parts else {
