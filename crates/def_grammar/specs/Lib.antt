@@ -7,6 +7,7 @@ pub mod Extensions
 pub mod Grids
 pub mod Groups
 pub mod Limits
+pub mod NetWires
 pub mod Nets
 pub mod Numbers
 pub mod Parts
@@ -20,6 +21,7 @@ pub mod Rows
 pub mod Rules
 pub mod Skipped
 pub mod SpecialNets
+pub mod SpecialWires
 pub mod Terminals
 pub mod Top
 pub mod Wiring

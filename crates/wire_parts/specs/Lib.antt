@@ -1,7 +1,10 @@
 pub mod NetViews
+pub mod NetWireViews
 pub mod PathViews
 pub mod RuleViews
 pub mod SpecialNetViews
+pub mod SpecialWireViews
 pub mod TerminalViews
 pub mod ViaViews
+pub mod WiresLeft
 pub mod WiringViews

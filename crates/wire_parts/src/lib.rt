@@ -2,7 +2,7 @@
 //! Syntax").
 //!
 //! Begin with `nets::net_entry_at`, an entry of NETS; each section has its file. `terminals`, `paths` and `wiring` are
-//! what the two sections of nets share.
+//! what the two sections of nets share, and `NetParts::paths` gives the wires of a net, one after the other.
 //!
 //! What they say is in `def_grammar/specs`, in the file of the same name (`paths` in `Wiring`, `vias` in `DefVias`);
 //! `specs/NAMEViews` have the views of these parts there, and what they lend. Tokens are lent from the text that was
@@ -13,10 +13,12 @@
 //! entries of nets a clause that hasn't its form is kept, and says nothing.
 #![tactic(auto)]
 
+pub mod net_wires;
 pub mod nets;
 pub mod paths;
 pub mod rules;
 pub mod special_nets;
+pub mod special_wires;
 pub mod terminals;
 pub mod vias;
 pub mod wiring;
