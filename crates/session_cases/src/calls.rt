@@ -6,7 +6,7 @@ use cell_library::library::Library;
 use counted_devices::counted::Counted;
 use def_reader::entry::Entry;
 use design_model::edit::{Done, Edit, EditCode, EditRefusal};
-use design_model::geometry::{Orient, Point};
+use design_model::geometry::Orient;
 use design_model::mode::Section;
 use edit_session::session::Session;
 use std::alloc::Global;
@@ -25,23 +25,21 @@ fn lef_texts_are_kept_in_order(rt: HostRuntime) -> Result<(), Fail> {
     Ok(())
 }
 
+/// Whether a macro has a CLASS, and its width and height at 1000 units in a micron.
+fn measured(library: &Library<'_>, name: &[u8]) -> Option<(bool, i64, i64)> {
+    let cell = library.macro_of(name)?;
+    let size = cell.size(1000);
+    Some((cell.cell_class().is_some(), size.x, size.y))
+}
+
 #[test]
 fn a_library_has_the_first_macro_of_each_name(rt: HostRuntime) -> Result<(), Fail> {
     let mut lefs = LefTexts::new(rt.alloc());
     lefs.push(INVERTER)?;
     lefs.push(b"MACRO INV SIZE 2 BY 3 ; END INV MACRO bare END bare")?;
     let library = Library::read(rt.alloc(), &lefs)?;
-    let inverter = library.macro_of(b"INV").ok_or("no INV")?;
-    assert_eq!(rt;
-        inverter.cell_class().ok_or("no class")?,
-        b"CORE".as_slice()
-    );
-    let extent = inverter.size(1000);
-    assert_eq!(rt; extent.x, 920);
-    assert_eq!(rt; extent.y, 2720);
-    let bare = library.macro_of(b"bare").ok_or("no bare")?;
-    assert!(rt; bare.cell_class().is_none());
-    assert_eq!(rt; bare.size(1000), Point { x: 0, y: 0 });
+    assert_eq!(rt; measured(&library, b"INV"), Some((true, 920, 2720)));
+    assert_eq!(rt; measured(&library, b"bare"), Some((false, 0, 0)));
     assert!(rt; library.macro_of(b"core").is_none());
     Ok(())
 }
@@ -77,32 +75,30 @@ fn a_session_from_its_opening_to_its_text(rt: HostRuntime) -> Result<(), Fail> {
     Ok(())
 }
 
+/// Where an entry of COMPONENTS begins, how long it is, and where in it its name begins.
+fn places(session: &Session<'_, '_>, name: &[u8]) -> Option<(usize, usize, usize)> {
+    let view = session.statement(Section::Components, name)?;
+    match view.parts {
+        Entry::Component(parts) => Some((view.pos, view.bytes.len(), parts.name.pos)),
+        _ => None,
+    }
+}
+
 #[test]
 fn an_entry_is_lent_where_it_stands_now(rt: HostRuntime) -> Result<(), Fail> {
     let mut lefs = LefTexts::new(rt.alloc());
     lefs.push(INVERTER)?;
     let library = Library::read(rt.alloc(), &lefs)?;
     let mut session = Session::open(rt.alloc(), &library, TWO_INVERTERS)?;
-    for wanted in [194, 213] {
-        let view = session
-            .statement(Section::Components, b"u2")
-            .ok_or("no u2")?;
-        assert_eq!(rt; view.pos, wanted);
-        assert_eq!(rt; view.bytes, b"- u2 INV + PLACED ( 920 0 ) N ;".as_slice());
-        let Entry::Component(parts) = view.parts else {
-            return Err("u2 is no component".into());
-        };
-        assert_eq!(rt; parts.name.pos, 2);
-        assert_eq!(rt; parts.cell.bytes, b"INV".as_slice());
-        session.edit(&Edit::Place {
-            component: b"u1",
-            x: 0,
-            y: 0,
-            orient: Orient::N,
-        })?;
-    }
-    assert!(rt; session.statement(Section::Components, b"u3").is_none());
-    assert!(rt; session.statement(Section::Nets, b"u2").is_none());
+    assert_eq!(rt; places(&session, b"u2"), Some((194, 31, 2)));
+    session.edit(&Edit::Place {
+        component: b"u1",
+        x: 0,
+        y: 0,
+        orient: Orient::N,
+    })?;
+    assert_eq!(rt; places(&session, b"u2"), Some((213, 31, 2)));
+    assert_eq!(rt; places(&session, b"u3"), None);
     Ok(())
 }
 
