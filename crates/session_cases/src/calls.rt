@@ -4,10 +4,8 @@ use crate::texts::{INVERTER, TWO_INVERTERS};
 use cell_library::lef_texts::LefTexts;
 use cell_library::library::Library;
 use counted_devices::counted::Counted;
-use def_reader::entry::Entry;
 use design_model::edit::{Done, Edit, EditCode, EditRefusal};
 use design_model::geometry::Orient;
-use design_model::mode::Section;
 use edit_session::session::Session;
 use std::alloc::Global;
 use std::test::Fail;
@@ -72,33 +70,6 @@ fn a_session_from_its_opening_to_its_text(rt: HostRuntime) -> Result<(), Fail> {
     let mut out = Counted::new(Vec::new(rt.alloc()));
     assert!(rt; session.write_to(&mut out).is_ok());
     assert_eq!(rt; out.into_inner().len(), 271);
-    Ok(())
-}
-
-/// Where an entry of COMPONENTS begins, how long it is, and where in it its name begins.
-fn places(session: &Session<'_, '_>, name: &[u8]) -> Option<(usize, usize, usize)> {
-    let view = session.statement(Section::Components, name)?;
-    match view.parts {
-        Entry::Component(parts) => Some((view.pos, view.bytes.len(), parts.name.pos)),
-        _ => None,
-    }
-}
-
-#[test]
-fn an_entry_is_lent_where_it_stands_now(rt: HostRuntime) -> Result<(), Fail> {
-    let mut lefs = LefTexts::new(rt.alloc());
-    lefs.push(INVERTER)?;
-    let library = Library::read(rt.alloc(), &lefs)?;
-    let mut session = Session::open(rt.alloc(), &library, TWO_INVERTERS)?;
-    assert_eq!(rt; places(&session, b"u2"), Some((194, 31, 2)));
-    session.edit(&Edit::Place {
-        component: b"u1",
-        x: 0,
-        y: 0,
-        orient: Orient::N,
-    })?;
-    assert_eq!(rt; places(&session, b"u2"), Some((213, 31, 2)));
-    assert_eq!(rt; places(&session, b"u3"), None);
     Ok(())
 }
 
