@@ -30,6 +30,7 @@ pub fn kept_clause_at<'t>(cursor: Cursor<'t>) -> Option<(KeptClause<'t>, Cursor<
 }
 
 /// `[MASK word]`
+#[inline(always)]
 pub fn mask_at<'t>(cursor: Cursor<'t>) -> Option<(Option<Token<'t>>, Cursor<'t>)>
     ensures gives { Gives (with_rest mask_view) result (read mask (rest_of cursor.entry)) }
     ensures later { IfSome result (λ x. IsLater cursor.entry x.1) }

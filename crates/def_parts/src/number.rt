@@ -34,6 +34,7 @@ enum NumberKind {
 
 /// Whether a word is a whole number.
 #[tactic(auto, unfolding(def_grammar::specs::Numbers::is_int))]
+#[inline(always)]
 fn is_int(word: &[u8]) -> bool
     ensures { result ≡ is_int word.now }
 {
@@ -97,6 +98,7 @@ fn is_lines(word: &[u8]) -> bool
 
 /// Whether a word is a coordinate or `*`.
 #[tactic(auto, unfolding(def_grammar::specs::Points::is_coordinate))]
+#[inline(always)]
 fn is_coordinate(word: &[u8]) -> bool
     ensures { result ≡ is_coordinate word.now }
 {
@@ -135,6 +137,7 @@ pub fn is_in_range(start: &[u8], count: &[u8], step: &[u8]) -> bool
 }
 
 /// Whether a word is a number of a kind.
+#[inline(always)]
 fn is_of_kind(kind: NumberKind, word: &[u8]) -> bool
     ensures { result ≡ is_of_kind kind word.now }
 {
@@ -151,6 +154,7 @@ fn is_of_kind(kind: NumberKind, word: &[u8]) -> bool
 
 /// A place for a number of a kind. A word that is no such number is noted.
 #[tactic(auto, unfolding(form_meanings::specs::Words::number_at))]
+#[inline(always)]
 fn number_at<'t>(kind: NumberKind, cursor: Cursor<'t>) -> Option<(Token<'t>, Cursor<'t>)>
     ensures gives { Gives word_of result (number_at (is_of_kind kind) (rest_of cursor.entry)) }
     ensures later { IfSome result (λ x. IsLater cursor.entry x.1) }
@@ -162,6 +166,7 @@ fn number_at<'t>(kind: NumberKind, cursor: Cursor<'t>) -> Option<(Token<'t>, Cur
 }
 
 /// A place for a whole number.
+#[inline(always)]
 pub fn int_at<'t>(cursor: Cursor<'t>) -> Option<(Token<'t>, Cursor<'t>)>
     ensures gives { Gives word_of result (read int (rest_of cursor.entry)) }
     ensures later { IfSome result (λ x. IsLater cursor.entry x.1) }
@@ -189,6 +194,7 @@ pub fn count_at<'t>(cursor: Cursor<'t>) -> Option<(Token<'t>, Cursor<'t>)>
 }
 
 /// A place for a size, 0 or more.
+#[inline(always)]
 pub fn size_at<'t>(cursor: Cursor<'t>) -> Option<(Token<'t>, Cursor<'t>)>
     ensures gives { Gives word_of result (read (number is_size) (rest_of cursor.entry)) }
     ensures later { IfSome result (λ x. IsLater cursor.entry x.1) }
@@ -225,6 +231,7 @@ pub fn lines_at<'t>(cursor: Cursor<'t>) -> Option<(Token<'t>, Cursor<'t>)>
 }
 
 /// A place for a coordinate of a later point of a row, or `*`.
+#[inline(always)]
 pub fn coordinate_at<'t>(cursor: Cursor<'t>) -> Option<(Token<'t>, Cursor<'t>)>
     ensures gives { Gives word_of result (read coordinate (rest_of cursor.entry)) }
     ensures later { IfSome result (λ x. IsLater cursor.entry x.1) }

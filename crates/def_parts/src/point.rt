@@ -20,6 +20,7 @@ pub struct Coordinates<'t> {
 
 /// `( x y )`
 #[tactic(auto, unfolding(def_grammar::specs::Parts::point))]
+#[inline(always)]
 pub fn point_at<'t>(cursor: Cursor<'t>) -> Option<(Coordinates<'t>, Cursor<'t>)>
     ensures gives { Gives (with_rest point_view) result (read point (rest_of cursor.entry)) }
     ensures later { IfSome result (λ x. IsLater cursor.entry x.1) }
@@ -34,6 +35,7 @@ pub fn point_at<'t>(cursor: Cursor<'t>) -> Option<(Coordinates<'t>, Cursor<'t>)>
 
 /// The orientation of a word.
 #[tactic(auto, unfolding(def_grammar::specs::Parts::orient))]
+#[inline(always)]
 pub fn orient_at<'t>(cursor: Cursor<'t>) -> Option<(Orient, Cursor<'t>)>
     ensures gives { Gives (with_rest same) result (read orient (rest_of cursor.entry)) }
     ensures later { IfSome result (λ x. IsLater cursor.entry x.1) }

@@ -36,6 +36,7 @@ pub struct Polygon<'t> {
 
 /// Two numbers without parentheses.
 #[tactic(auto, unfolding(def_grammar::specs::Points::two_numbers))]
+#[inline(always)]
 pub fn two_numbers_at<'t>(cursor: Cursor<'t>) -> Option<(Coordinates<'t>, Cursor<'t>)>
     ensures gives { Gives (with_rest point_view) result (read two_numbers (rest_of cursor.entry)) }
     ensures later { IfSome result (λ x. IsLater cursor.entry x.1) }
@@ -47,6 +48,7 @@ pub fn two_numbers_at<'t>(cursor: Cursor<'t>) -> Option<(Coordinates<'t>, Cursor
 }
 
 /// Whether a word begins a point.
+#[inline(always)]
 pub fn is_open(word: &[u8]) -> bool
     ensures { result ≡ is_open word.now }
 {
@@ -54,6 +56,7 @@ pub fn is_open(word: &[u8]) -> bool
 }
 
 /// Whether a point is next.
+#[inline(always)]
 pub fn next_is_open<'t>(cursor: Cursor<'t>) -> bool
     ensures { result ≡ next_passes is_open (rest_of cursor.entry) }
 {
@@ -62,6 +65,7 @@ pub fn next_is_open<'t>(cursor: Cursor<'t>) -> bool
 
 /// `( x y )`, where each can be `*`
 #[tactic(auto, unfolding(def_grammar::specs::Points::later_point))]
+#[inline(always)]
 pub fn later_point_at<'t>(cursor: Cursor<'t>) -> Option<(LaterPoint<'t>, Cursor<'t>)>
     ensures gives { Gives (with_rest later_view) result (read later_point (rest_of cursor.entry)) }
     ensures later { IfSome result (λ x. IsLater cursor.entry x.1) }

@@ -1,11 +1,12 @@
 -- How far white space, comments, words and strings go.
-use Rattle.std.specs.Prelude.{◌≡◌, ◌≢◌, ℕ, ◌+◌, ◌-◌, ◌≤◌, ◌<◌, ◌↔◌, false, true, slice_index, MatchOption, Bool, not, ◌&&◌, ◌||◌, ◌==◌, nat_le, List, length, Option, Result, MatchResult}
+use Rattle.std.specs.Prelude.{◌≡◌, ◌≢◌, ℕ, ◌+◌, ◌-◌, ◌≤◌, ◌<◌, ◌↔◌, false, true, slice_index, MatchOption, Bool, not, ◌&&◌, ◌||◌, ◌==◌, nat_le, List, [], ◌∷◌, length, Option, Result, Ok, MatchResult, if◌then◌else◌}
 use Rattle.std.specs.Int.{bit_at}
 use Rattle.std.specs.List.{slice_range}
 use Rattle.memchr.specs.Find.{Nowhere, Passes, is_byte}
 use Rattle.statement_model.specs.Tokens.{Piece, is_white, is_refused, closes, before, left_from, only_fault}
 use Rattle.design_model.specs.declared.fault.Fault.{Fault}
 use Rattle.design_model.specs.declared.token_kind.TokenKind.{TokenKind}
+use Rattle.design_model.specs.declared.token_kind.TokenKind.TheVariants.{Word, Quoted}
 
 -- From a place between two tokens on, reading comes to the returned place of the text, also between two tokens, after the
 -- given tokens; or to nothing but the fault.
@@ -45,6 +46,24 @@ begins b = not (is_refused b) && not (is_white b) && not (b == 35)
 -- the word, or the string, from start up to end
 abbrev pub piece_at : TokenKind → List ℕ → ℕ → ℕ → Piece
 piece_at kind text start end = record { kind = kind; bytes = slice_range text start end; pos = start }
+
+-- a token that stands from start up to end: a string where its first byte is a quote
+abbrev pub token_from : List ℕ → ℕ → ℕ → Piece
+token_from text start end = piece_at (if slice_index text start == 34 then Quoted else Word) text start end
+
+-- the first token from a place between two tokens on stands from start up to end
+pub record ComesFirst (text : List ℕ) (from start end : ℕ) : Type 0 where
+  pub low : from ≤ start
+  pub some : start < end
+  pub high : end ≤ length text
+  pub left : left_from text from ≡ before (token_from text start end ∷ []) (left_from text end)
+
+-- from a place between two tokens on there is no token, one that stands from here to there, or a fault
+abbrev pub FirstStands : List ℕ → ℕ → Result (Option (ℕ × ℕ)) Fault → Type 0
+FirstStands text from r =
+    MatchResult r
+    (λ found. MatchOption found (left_from text from ≡ record { pieces = []; end = Ok (length text) }) (λ x. ComesFirst text from x.0 x.1))
+    (λ f. left_from text from ≡ only_fault f)
 
 -- the byte is at most low, or delete: a word goes on at any other byte where low is 32, and a comment where it is 31
 abbrev pub stops : ℕ → ℕ → Bool

@@ -1,31 +1,32 @@
 //! Reading the tokens of a statement from left to right.
 
-ghost use Rattle.std.specs.Prelude.{◌≡◌, None};
-ghost use Rattle.std.specs.Option.{ForSome};
-ghost use Rattle.lefdef_tokens.specs.Pieces.{StandsFirst};
+ghost use Rattle.std.specs.Prelude.{◌≡◌, ◌<◌, None};
+ghost use Rattle.lefdef_tokens.specs.Runs.{ComesFirst};
 
 use crate::part_end::{ClauseEnd, PartEnd, StatementEnd};
 use crate::token::Token;
 use crate::token_run::TokenRun;
 use crate::words;
 
-/// The tokens that are left, and how many were left where the first invalid number stood. The next token is kept, so
-/// that looking at it is free.
+/// The tokens that are left, and how many were left where the first invalid number stood. Where the next token stands is
+/// kept, so that looking at it is free.
 #[derive(Clone, Copy)]
 pub struct Cursor<'t> {
     pub tokens: TokenRun<'t>,
     pub bad: Option<usize>,
-    first: Option<Token<'t>>,
-    ghost at_first: { ForSome first (λ token. StandsFirst tokens token) },
-    ghost at_end: { first ≡ None → tokens.count ≡ 0 },
+    start: usize,
+    end: usize,
+    ghost at_first: { 0 < tokens.count → ComesFirst tokens.text.now tokens.pos start end },
 }
 
 impl<'t> Cursor<'t> {
     ghost use Rattle.std.specs.Prelude.{◌∷◌, List, [], length, false, ℕ, IfSome, MatchOption};
     ghost use Rattle.form_meanings.specs.Words.{Gives, is_done, is_plain, is_place, is_plus, is_semicolon, is_stop, is_word, key, name_at, next_passes, next_word, noted, split_rest, word_that};
+    ghost use Rattle.lefdef_tokens.specs.Pieces.{StandsFirst};
     ghost use Rattle.lefdef_tokens.specs.Views.{IsIn, IsLater, rest_of, run_of, word_of, words_of};
 
     /// Before the first token of a run.
+    #[inline(always)]
     pub fn start(run: TokenRun<'t>) -> Cursor<'t>
         ensures tokens { result.tokens ≡ run.entry }
         ensures bad { result.bad ≡ None }
@@ -34,18 +35,30 @@ impl<'t> Cursor<'t> {
     }
 
     /// Before the first of these tokens, where this was noted before.
+    #[inline(always)]
     fn at(tokens: TokenRun<'t>, bad: Option<usize>) -> Cursor<'t>
         ensures tokens { result.tokens ≡ tokens.entry }
         ensures bad { result.bad ≡ bad }
     {
+        let (start, end) = tokens.first_bounds();
         Cursor {
             tokens,
             bad,
-            first: tokens.first(),
+            start,
+            end,
         }
     }
 
+    /// The next token, as the first of those that are left.
+    #[inline(always)]
+    fn first(self) -> Option<Token<'t>>
+        ensures { MatchOption result (self.entry.tokens.count ≡ 0) (λ token. StandsFirst self.entry.tokens token) }
+    {
+        self.tokens.first_between(self.start, self.end)
+    }
+
     /// The next token.
+    #[inline(always)]
     pub fn next(self) -> Option<(Token<'t>, Cursor<'t>)>
         ensures gives { Gives word_of result (next_word (rest_of self.entry)) }
         ensures first { MatchOption result (words_of self.entry.tokens ≡ []) (λ x. words_of self.entry.tokens ≡ x.0.bytes.now ∷ words_of x.1.tokens) }
@@ -53,19 +66,21 @@ impl<'t> Cursor<'t> {
         ensures slice { IfSome result (λ x. IsIn self.entry.tokens.text.now x.0) }
         ensures later { IfSome result (λ x. IsLater self.entry x.1) }
     {
-        let first = self.first?;
+        let first = self.first()?;
         Some((first, Cursor::at(self.tokens.after(first), self.bad)))
     }
 
     /// The next token, which stays the next.
+    #[inline(always)]
     pub fn peek(self) -> Option<Token<'t>>
         ensures first { MatchOption result (words_of self.entry.tokens ≡ []) (λ token. (ws : List (List ℕ)) × (words_of self.entry.tokens ≡ token.bytes.now ∷ ws)) }
         ensures slice { IfSome result (λ token. IsIn self.entry.tokens.text.now token) }
     {
-        self.first
+        self.first()
     }
 
     /// Whether no token is left.
+    #[inline(always)]
     pub fn is_done(self) -> bool
         ensures { result ≡ is_done (rest_of self.entry) }
     {
@@ -73,6 +88,7 @@ impl<'t> Cursor<'t> {
     }
 
     /// How many tokens are left.
+    #[inline(always)]
     pub fn len(self) -> usize
         ensures { result ≡ length (rest_of self.entry).words }
     {
@@ -80,6 +96,7 @@ impl<'t> Cursor<'t> {
     }
 
     /// What comes after this very word.
+    #[inline(always)]
     pub fn key(self, word: &[u8]) -> Option<Cursor<'t>>
         ensures gives { Gives rest_of result (key word.now (rest_of self.entry)) }
         ensures later { IfSome result (λ x. IsLater self.entry x) }
@@ -93,6 +110,7 @@ impl<'t> Cursor<'t> {
     }
 
     /// A name.
+    #[inline(always)]
     pub fn name(self) -> Option<(Token<'t>, Cursor<'t>)>
         ensures gives { Gives word_of result (name_at (rest_of self.entry)) }
         ensures slice { IfSome result (λ x. IsIn self.entry.tokens.text.now x.0) }
@@ -107,6 +125,7 @@ impl<'t> Cursor<'t> {
     }
 
     /// A word that begins no clause and ends no statement.
+    #[inline(always)]
     pub fn plain_word(self) -> Option<(Token<'t>, Cursor<'t>)>
         ensures gives { Gives word_of result (word_that is_plain (rest_of self.entry)) }
         ensures slice { IfSome result (λ x. IsIn self.entry.tokens.text.now x.0) }
@@ -121,6 +140,7 @@ impl<'t> Cursor<'t> {
     }
 
     /// A word in the place of a number.
+    #[inline(always)]
     pub fn place(self) -> Option<(Token<'t>, Cursor<'t>)>
         ensures gives { Gives word_of result (word_that is_place (rest_of self.entry)) }
         ensures slice { IfSome result (λ x. IsIn self.entry.tokens.text.now x.0) }
@@ -135,6 +155,7 @@ impl<'t> Cursor<'t> {
     }
 
     /// The same tokens, where a number was good or not, and `left` tokens were left before it.
+    #[inline(always)]
     pub fn noted(self, good: bool, left: usize) -> Cursor<'t>
         ensures noted { rest_of result ≡ noted good left (rest_of self.entry) }
         ensures tokens { result.tokens ≡ self.entry.tokens }
@@ -146,11 +167,13 @@ impl<'t> Cursor<'t> {
         Cursor {
             tokens: self.tokens,
             bad: Some(left),
-            first: self.first,
+            start: self.start,
+            end: self.end,
         }
     }
 
     /// Whether a `+` is next.
+    #[inline(always)]
     pub fn next_is_plus(self) -> bool
         ensures { result ≡ next_passes is_plus (rest_of self.entry) }
     {
@@ -161,6 +184,7 @@ impl<'t> Cursor<'t> {
     }
 
     /// Whether a `+` or a `;` is next.
+    #[inline(always)]
     pub fn next_is_stop(self) -> bool
         ensures { result ≡ next_passes is_stop (rest_of self.entry) }
     {
@@ -171,6 +195,7 @@ impl<'t> Cursor<'t> {
     }
 
     /// Whether this very word is next.
+    #[inline(always)]
     pub fn next_is(self, word: &[u8]) -> bool
         ensures { result ≡ next_passes (is_word word.now) (rest_of self.entry) }
     {

@@ -60,6 +60,7 @@ fn line_end(text: &[u8], from: usize) -> usize
 }
 
 /// Where the comment that begins at `start` ends: at its line end, or with the text.
+#[inline(never)]
 pub fn comment_end(text: &[u8], start: usize) -> Result<usize, Fault>
     requires within { start < length text.now }
     requires sign { slice_index text.now start ≡ 35 }
@@ -74,6 +75,7 @@ pub fn comment_end(text: &[u8], start: usize) -> Result<usize, Fault>
 }
 
 /// Where the first token from `from` on begins, or the text's length.
+#[inline(always)]
 pub fn token_start(text: &[u8], from: usize) -> Result<usize, Fault>
     requires { from ≤ length text.now }
     ensures goes { GoesTo text.now from (λ _. []) result }
@@ -96,6 +98,7 @@ pub fn token_start(text: &[u8], from: usize) -> Result<usize, Fault>
 }
 
 /// Where the word that begins at `start` ends.
+#[inline(always)]
 pub fn word_end(text: &[u8], start: usize) -> Result<usize, Fault>
     requires within { start < length text.now }
     requires begins { begins (slice_index text.now start) ≡ true }
@@ -131,6 +134,7 @@ fn closing_quote(text: &[u8], start: usize) -> Option<usize>
 }
 
 /// Where the string that begins at `start` ends.
+#[inline(never)]
 pub fn string_end(text: &[u8], start: usize) -> Result<usize, Fault>
     requires within { start < length text.now }
     requires quote { slice_index text.now start ≡ 34 }

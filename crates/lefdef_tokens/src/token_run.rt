@@ -4,7 +4,7 @@ ghost use Rattle.std.specs.Prelude.{◌≡◌, ◌≤◌, length};
 ghost use Rattle.statement_model.specs.Tokens.{left_from};
 
 use crate::span::Span;
-use crate::step::token_at;
+use crate::step::{token_at, token_between, token_bounds};
 use crate::token::Token;
 use design_model::fault::Fault;
 
@@ -19,10 +19,11 @@ pub struct TokenRun<'t> {
 }
 
 impl<'t> TokenRun<'t> {
-    ghost use Rattle.std.specs.Prelude.{◌+◌, ◌↔◌, ◌∷◌, [], drop, take, Ok, IfOk, IfSome, MatchOption, MatchResult, IsTrue};
+    ghost use Rattle.std.specs.Prelude.{◌+◌, ◌<◌, ◌↔◌, ◌∷◌, [], drop, take, Ok, IfOk, IfSome, MatchOption, MatchResult, IsTrue};
     ghost use Rattle.std.specs.List.{slice_get};
     ghost use Rattle.statement_model.specs.Tokens.{tokens};
     ghost use Rattle.form_meanings.specs.Words.{Gives};
+    ghost use Rattle.lefdef_tokens.specs.Runs.{ComesFirst};
     ghost use Rattle.lefdef_tokens.specs.Pieces.{IsIn, IsNext, StandsFirst, piece_of, pieces_of, span_of, words_of};
 
     /// All tokens of a text.
@@ -44,20 +45,44 @@ impl<'t> TokenRun<'t> {
         })
     }
 
-    /// The first token.
-    pub(crate) fn first(self) -> Option<Token<'t>>
-        ensures { MatchOption result (self.entry.count ≡ 0) (λ token. StandsFirst self.entry token) }
+    /// Where the first token begins and ends.
+    #[inline(never)]
+    pub(crate) fn first_bounds(self) -> (usize, usize)
+        ensures { 0 < self.entry.count → ComesFirst self.entry.text.now self.entry.pos result.0 result.1 }
     {
         if self.count == 0 {
-            return None;
+            return (self.pos, self.pos);
         }
-        match token_at(self.text, self.pos) {
-            Ok(Some((token, _))) => Some(token),
+        match token_bounds(self.text, self.pos) {
+            Ok(Some(bounds)) => bounds,
             _ => unreachable!(),
         }
     }
 
+    /// The first token, by where it stands.
+    #[inline(always)]
+    pub(crate) fn first_between(self, start: usize, end: usize) -> Option<Token<'t>>
+        requires { 0 < self.count → ComesFirst self.text.now self.pos start end }
+        ensures { MatchOption result (self.entry.count ≡ 0) (λ token. StandsFirst self.entry token) }
+    {
+        if self.count == 0 {
+            None
+        } else {
+            Some(token_between(self.text, start, end))
+        }
+    }
+
+    /// The first token.
+    #[inline(always)]
+    pub(crate) fn first(self) -> Option<Token<'t>>
+        ensures { MatchOption result (self.entry.count ≡ 0) (λ token. StandsFirst self.entry token) }
+    {
+        let (start, end) = self.first_bounds();
+        self.first_between(start, end)
+    }
+
     /// The tokens after the first one.
+    #[inline(always)]
     pub(crate) fn after(self, first: Token<'t>) -> TokenRun<'t>
         requires { StandsFirst self first }
         ensures pieces { pieces_of self.entry ≡ piece_of first.entry ∷ pieces_of result }
@@ -74,6 +99,7 @@ impl<'t> TokenRun<'t> {
     }
 
     /// The first token, and the tokens after it.
+    #[inline(always)]
     pub fn split_first(self) -> Option<(Token<'t>, TokenRun<'t>)>
         ensures pieces { MatchOption result (pieces_of self.entry ≡ []) (λ x. pieces_of self.entry ≡ piece_of x.0 ∷ pieces_of x.1) }
         ensures words { MatchOption result (words_of self.entry ≡ []) (λ x. words_of self.entry ≡ x.0.bytes.now ∷ words_of x.1) }
@@ -86,12 +112,14 @@ impl<'t> TokenRun<'t> {
         Some((first, self.after(first)))
     }
 
+    #[inline(always)]
     pub fn len(self) -> usize
         ensures { result ≡ length (words_of self.entry) }
     {
         self.count
     }
 
+    #[inline(always)]
     pub fn is_empty(self) -> bool
         ensures { IsTrue result ↔ (words_of self.entry ≡ []) }
     {
@@ -99,6 +127,7 @@ impl<'t> TokenRun<'t> {
     }
 
     /// The first `count` tokens.
+    #[inline(always)]
     pub fn front(self, count: usize) -> TokenRun<'t>
         requires { count ≤ self.count }
         ensures gives { pieces_of result ≡ take count (pieces_of self.entry) }

@@ -46,6 +46,7 @@ pub struct Parts<'t, P> {
 }
 
 /// Whether a part is next.
+#[inline(always)]
 fn next_begins<'t, P: Part<'t>>(cursor: Cursor<'t>) -> bool
     ensures { result ≡ next_passes P.test (rest_of cursor.entry) }
 {
@@ -56,6 +57,7 @@ fn next_begins<'t, P: Part<'t>>(cursor: Cursor<'t>) -> bool
 }
 
 /// The parts that come next, and what comes after them; or `None` where one of them has no form.
+#[inline(always)]
 pub fn read_parts<'t, P: Part<'t>>(cursor: Cursor<'t>) -> Option<(Parts<'t, P>, Cursor<'t>)>
     ensures gives { Gives (λ x. (items x.0.most P.test P.reads (rest_of x.0.cursor), rest_of x.1)) result (read_many P.test P.reads (rest_of cursor.entry)) }
     ensures later { IfSome result (λ x. IsLater cursor.entry x.1) }

@@ -9,6 +9,7 @@ ghost use Rattle.design_model.specs.Units.{unsigned, is_minus, one_more};
 pub(crate) const CAP: u64 = 1000000000000000001;
 
 /// Whether the text begins with a minus, and the text without its sign.
+#[inline(always)]
 pub(crate) fn split_sign(text: &[u8]) -> (bool, &[u8])
     ensures minus { result.0 ≡ is_minus text.now }
     ensures body { result.1.now ≡ unsigned text.now }
@@ -21,6 +22,7 @@ pub(crate) fn split_sign(text: &[u8]) -> (bool, &[u8])
 }
 
 /// The number that digits spell behind digits that spell `front`, capped.
+#[inline(always)]
 pub(crate) fn spelled(front: u64, text: &[u8]) -> Option<u64>
     requires { front ≤ CAP }
     ensures { result ≡ (if list_all is_ascii_digit text.now

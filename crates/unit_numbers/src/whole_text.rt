@@ -11,6 +11,7 @@ const LIMIT: u64 = 2147483647;
 /// The whole number that a word is. A word that is not written as one has the fault `Form`,
 /// and one outside plus or minus 2147483647 the fault `Range`.
 #[tactic(auto, unfolding(design_model::specs::Units::whole))]
+#[inline(always)]
 pub fn whole(text: &[u8]) -> Result<i32, NumFault>
     ensures { result ≡ whole text.now }
 {

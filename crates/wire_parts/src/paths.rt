@@ -70,6 +70,7 @@ pub struct Path<'t, V> {
 }
 
 /// `[int]`, 0 or more
+#[inline(always)]
 fn extension_at<'t>(cursor: Cursor<'t>) -> Option<(Option<Token<'t>>, Cursor<'t>)>
     ensures gives { Gives (with_rest mask_view) result (read extension (rest_of cursor.entry)) }
     ensures later { IfSome result (λ x. IsLater cursor.entry x.1) }
@@ -84,6 +85,7 @@ fn extension_at<'t>(cursor: Cursor<'t>) -> Option<(Option<Token<'t>>, Cursor<'t>
 }
 
 /// Whether a word is next that can stand in the place of a number.
+#[inline(always)]
 fn next_is_place<'t>(cursor: Cursor<'t>) -> bool
     ensures { result ≡ next_passes is_place (rest_of cursor.entry) }
 {
@@ -95,6 +97,7 @@ fn next_is_place<'t>(cursor: Cursor<'t>) -> bool
 
 /// `( x y [extension] )`, which begins a path
 #[tactic(auto, unfolding(def_grammar::specs::Wiring::wire_start))]
+#[inline(always)]
 fn wire_start_at<'t>(cursor: Cursor<'t>) -> Option<(WirePoint<'t>, Cursor<'t>)>
     ensures gives { Gives (with_rest wire_point_view) result (read wire_start (rest_of cursor.entry)) }
     ensures later { IfSome result (λ x. IsLater cursor.entry x.1) }
@@ -110,6 +113,7 @@ fn wire_start_at<'t>(cursor: Cursor<'t>) -> Option<(WirePoint<'t>, Cursor<'t>)>
 
 /// `( x y [extension] )`, where x and y can be `*`
 #[tactic(auto, unfolding(def_grammar::specs::Wiring::wire_point))]
+#[inline(always)]
 fn wire_point_at<'t>(cursor: Cursor<'t>) -> Option<(WirePoint<'t>, Cursor<'t>)>
     ensures gives { Gives (with_rest wire_point_view) result (read wire_point (rest_of cursor.entry)) }
     ensures later { IfSome result (λ x. IsLater cursor.entry x.1) }
@@ -138,6 +142,7 @@ fn wire_rectangle_at<'t>(cursor: Cursor<'t>) -> Option<(Corners<'t>, Cursor<'t>)
 
 /// `[orient]`
 #[tactic(auto, unfolding(def_grammar::specs::Parts::orient))]
+#[inline(always)]
 fn via_orient_at<'t>(cursor: Cursor<'t>) -> Option<(Option<Orient>, Cursor<'t>)>
     ensures gives { Gives (with_rest same) result (read (opt is_orient orient) (rest_of cursor.entry)) }
     ensures later { IfSome result (λ x. IsLater cursor.entry x.1) }
@@ -153,6 +158,7 @@ fn via_orient_at<'t>(cursor: Cursor<'t>) -> Option<(Option<Orient>, Cursor<'t>)>
 
 /// `name [orient]`
 #[tactic(auto, unfolding(def_grammar::specs::Wiring::wire_via))]
+#[inline(always)]
 pub fn wire_via_at<'t>(cursor: Cursor<'t>) -> Option<(WireVia<'t>, Cursor<'t>)>
     ensures gives { Gives (with_rest wire_via_view) result (read wire_via (rest_of cursor.entry)) }
     ensures later { IfSome result (λ x. IsLater cursor.entry x.1) }
@@ -191,6 +197,7 @@ impl<'t> PathVia<'t> for WireVia<'t> {
 
     ghost form = { wire_via };
 
+    #[inline(always)]
     fn read(cursor: Cursor<'t>) -> Option<(WireVia<'t>, Cursor<'t>)>
         ensures gives { Gives (with_rest wire_via_view) result (read wire_via (rest_of cursor.entry)) }
         ensures later { IfSome result (λ x. IsLater cursor.entry x.1) }
@@ -269,6 +276,7 @@ impl<'t> PathVia<'t> for SpecialVia<'t> {
 
     ghost form = { special_via };
 
+    #[inline(always)]
     fn read(cursor: Cursor<'t>) -> Option<(SpecialVia<'t>, Cursor<'t>)>
         ensures gives { Gives (with_rest special_via_view) result (read special_via (rest_of cursor.entry)) }
         ensures later { IfSome result (λ x. IsLater cursor.entry x.1) }
@@ -279,6 +287,7 @@ impl<'t> PathVia<'t> for SpecialVia<'t> {
 }
 
 /// Whether a path goes on with what a word begins.
+#[inline(always)]
 fn goes_on(word: &[u8]) -> bool
     ensures { result ≡ goes_on word.now }
 {
@@ -286,6 +295,7 @@ fn goes_on(word: &[u8]) -> bool
 }
 
 /// A mask, a point, a point without wire, a rectangle, or a via
+#[inline(always)]
 fn path_item_at<'t, V: PathVia<'t>>(cursor: Cursor<'t>) -> Option<(PathItem<'t, V>, Cursor<'t>)>
     ensures gives { Gives (with_rest (item_view V.view)) result (read (path_item V.form) (rest_of cursor.entry)) }
     ensures later { IfSome result (λ x. IsLater cursor.entry x.1) }
@@ -326,12 +336,14 @@ impl<'t, V: PathVia<'t>> Part<'t> for PathItem<'t, V> {
 
     ghost spelled = { λ r p e. ((path_item V.form).exact.shows r p e).words };
 
+    #[inline(always)]
     fn begins(word: &[u8]) -> bool
         ensures { result ≡ goes_on word.now }
     {
         goes_on(word)
     }
 
+    #[inline(always)]
     fn read(cursor: Cursor<'t>) -> Option<(PathItem<'t, V>, Cursor<'t>)>
         ensures gives { Gives (with_rest (item_view V.view)) result (read (path_item V.form) (rest_of cursor.entry)) }
         ensures later { IfSome result (λ x. IsLater cursor.entry x.1) }
@@ -343,6 +355,7 @@ impl<'t, V: PathVia<'t>> Part<'t> for PathItem<'t, V> {
 
 /// `[MASK word]`, the first point, and what the path goes on with
 #[tactic(auto, unfolding(def_grammar::specs::Wiring::net_path, def_grammar::specs::Wiring::net_item))]
+#[inline(always)]
 pub fn net_path_at<'t>(cursor: Cursor<'t>) -> Option<(Path<'t, WireVia<'t>>, Cursor<'t>)>
     ensures gives { Gives (with_rest net_path_view) result (read net_path (rest_of cursor.entry)) }
     ensures later { IfSome result (λ x. IsLater cursor.entry x.1) }

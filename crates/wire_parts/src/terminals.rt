@@ -47,6 +47,7 @@ impl<'t> Terminal<'t> {
 
 /// `[+ SYNTHESIZED]`
 #[tactic(auto, unfolding(def_grammar::specs::Terminals::synthesized))]
+#[inline(always)]
 fn synthesized_at<'t>(cursor: Cursor<'t>) -> Option<(bool, Cursor<'t>)>
     ensures gives { Gives (with_rest same) result (read synthesized (rest_of cursor.entry)) }
     ensures later { IfSome result (λ x. IsLater cursor.entry x.1) }
@@ -61,6 +62,7 @@ fn synthesized_at<'t>(cursor: Cursor<'t>) -> Option<(bool, Cursor<'t>)>
 
 /// `( owner pin [+ SYNTHESIZED] )`
 #[tactic(auto, unfolding(def_grammar::specs::Terminals::terminal))]
+#[inline(always)]
 pub fn terminal_at<'t>(cursor: Cursor<'t>) -> Option<(Terminal<'t>, Cursor<'t>)>
     ensures gives { Gives (with_rest terminal_view) result (read terminal (rest_of cursor.entry)) }
     ensures later { IfSome result (λ x. IsLater cursor.entry x.1) }
@@ -95,12 +97,14 @@ impl<'t> Part<'t> for Terminal<'t> {
 
     ghost spelled = { λ r p e. (terminal.exact.shows r p e).words };
 
+    #[inline(always)]
     fn begins(word: &[u8]) -> bool
         ensures { result ≡ is_open word.now }
     {
         is_open(word)
     }
 
+    #[inline(always)]
     fn read(cursor: Cursor<'t>) -> Option<(Terminal<'t>, Cursor<'t>)>
         ensures gives { Gives (with_rest terminal_view) result (read terminal (rest_of cursor.entry)) }
         ensures later { IfSome result (λ x. IsLater cursor.entry x.1) }

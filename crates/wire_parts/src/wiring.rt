@@ -135,6 +135,7 @@ fn wiring_status_at<'t>(cursor: Cursor<'t>) -> Option<(WiringStatus, Cursor<'t>)
 
 /// `[TAPER | TAPERRULE rule]`
 #[tactic(auto, unfolding(def_grammar::specs::Wiring::taper))]
+#[inline(always)]
 pub fn taper_at<'t>(cursor: Cursor<'t>) -> Option<(Taper<'t>, Cursor<'t>)>
     ensures gives { Gives (with_rest taper_view) result (read taper (rest_of cursor.entry)) }
     ensures later { IfSome result (λ x. IsLater cursor.entry x.1) }
@@ -152,6 +153,7 @@ pub fn taper_at<'t>(cursor: Cursor<'t>) -> Option<(Taper<'t>, Cursor<'t>)>
 }
 
 /// `[STYLE number]`
+#[inline(always)]
 fn style_at<'t>(cursor: Cursor<'t>) -> Option<(Option<Token<'t>>, Cursor<'t>)>
     ensures gives { Gives (with_rest mask_view) result (read (opt_on (codes "STYLE") int) (rest_of cursor.entry)) }
     ensures later { IfSome result (λ x. IsLater cursor.entry x.1) }
@@ -167,6 +169,7 @@ fn style_at<'t>(cursor: Cursor<'t>) -> Option<(Option<Token<'t>>, Cursor<'t>)>
 
 /// `layer [TAPER | TAPERRULE rule] [STYLE number] path`
 #[tactic(auto, unfolding(def_grammar::specs::Wiring::wire))]
+#[inline(always)]
 pub fn wire_at<'t>(cursor: Cursor<'t>) -> Option<(Wire<'t>, Cursor<'t>)>
     ensures gives { Gives (with_rest wire_view) result (read wire (rest_of cursor.entry)) }
     ensures later { IfSome result (λ x. IsLater cursor.entry x.1) }
@@ -187,6 +190,7 @@ pub fn wire_at<'t>(cursor: Cursor<'t>) -> Option<(Wire<'t>, Cursor<'t>)>
 
 /// `NEW wire`
 #[tactic(auto, unfolding(def_grammar::specs::Wiring::new_wire))]
+#[inline(always)]
 fn new_wire_at<'t>(cursor: Cursor<'t>) -> Option<(Wire<'t>, Cursor<'t>)>
     ensures gives { Gives (with_rest wire_view) result (read new_wire (rest_of cursor.entry)) }
     ensures later { IfSome result (λ x. IsLater cursor.entry x.1) }
@@ -213,12 +217,14 @@ impl<'t> Part<'t> for Wire<'t> {
 
     ghost spelled = { λ r p e. (new_wire.exact.shows r p e).words };
 
+    #[inline(always)]
     fn begins(word: &[u8]) -> bool
         ensures { result ≡ is_new word.now }
     {
         is_word(word, b"NEW")
     }
 
+    #[inline(always)]
     fn read(cursor: Cursor<'t>) -> Option<(Wire<'t>, Cursor<'t>)>
         ensures gives { Gives (with_rest wire_view) result (read new_wire (rest_of cursor.entry)) }
         ensures later { IfSome result (λ x. IsLater cursor.entry x.1) }
@@ -244,6 +250,7 @@ fn wiring_kind_at<'t>(cursor: Cursor<'t>) -> Option<(WiringKind, Cursor<'t>)>
 
 /// `(ROUTED | FIXED | COVER | NOSHIELD) wire (NEW wire)*`
 #[tactic(auto, unfolding(def_grammar::specs::Wiring::wiring))]
+#[inline(always)]
 pub fn wiring_at<'t>(cursor: Cursor<'t>) -> Option<(Wiring<'t>, Cursor<'t>)>
     ensures gives { Gives (with_rest wiring_view) result (read wiring (rest_of cursor.entry)) }
     ensures later { IfSome result (λ x. IsLater cursor.entry x.1) }
@@ -297,12 +304,14 @@ impl<'t> Part<'t> for WireMark<'t> {
 
     ghost spelled = { λ r p e. (wire_mark.exact.shows r p e).words };
 
+    #[inline(always)]
     fn begins(word: &[u8]) -> bool
         ensures { result ≡ is_plus word.now }
     {
         is_plus(word)
     }
 
+    #[inline(always)]
     fn read(cursor: Cursor<'t>) -> Option<(WireMark<'t>, Cursor<'t>)>
         ensures gives { Gives (with_rest mark_view) result (read wire_mark (rest_of cursor.entry)) }
         ensures later { IfSome result (λ x. IsLater cursor.entry x.1) }
@@ -360,12 +369,14 @@ impl<'t> Part<'t> for SpecialWire<'t> {
 
     ghost spelled = { λ r p e. (new_special_wire.exact.shows r p e).words };
 
+    #[inline(always)]
     fn begins(word: &[u8]) -> bool
         ensures { result ≡ is_new word.now }
     {
         is_word(word, b"NEW")
     }
 
+    #[inline(always)]
     fn read(cursor: Cursor<'t>) -> Option<(SpecialWire<'t>, Cursor<'t>)>
         ensures gives { Gives (with_rest special_wire_view) result (read new_special_wire (rest_of cursor.entry)) }
         ensures later { IfSome result (λ x. IsLater cursor.entry x.1) }
