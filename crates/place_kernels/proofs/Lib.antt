@@ -1,0 +1,9 @@
+pub mod CoverLaws
+pub mod Near
+pub mod Parts
+pub mod PatternLaws
+pub mod SiteLaws
+pub mod Squares
+pub mod Stars
+pub mod Steps
+pub mod Strips

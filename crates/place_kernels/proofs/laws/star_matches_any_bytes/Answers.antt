@@ -1,0 +1,5 @@
+use Rattle.place_kernels.proofs.PatternLaws.{star_matches_any_bytes}
+use Rattle.place_kernels.proofs.laws.star_matches_any_bytes.Goals as goal
+
+pub returns : goal.returns
+returns c = star_matches_any_bytes

@@ -1,0 +1,4 @@
+pub mod Laws
+pub mod Stars
+pub mod Strips
+pub mod Views

@@ -1,0 +1,3 @@
+pub mod CoverRows
+pub mod PatternRows
+pub mod SiteRows
