@@ -11,7 +11,7 @@ ghost use Rattle.lefdef_tokens.specs.Views.{IsIn, IsLater, rest_of, word_of};
 ghost use Rattle.def_parts.specs.Numbers.{is_of_kind};
 
 use lefdef_tokens::{Cursor, Token, is_word};
-use unit_numbers::whole;
+use unit_numbers::{is_whole, whole};
 
 /// What a whole number stands for, which bounds it.
 #[derive(Clone, Copy)]
@@ -38,7 +38,7 @@ enum NumberKind {
 fn is_int(word: &[u8]) -> bool
     ensures { result ≡ is_int word.now }
 {
-    whole(word).is_ok()
+    is_whole(word)
 }
 
 /// Whether a word is a number of database units per micron.

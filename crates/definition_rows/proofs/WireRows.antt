@@ -1,12 +1,11 @@
 -- Worked rows of wires and vias, by computing.
-use Rattle.std.proofs.Common.{◌≡◌, ℕ, List, [], ◌∷◌, ◌++◌, length, Option, Some, None, ℤ, pos, refl, codes, if◌then◌else◌, ap, ◌∙◌, sym, append_assoc}
+use Rattle.std.proofs.Common.{◌≡◌, ℕ, List, [], ◌∷◌, ◌++◌, Option, Some, None, ℤ, pos, refl, codes, if◌then◌else◌, ap, ◌∙◌, sym, append_assoc}
 use Rattle.std.specs.Prelude.{neg_ℤ}
 use Rattle.std.specs.Str.{bytes_eq}
 use Rattle.design_model.specs.declared.geometry.Orient.TheVariants.{N, W}
 use Rattle.design_model.specs.declared.geometry.Point.{Point}
-use Rattle.design_model.specs.Geometry.{Rectangle}
-use Rattle.wire_rules.specs.Paths.{ViaUse, PathItem, to_point, jump_to, patch, use_via, WireRules, PathPlace, Piece, segment, diagonal, rectangle, via_at, unknown_via, via_off_layer, line_of, pieces_from, place_after, place_after_all, pieces_at, PiecesJoin}
-use Rattle.wire_rules.specs.ViaShapes.{NamedShape, GeneratedVia, generated_shapes, half}
+use Rattle.wire_rules.specs.Paths.{PathItem, to_point, jump_to, patch, use_via, WireRules, PathPlace, Piece, segment, diagonal, rectangle, via_shape, unknown_via, via_off_layer, line_of, pieces_from, place_after, place_after_all, pieces_at, PiecesJoin}
+use Rattle.wire_rules.specs.ViaShapes.{NamedShape, generated_shapes, half}
 
 abbrev on : List ℕ → ℤ → ℤ → ℤ → ℤ → NamedShape
 on layer x1 y1 x2 y2 = record { layer = layer; box = record { x1 = x1; y1 = y1; x2 = x2; y2 = y2 } }
@@ -83,11 +82,9 @@ generated = refl
 -- a via leads to the other layer, and the wire goes on there
 wire_over_a_via : pieces_from net_rules (from (codes "met1") (pos 0) (pos 0)) (to_point (point (pos 1000) (pos 0)) None ∷ m1m2 1 (point (pos 0) (pos 0)) ∷ to_point (point (pos 1000) (pos 500)) None ∷ [])
     ≡ segment (on (codes "met1") (neg_ℤ (pos 70)) (neg_ℤ (pos 70)) (pos 1070) (pos 70)) 1000
-    ∷ via_at (codes "M1M2") (point (pos 1000) (pos 0)) (
-    on (codes "met1") (pos 900) (neg_ℤ (pos 100)) (pos 1100) (pos 100)
-    ∷ on (codes "via1") (pos 950) (neg_ℤ (pos 50)) (pos 1050) (pos 50)
-    ∷ on (codes "met2") (pos 900) (neg_ℤ (pos 100)) (pos 1100) (pos 100)
-    ∷ [])
+    ∷ via_shape (codes "M1M2") (point (pos 1000) (pos 0)) (on (codes "met1") (pos 900) (neg_ℤ (pos 100)) (pos 1100) (pos 100))
+    ∷ via_shape (codes "M1M2") (point (pos 1000) (pos 0)) (on (codes "via1") (pos 950) (neg_ℤ (pos 50)) (pos 1050) (pos 50))
+    ∷ via_shape (codes "M1M2") (point (pos 1000) (pos 0)) (on (codes "met2") (pos 900) (neg_ℤ (pos 100)) (pos 1100) (pos 100))
     ∷ segment (on (codes "met2") (pos 930) (neg_ℤ (pos 70)) (pos 1070) (pos 570)) 500
     ∷ []
 unfolding pieces_from line_of
@@ -95,17 +92,33 @@ wire_over_a_via = refl
 
 -- an array of vias, one that isn't known, and one off its layers
 vias_of_a_special_net : pieces_from (special_rules (pos 0)) (from (codes "via1") (pos 0) (pos 0)) (m1m2 2 (point (pos 300) (pos 0)) ∷ use_via (record { name = codes "none"; orient = W; columns = 1; rows = 1; step = point (pos 0) (pos 0) }) ∷ [])
-    ≡ via_at (codes "M1M2") (point (pos 0) (pos 0)) (shapes_of (codes "M1M2"))
-    ∷ via_at (codes "M1M2") (point (pos 300) (pos 0)) (
-    on (codes "met1") (pos 200) (neg_ℤ (pos 100)) (pos 400) (pos 100)
-    ∷ on (codes "via1") (pos 250) (neg_ℤ (pos 50)) (pos 350) (pos 50)
-    ∷ on (codes "met2") (pos 200) (neg_ℤ (pos 100)) (pos 400) (pos 100)
-    ∷ [])
+    ≡ via_shape (codes "M1M2") (point (pos 0) (pos 0)) (on (codes "met1") (neg_ℤ (pos 100)) (neg_ℤ (pos 100)) (pos 100) (pos 100))
+    ∷ via_shape (codes "M1M2") (point (pos 0) (pos 0)) (on (codes "via1") (neg_ℤ (pos 50)) (neg_ℤ (pos 50)) (pos 50) (pos 50))
+    ∷ via_shape (codes "M1M2") (point (pos 0) (pos 0)) (on (codes "met2") (neg_ℤ (pos 100)) (neg_ℤ (pos 100)) (pos 100) (pos 100))
+    ∷ via_shape (codes "M1M2") (point (pos 300) (pos 0)) (on (codes "met1") (pos 200) (neg_ℤ (pos 100)) (pos 400) (pos 100))
+    ∷ via_shape (codes "M1M2") (point (pos 300) (pos 0)) (on (codes "via1") (pos 250) (neg_ℤ (pos 50)) (pos 350) (pos 50))
+    ∷ via_shape (codes "M1M2") (point (pos 300) (pos 0)) (on (codes "met2") (pos 200) (neg_ℤ (pos 100)) (pos 400) (pos 100))
     ∷ via_off_layer (codes "M1M2")
     ∷ unknown_via (codes "none")
     ∷ []
 unfolding pieces_from line_of
 vias_of_a_special_net = refl
+
+-- two columns and two rows of a turned via whose one shape is wider than high: row by row
+abbrev lying : List ℕ → List NamedShape
+lying name = on (codes "via1") (pos 0) (pos 0) (pos 30) (pos 10) ∷ []
+
+abbrev lying_rules : WireRules
+lying_rules = record { width = λ l. pos 140; past_end = half; via_layers = layers_of; via_shapes = lying }
+
+rows_of_vias : pieces_from lying_rules (from (codes "met2") (pos 0) (pos 0)) (use_via (record { name = codes "M1M2"; orient = W; columns = 2; rows = 2; step = point (pos 300) (pos 500) }) ∷ [])
+    ≡ via_shape (codes "M1M2") (point (pos 0) (pos 0)) (on (codes "via1") (neg_ℤ (pos 10)) (pos 0) (pos 0) (pos 30))
+    ∷ via_shape (codes "M1M2") (point (pos 300) (pos 0)) (on (codes "via1") (pos 290) (pos 0) (pos 300) (pos 30))
+    ∷ via_shape (codes "M1M2") (point (pos 0) (pos 500)) (on (codes "via1") (neg_ℤ (pos 10)) (pos 500) (pos 0) (pos 530))
+    ∷ via_shape (codes "M1M2") (point (pos 300) (pos 500)) (on (codes "via1") (pos 290) (pos 500) (pos 300) (pos 530))
+    ∷ []
+unfolding pieces_from line_of
+rows_of_vias = refl
 
 rectangle_about_the_last_point : pieces_from net_rules (from (codes "met1") (pos 10) (pos 20)) (patch (record { x1 = neg_ℤ (pos 5); y1 = pos 0; x2 = pos 5; y2 = pos 1 }) ∷ []) ≡ rectangle (on (codes "met1") (pos 5) (pos 20) (pos 15) (pos 21)) ∷ []
 unfolding pieces_from

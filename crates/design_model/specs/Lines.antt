@@ -4,12 +4,15 @@ use Rattle.std.specs.Fmt.{signed_decimal}
 use Rattle.design_model.specs.declared.diagnostic.Diag.{Diag}
 use Rattle.design_model.specs.declared.diagnostic.DiagLine.{DiagLine}
 use Rattle.design_model.specs.declared.diagnostic.DiagKind.{DiagKind}
-use Rattle.design_model.specs.declared.diagnostic.DiagKind.TheVariants.{Count, Overlap}
+use Rattle.design_model.specs.declared.diagnostic.DiagKind.TheVariants.{Count, Overlap, Unknown, ViaLayer, Unchecked}
 
 -- the word that a line begins with
 abbrev pub kind_word : DiagKind → List ℕ
 kind_word Count = codes "count"
 kind_word Overlap = codes "overlap"
+kind_word Unknown = codes "unknown"
+kind_word ViaLayer = codes "vialayer"
+kind_word Unchecked = codes "unchecked"
 
 -- a line: its kind, its words and its numbers, parted by spaces
 abbrev pub line_text : DiagKind → List (List ℕ) → List ℤ → List ℕ

@@ -14,6 +14,12 @@ pub enum DiagKind {
     Count,
     /// Two components lie on one another.
     Overlap,
+    /// A name that isn't defined.
+    Unknown,
+    /// A via doesn't join the layer of its wire to another.
+    ViaLayer,
+    /// Parts whose shape isn't checked.
+    Unchecked,
 }
 
 impl DiagKind {
@@ -24,6 +30,9 @@ impl DiagKind {
         match self {
             DiagKind::Count => b"count",
             DiagKind::Overlap => b"overlap",
+            DiagKind::Unknown => b"unknown",
+            DiagKind::ViaLayer => b"vialayer",
+            DiagKind::Unchecked => b"unchecked",
         }
     }
 }

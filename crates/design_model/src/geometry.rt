@@ -24,7 +24,7 @@ pub struct Rect {
     ghost high: { y1 ≤ℤ y2 },
 }
 
-/// An orientation: a turn counterclockwise, and for the `F` ones a flip about the y axis before
+/// An orientation: a turn counterclockwise, and for the `F` ones a flip about the y axis after it
 /// (LEF/DEF 5.8 Language Reference, "Specifying Orientation").
 #[derive(Clone, Copy, Debug, PartialEq, Eq)]
 pub enum Orient {

@@ -1,8 +1,13 @@
-pub mod LaneLemmas
-pub mod Lexing
 pub mod Finding
 pub mod Joining
+pub mod LaneCounts
+pub mod LaneLemmas
+pub mod LaneMasks
+pub mod Lexing
 pub mod Moving
+pub mod PlainWords
 pub mod RunLemmas
-pub mod StopLemmas
+pub mod ShortWords
+pub mod SkippingRows
 pub mod Standing
+pub mod StopLemmas

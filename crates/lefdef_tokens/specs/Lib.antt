@@ -1,4 +1,5 @@
 pub mod Laws
 pub mod Pieces
 pub mod Runs
+pub mod Skipping
 pub mod Views

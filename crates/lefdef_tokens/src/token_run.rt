@@ -4,7 +4,7 @@ ghost use Rattle.std.specs.Prelude.{◌≡◌, ◌≤◌, length};
 ghost use Rattle.statement_model.specs.Tokens.{left_from};
 
 use crate::span::Span;
-use crate::step::{token_at, token_between, token_bounds};
+use crate::step::{first_bounds, token_at, token_between};
 use crate::token::Token;
 use design_model::fault::Fault;
 
@@ -46,16 +46,14 @@ impl<'t> TokenRun<'t> {
     }
 
     /// Where the first token begins and ends.
-    #[inline(never)]
+    #[inline(always)]
     pub(crate) fn first_bounds(self) -> (usize, usize)
         ensures { 0 < self.entry.count → ComesFirst self.entry.text.now self.entry.pos result.0 result.1 }
     {
         if self.count == 0 {
-            return (self.pos, self.pos);
-        }
-        match token_bounds(self.text, self.pos) {
-            Ok(Some(bounds)) => bounds,
-            _ => unreachable!(),
+            (self.pos, self.pos)
+        } else {
+            first_bounds(self.text, self.pos)
         }
     }
 

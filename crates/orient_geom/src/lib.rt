@@ -1,13 +1,14 @@
 //! Turning, placing and overlapping of rectangles, in database units.
 //!
 //! Begin with `place_box`, the box of a placed component from its macro's boundary, its orientation and its point;
-//! `turn` turns a rectangle about the origin, and `overlaps` says whether two share area, where touching isn't
-//! overlapping.
+//! `place_rect` places a rectangle of its macro with it, and `pin_rect` one of a pin or of a via, which is given about the
+//! pin's or the via's point. `turn` turns a rectangle about the origin, `move_by` moves one, `span` makes one of two
+//! points, and `overlaps` says whether two share area, where touching isn't overlapping.
 //!
-//! The definitions are in `design_model/specs/Geometry`; the laws `turning_back`, `overlap_is_symmetric` and
-//! `overlap_is_shared_area` say what they mean. Rectangles and points are copied, and nothing is lent. Nothing fails
-//! and nothing takes memory: the calls ask that each number lies within plus or minus 2^61, which box corners of a text
-//! that reads do.
+//! The definitions are in `design_model/specs/Geometry` and `wire_rules/specs/Placed`; the laws `turning_back`,
+//! `overlap_is_symmetric` and `overlap_is_shared_area` say what they mean. Rectangles and points are copied, and nothing is
+//! lent. Nothing fails and nothing takes memory: the calls ask that each number lies within plus or minus 2^61, which box
+//! corners of a text that reads do.
 #![tactic(auto)]
 
 mod laws;
@@ -16,4 +17,4 @@ mod rectangle;
 mod tests;
 
 pub use laws::{overlap_is_shared_area, overlap_is_symmetric, turning_back};
-pub use rectangle::{overlaps, place_box, turn};
+pub use rectangle::{move_by, overlaps, pin_rect, place_box, place_rect, span, turn};

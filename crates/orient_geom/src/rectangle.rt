@@ -1,9 +1,11 @@
 //! Rectangles, turned, placed and compared.
 
-ghost use Rattle.std.specs.Prelude.{◌≡◌, ◌+ℤ◌, ◌-ℤ◌, int_lt};
+ghost use Rattle.std.specs.Prelude.{◌≡◌, ◌^◌, ◌-ℤ◌, int_lt};
 ghost use Rattle.std.specs.Int.{int_min, int_max};
-ghost use Rattle.design_model.specs.Geometry.{IsNear, IsNearRectangle, turned_point, spanned, turned, placed_box, overlap};
+ghost use Rattle.design_model.specs.Geometry.{IsNear, IsNearRectangle, turned_point, spanned, turned, moved, placed, placed_box, overlap};
 ghost use Rattle.design_model.specs.Views.{rectangle_of};
+ghost use Rattle.wire_rules.specs.Placed.{turned_at};
+ghost use Rattle.wire_rules.specs.Ranges.{IsPointWithin};
 
 use design_model::geometry::{Orient, Point, Rect};
 
@@ -29,7 +31,7 @@ fn turn_point(orient: Orient, point: Point) -> Point
 }
 
 /// The least rectangle round two points.
-fn span(a: Point, b: Point) -> Rect
+pub fn span(a: Point, b: Point) -> Rect
     ensures { rectangle_of result ≡ spanned a b }
 {
     Rect {
@@ -60,14 +62,46 @@ pub fn turn(orient: Orient, rect: Rect) -> Rect
     )
 }
 
-/// A coordinate, moved as far as it is between two others.
-fn shift(value: i64, from: i64, to: i64) -> i64
-    requires value_near { IsNear value }
-    requires from_near { IsNear from }
-    requires to_near { IsNear to }
-    ensures { result ≡ value +ℤ (to -ℤ from) }
+/// A rectangle, moved by this much in x and in y.
+pub fn move_by(rect: Rect, by: Point) -> Rect
+    requires near { IsNearRectangle (rectangle_of rect) }
+    requires by_near { IsPointWithin (2 ^ 62) by }
+    ensures { rectangle_of result ≡ moved by.x by.y (rectangle_of rect) }
 {
-    value + (to - from)
+    Rect {
+        x1: rect.x1 + by.x,
+        y1: rect.y1 + by.y,
+        x2: rect.x2 + by.x,
+        y2: rect.y2 + by.y,
+    }
+}
+
+/// How far it is in x and in y from the lower left corner of a box to a point.
+fn way(corner: Rect, at: Point) -> Point
+    requires near { IsNearRectangle (rectangle_of corner) }
+    requires x_near { IsNear at.x }
+    requires y_near { IsNear at.y }
+    ensures x { result.x ≡ at.x -ℤ (rectangle_of corner).x1 }
+    ensures y { result.y ≡ at.y -ℤ (rectangle_of corner).y1 }
+    ensures near { IsPointWithin (2 ^ 62) result }
+{
+    Point {
+        x: at.x - corner.x1,
+        y: at.y - corner.y1,
+    }
+}
+
+/// A rectangle of a component with this boundary, given as its macro gives it: turned, and then moved so that the lower
+/// left corner of the turned boundary is at the given point (LEF/DEF 5.8 Language Reference, "Components").
+pub fn place_rect(orient: Orient, boundary: Rect, at: Point, rect: Rect) -> Rect
+    requires boundary_near { IsNearRectangle (rectangle_of boundary) }
+    requires x_near { IsNear at.x }
+    requires y_near { IsNear at.y }
+    requires rect_near { IsNearRectangle (rectangle_of rect) }
+    ensures { rectangle_of result ≡ placed orient (rectangle_of boundary) at (rectangle_of rect) }
+{
+    let corner = turn(orient, boundary);
+    move_by(turn(orient, rect), way(corner, at))
 }
 
 /// The box of a component with this boundary: turned, and then moved so that its lower left corner is at the
@@ -79,12 +113,18 @@ pub fn place_box(orient: Orient, boundary: Rect, at: Point) -> Rect
     ensures { rectangle_of result ≡ placed_box orient (rectangle_of boundary) at }
 {
     let turned = turn(orient, boundary);
-    Rect {
-        x1: shift(turned.x1, turned.x1, at.x),
-        y1: shift(turned.y1, turned.y1, at.y),
-        x2: shift(turned.x2, turned.x1, at.x),
-        y2: shift(turned.y2, turned.y1, at.y),
-    }
+    move_by(turned, way(turned, at))
+}
+
+/// A rectangle of a pin or of a via at the given point: turned about the origin, and then moved by the point
+/// (LEF/DEF 5.8 Language Reference, "Pins").
+pub fn pin_rect(orient: Orient, at: Point, rect: Rect) -> Rect
+    requires x_near { IsNear at.x }
+    requires y_near { IsNear at.y }
+    requires near { IsNearRectangle (rectangle_of rect) }
+    ensures { rectangle_of result ≡ turned_at orient at (rectangle_of rect) }
+{
+    move_by(turn(orient, rect), at)
 }
 
 /// Whether two rectangles share more than an end from left to right.

@@ -233,6 +233,7 @@ fn blockage_or_tokens_at<'t>(cursor: Cursor<'t>) -> (BlockageEntry<'t>, Cursor<'
 
 /// `-`, a blockage or tokens without its form, and `;`
 #[tactic(auto, unfolding(def_grammar::specs::Blockages::blockage_form))]
+#[inline(never)]
 pub fn blockage_entry_at<'t>(cursor: Cursor<'t>) -> Option<(BlockageEntry<'t>, Cursor<'t>)>
     ensures gives { Gives (with_rest blockage_entry_view) result (read blockage_form (rest_of cursor.entry)) }
     ensures later { IfSome result (λ x. IsLater cursor.entry x.1) }

@@ -128,6 +128,7 @@ impl<'t> Part<'t> for Clause<'t> {
 
 /// `- name macro rest (+ clause)* ;`
 #[tactic(auto, unfolding(def_grammar::specs::Components::component_form))]
+#[inline(never)]
 pub fn component_at<'t>(cursor: Cursor<'t>) -> Option<(ComponentParts<'t>, Cursor<'t>)>
     ensures gives { Gives (with_rest component_view) result (read component_form (rest_of cursor.entry)) }
     ensures later { IfSome result (λ x. IsLater cursor.entry x.1) }

@@ -145,6 +145,7 @@ impl<'t> Part<'t> for GroupClause<'t> {
 
 /// `- name word* (+ clause)* ;`
 #[tactic(auto, unfolding(def_grammar::specs::Groups::group_form))]
+#[inline(never)]
 pub fn group_at<'t>(cursor: Cursor<'t>) -> Option<(GroupParts<'t>, Cursor<'t>)>
     ensures gives { Gives (with_rest group_view) result (read group_form (rest_of cursor.entry)) }
     ensures later { IfSome result (λ x. IsLater cursor.entry x.1) }

@@ -230,6 +230,7 @@ impl<'t> Part<'t> for PinClause<'t> {
 
 /// `- name (+ clause)* ;`
 #[tactic(auto, unfolding(def_grammar::specs::Pins::pin_form))]
+#[inline(never)]
 pub fn pin_at<'t>(cursor: Cursor<'t>) -> Option<(PinParts<'t>, Cursor<'t>)>
     ensures gives { Gives (with_rest pin_view) result (read pin_form (rest_of cursor.entry)) }
     ensures later { IfSome result (λ x. IsLater cursor.entry x.1) }

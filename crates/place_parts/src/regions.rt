@@ -165,6 +165,7 @@ impl<'t> Part<'t> for LaterCorners<'t> {
 
 /// `- name`, two points for each rectangle, and `(+ clause)* ;`
 #[tactic(auto, unfolding(def_grammar::specs::Regions::region_form))]
+#[inline(never)]
 pub fn region_at<'t>(cursor: Cursor<'t>) -> Option<(RegionParts<'t>, Cursor<'t>)>
     ensures gives { Gives (with_rest region_view) result (read region_form (rest_of cursor.entry)) }
     ensures later { IfSome result (λ x. IsLater cursor.entry x.1) }

@@ -1,10 +1,13 @@
 -- The first statement, as a loop finds it.
-use Rattle.std.proofs.Common.{◌≡◌, ℕ, suc, ◌+◌, Bool, true, false, cond, List, [], ◌∷◌, ◌++◌, length, take, drop, refl, sym, ap, ◌∙◌, add-one, arith, Option, Some, Result, Ok, Err}
+use Rattle.std.proofs.Common.{◌≡◌, ℕ, suc, ◌+◌, Bool, true, false, cond, List, [], ◌∷◌, ◌++◌, length, take, drop, refl, sym, ap, subst, ◌∙◌, add-one, zero-add, arith, Option, Some, Result, Ok, Err}
+use Rattle.std.specs.List.{All}
+use Rattle.std.proofs.lemmas.List.Elements.{All-head, All-tail}
 use Rattle.design_model.specs.declared.fault.Fault.{Fault}
 use Rattle.design_model.specs.declared.fault.FaultCode.TheVariants.{Unfinished}
-use Rattle.statement_model.specs.Tokens.{Piece, Lexed, before, only_fault}
+use Rattle.statement_model.specs.Tokens.{Piece, Lexed, before, left_from, only_fault}
 use Rattle.statement_model.specs.Boundaries.{Ending, is_alone, is_last, last_of, is_whole, cut, statement_at, statement_from, unfinished}
 use Rattle.lefdef_tokens.specs.Pieces.{end_after}
+use Rattle.statement_reader.specs.Passing.{PassesOver}
 use Rattle.statement_reader.proofs.ListSteps.{take_more, drop_more}
 
 last_of_more : (q : Piece) (qs : List Piece) (p : Piece) → last_of q (qs ++ p ∷ []) ≡ p
@@ -19,6 +22,10 @@ end_of_more place (q ∷ qs) p = end_of_more (q.pos + length q.bytes) qs p
 -- where some tokens end, with one more of them
 pub one_later : (start size : ℕ) (ps rest : List Piece) (later : ℕ) (p : Piece) → drop later ps ≡ p ∷ rest → end_after (start + size) (take (later + 1) ps) ≡ p.pos + length p.bytes
 one_later start size ps rest later p h = rw (take_more ps later p rest h) (end_of_more (start + size) (take later ps) p)
+
+-- where none were passed
+pub none_later : (place to n second : ℕ) (ps : List Piece) → place ≡ second → (to ≡ second) × (n ≡ 0) → end_after place (take n ps) ≡ to
+none_later place to n second ps here none = rw none.1 (here ∙ sym none.0)
 
 -- the state of the loop: the statement so far, and what is left
 abbrev pub cut_from : (List ℕ → Ending) → Bool → Piece → List Piece → List Piece → Option (List Piece × List Piece)
@@ -63,6 +70,28 @@ module _ (e : List ℕ → Ending) where
         end = sym end ∙ g.end;
         so_far = rw (take_more q.pieces later p next.pieces (g.left ∙ pieces)) (sym (cut_next e first p (take later q.pieces) next.pieces) ∙ ap (cut e (first ∷ take later q.pieces)) (sym pieces) ∙ g.so_far);
       }
+
+  -- several tokens more, none of which is the last
+  pub going_past : (l q : Lexed) (first : Piece) (ps : List Piece) (rest next : Lexed) (later many : ℕ) → Going e l first q false later rest → rest ≡ before ps next
+      → All (λ (p : Piece). is_last (e first.bytes) p.bytes ≡ false) ps → later + length ps ≡ many → Going e l first q false many next
+  going_past l q first [] rest next later many g h more sum =
+      let n : later ≡ many = omega arith in
+      subst (λ (k : ℕ). Going e l first q false k next) n (subst (Going e l first q false later) h g)
+  going_past l q first (p ∷ ps) rest next later many g h more sum =
+      let goes = All-head (λ (p : Piece). is_last (e first.bytes) p.bytes ≡ false) p ps more in
+      let one = subst (λ (b : Bool). Going e l first q b (later + 1) (before ps next)) goes (going_on l q rest (before ps next) first p later g h) in
+      going_past l q first ps (before ps next) next (later + 1) many one refl (All-tail (λ (p : Piece). is_last (e first.bytes) p.bytes ≡ false) p ps more) (omega arith)
+
+  -- the loop's start, where some tokens were passed
+  pub going_from : (text : List ℕ) (second to n : ℕ) (ending : Ending) (l : Lexed) (first : Piece) (done : Bool) → l ≡ before (first ∷ []) (left_from text second) → e first.bytes ≡ ending
+      → PassesOver text second ending to n → done ≡ is_alone ending → Going e l first (left_from text second) done n (left_from text to)
+  going_from text second to n ending l first true h same past is =
+      let none = past.none (sym is) in
+      let start = subst (λ (b : Bool). Going e l first (left_from text second) b 0 (left_from text second)) (ap is_alone same ∙ sym is) (going_start l (left_from text second) first h) in
+      subst (λ (k : ℕ). Going e l first (left_from text second) true k (left_from text to)) (sym none.1) (subst (λ (k : ℕ). Going e l first (left_from text second) true 0 (left_from text k)) (sym none.0) start)
+  going_from text second to n ending l first false h same past is =
+      let start = subst (λ (b : Bool). Going e l first (left_from text second) b 0 (left_from text second)) (ap is_alone same ∙ sym is) (going_start l (left_from text second) first h) in
+      going_past l (left_from text second) first past.passed (left_from text second) (left_from text to) 0 n start past.goes (subst (λ (x : Ending). All (λ (p : Piece). is_last x p.bytes ≡ false) past.passed) (sym same) past.more) (zero-add (length past.passed) ∙ past.many)
 
   pub going_done : (l q rest : Lexed) (first : Piece) (later : ℕ) → Going e l first q true later rest → statement_at e l ≡ Ok (Some (take (later + 1) l.pieces, rest))
   unfolding statement_at

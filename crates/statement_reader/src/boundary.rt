@@ -1,14 +1,15 @@
 //! Where a statement ends.
 
-ghost use Rattle.std.specs.Prelude.{◌≡◌, ◌≤◌, ◌<◌, [], ◌∷◌, length, IfOk};
+ghost use Rattle.std.specs.Prelude.{◌≡◌, ◌≤◌, ◌<◌, ◌+◌, [], ◌∷◌, length, IfOk};
 ghost use Rattle.statement_model.specs.Tokens.{before, left_from};
 ghost use Rattle.statement_model.specs.Boundaries.{is_alone, is_last};
 ghost use Rattle.statement_model.specs.Reading.{pos_of};
 ghost use Rattle.lefdef_tokens.specs.Views.{IsNext, piece_of, pieces_of, span_of};
 ghost use Rattle.statement_reader.specs.Endings.{ending_view, Runs};
+ghost use Rattle.statement_reader.specs.Passing.{PassesOver};
 
 use design_model::fault::{Fault, FaultCode};
-use lefdef_tokens::{Token, TokenRun, is_word, token_at};
+use lefdef_tokens::{Token, TokenRun, is_word, skip_plain, token_at};
 
 /// What ends a statement: its first token, the one after it, or the first later token that is a certain word.
 #[derive(Clone, Copy)]
@@ -33,6 +34,20 @@ fn is_last(ending: Ending, word: &[u8]) -> bool
     }
 }
 
+/// A place between two tokens, and how many tokens stand before it from `second` on. The statement ends with none of these.
+fn passed_over(text: &[u8], second: usize, ending: Ending) -> (usize, usize)
+    requires { second ≤ length text.now }
+    ensures low { second ≤ result.0 }
+    ensures high { result.0 ≤ length text.now }
+    ensures few { second + result.1 ≤ result.0 }
+    ensures passes { PassesOver text.now second (ending_view ending) result.0 result.1 }
+{
+    match ending {
+        Ending::UpTo([b';']) => skip_plain(text, second),
+        _ => (second, 0),
+    }
+}
+
 /// The tokens of the statement that begins with a first token, and the position after its last byte; or the first fault of
 /// its tokens, or `Unfinished` where the text ends before it does. The second token stands from `second` on.
 pub fn statement_run<'t>(
@@ -52,8 +67,7 @@ pub fn statement_run<'t>(
     ensures span { IfOk result (λ x. span_of (pieces_of x.0) ≡ record { lo = first.now.pos; hi = x.1 }) }
     ensures runs { Runs text.now pos first.now.bytes.now (ending_view ending) result }
 {
-    let mut at = second;
-    let mut later = 0;
+    let (mut at, mut later) = passed_over(text, second, ending);
     let mut done = is_alone(ending);
     while !done {
         match token_at(text, at)? {

@@ -6,8 +6,8 @@
 //!
 //! What reading gives is said in `statement_model/specs/Reading`, by a grammar of `statement_model/specs/Grammar`;
 //! `specs/StatementViews` ties the program to it, and `laws` says how a whole text is read statement by statement.
-//! Statements, their tokens and parts lend from the text and take no memory. Each token is read once for the end of its
-//! statement and once for its form.
+//! Statements, their tokens and parts lend from the text and take no memory. The end of a
+//! statement that ends with `;` is found many bytes at a time, and then each token is read once, for its form.
 //!
 //! A fault is one of the tokens, a statement that doesn't end (`Unfinished`), one without a form (`NoForm`) or an invalid
 //! number (`Number`), in this order, at its position. What a text may have only once is up to the caller.

@@ -1,3 +1,4 @@
 pub mod Rounding
 pub mod Unique
 pub mod Sizes
+pub mod Shorts

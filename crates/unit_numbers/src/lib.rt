@@ -24,4 +24,4 @@ pub use distance::{Microns, Units};
 pub use distance_text::microns;
 pub use laws::nearest_is_unique;
 pub use printed::print;
-pub use whole_text::whole;
+pub use whole_text::{is_whole, whole};

@@ -187,6 +187,7 @@ fn must_join_or_net_at<'t>(cursor: Cursor<'t>) -> Option<(NetEntry<'t>, Cursor<'
 
 /// `- MUSTJOIN any* ;`, or `- name terminal* (+ clause)* ;`
 #[tactic(auto, unfolding(def_grammar::specs::Nets::net_form))]
+#[inline(never)]
 pub fn net_entry_at<'t>(cursor: Cursor<'t>) -> Option<(NetEntry<'t>, Cursor<'t>)>
     ensures gives { Gives (with_rest net_entry_view) result (read net_form (rest_of cursor.entry)) }
     ensures later { IfSome result (λ x. IsLater cursor.entry x.1) }

@@ -101,6 +101,7 @@ impl<'t> Part<'t> for RuleClause<'t> {
 
 /// `- name (+ clause)* ;`
 #[tactic(auto, unfolding(def_grammar::specs::Rules::rule_form))]
+#[inline(never)]
 pub fn rule_at<'t>(cursor: Cursor<'t>) -> Option<(RuleParts<'t>, Cursor<'t>)>
     ensures gives { Gives (with_rest rule_view) result (read rule_form (rest_of cursor.entry)) }
     ensures later { IfSome result (λ x. IsLater cursor.entry x.1) }

@@ -187,6 +187,7 @@ impl<'t> Part<'t> for SpecialClause<'t> {
 
 /// `- name terminal* (+ clause)* ;`
 #[tactic(auto, unfolding(def_grammar::specs::SpecialNets::special_net_form))]
+#[inline(never)]
 pub fn special_net_at<'t>(cursor: Cursor<'t>) -> Option<(SpecialNetParts<'t>, Cursor<'t>)>
     ensures gives { Gives (with_rest special_net_view) result (read special_net_form (rest_of cursor.entry)) }
     ensures later { IfSome result (λ x. IsLater cursor.entry x.1) }

@@ -379,6 +379,7 @@ impl<'t> Part<'t> for ViaClause<'t> {
 
 /// `- name (+ clause)* ;`
 #[tactic(auto, unfolding(def_grammar::specs::DefVias::def_via_form))]
+#[inline(never)]
 pub fn via_at<'t>(cursor: Cursor<'t>) -> Option<(ViaParts<'t>, Cursor<'t>)>
     ensures gives { Gives (with_rest via_view) result (read def_via_form (rest_of cursor.entry)) }
     ensures later { IfSome result (λ x. IsLater cursor.entry x.1) }

@@ -1,2 +1,4 @@
 pub mod Paths
+pub mod Placed
+pub mod Ranges
 pub mod ViaShapes

@@ -5,7 +5,8 @@ use Rattle.std.specs.Int.Signed.{le_z}
 use Rattle.std.specs.Str.{bytes_eq}
 use Rattle.design_model.specs.declared.geometry.Orient.{Orient}
 use Rattle.design_model.specs.declared.geometry.Point.{Point}
-use Rattle.design_model.specs.Geometry.{Rectangle, moved, turned}
+use Rattle.design_model.specs.Geometry.{Rectangle, moved}
+use Rattle.wire_rules.specs.Placed.{turned_at}
 use Rattle.wire_rules.specs.ViaShapes.{NamedShape, half}
 
 -- a via in a path: its name, how it is turned, and how often it stands in x and in y, so far apart
@@ -39,13 +40,13 @@ pub record PathPlace : Type 0 where
   pub past : Option ℤ
 
 -- what a path gives: a segment with its shape and its length along the centre; a diagonal one, which has no shape and no
--- length; a rectangle; a via's shapes at one place; a via that isn't known; and a via that doesn't join the path's layer to
--- another
+-- length; a rectangle; one shape of a via, with the via's name and place; a via that isn't known; and a via that doesn't join
+-- the path's layer to another
 pub data Piece : Type 0 where
   segment : NamedShape → ℕ → Piece
   diagonal : Piece
   rectangle : NamedShape → Piece
-  via_at : List ℕ → Point → List NamedShape → Piece
+  via_shape : List ℕ → Point → NamedShape → Piece
   unknown_via : List ℕ → Piece
   via_off_layer : List ℕ → Piece
 
@@ -76,55 +77,61 @@ along_y a past_a b past_b width =
     let y = stretch a.y past_a b.y past_b in
     record { x1 = x.0; y1 = y.0; x2 = x.1; y2 = y.1 }
 
+-- the wire between two points, which goes so far past each: along one axis, where one with equal ends lies in x; or diagonal
+abbrev pub segment_between : List ℕ → ℤ → Point → ℤ → Point → ℤ → Piece
+segment_between layer width a past_a b past_b =
+    if same_z a.y b.y then segment (record { layer = layer; box = along_x a past_a b past_b width }) (nat_abs (b.x -ℤ a.x))
+    else (if same_z a.x b.x then segment (record { layer = layer; box = along_y a past_a b past_b width }) (nat_abs (b.y -ℤ a.y))
+    else diagonal)
+
+-- the layer that a via leads to from the present one: the other of its two ROUTING layers
+abbrev pub other_layer : List ℕ → List (List ℕ) → Option (List ℕ)
+other_layer layer (a ∷ b ∷ []) = if bytes_eq a layer then Some b else (if bytes_eq b layer then Some a else None)
+other_layer layer _ = None
+
+abbrev pub layer_over : List ℕ → Option (List (List ℕ)) → Option (List ℕ)
+layer_over layer None = None
+layer_over layer (Some layers) = other_layer layer layers
+
+abbrev pub or_same : List ℕ → Option (List ℕ) → List ℕ
+or_same layer None = layer
+or_same layer (Some other) = other
+
+-- places so far apart in a line, and in rows of such lines
+unfoldable pub line_of : ℕ → Point → Point → List Point
+line_of zero step at = []
+line_of (suc n) step at = at ∷ line_of n step (record { x = at.x +ℤ step.x; y = at.y +ℤ step.y })
+
+abbrev pub array_of : ViaUse → Point → List Point
+array_of u at = flat_map (line_of u.columns (record { x = u.step.x; y = pos 0 })) (line_of u.rows (record { x = pos 0; y = u.step.y }) at)
+
+-- a shape of a via that stands at a point
+abbrev pub turned_shape : Orient → Point → NamedShape → NamedShape
+turned_shape o at s = record { layer = s.layer; box = turned_at o at s.box }
+
+abbrev pub shape_at : ViaUse → Point → NamedShape → Piece
+shape_at u at s = via_shape u.name at (turned_shape u.orient at s)
+
+-- the shapes of a via at one place
+abbrev pub one_via : List NamedShape → ViaUse → Point → List Piece
+one_via shapes u at = map (shape_at u at) shapes
+
+abbrev pub off_layer : List ℕ → Option (List ℕ) → List Piece
+off_layer name None = via_off_layer name ∷ []
+off_layer name (Some other) = []
+
 module _ (rules : WireRules) where
   -- how far the wire goes past a point of the present layer
   abbrev pub past_at : List ℕ → Option ℤ → ℤ
   past_at layer past = past_of (rules.past_end (rules.width layer)) past
 
-  -- the segment to a point; one with equal ends lies in x
   abbrev pub segment_to : PathPlace → Point → Option ℤ → Piece
-  segment_to p b past =
-      let past_a = past_at p.layer p.past in
-      let past_b = past_at p.layer past in
-      if same_z p.at.y b.y then segment (record { layer = p.layer; box = along_x p.at past_a b past_b (rules.width p.layer) }) (nat_abs (b.x -ℤ p.at.x))
-      else (if same_z p.at.x b.x then segment (record { layer = p.layer; box = along_y p.at past_a b past_b (rules.width p.layer) }) (nat_abs (b.y -ℤ p.at.y))
-      else diagonal)
+  segment_to p b past = segment_between p.layer (rules.width p.layer) p.at (past_at p.layer p.past) b (past_at p.layer past)
 
-  -- the layer that a via leads to from the present one: the other of its two ROUTING layers
-  abbrev pub other_layer : List ℕ → List (List ℕ) → Option (List ℕ)
-  other_layer layer (a ∷ b ∷ []) = if bytes_eq a layer then Some b else (if bytes_eq b layer then Some a else None)
-  other_layer layer _ = None
-
-  abbrev pub layer_over : List ℕ → Option (List (List ℕ)) → Option (List ℕ)
-  layer_over layer None = None
-  layer_over layer (Some layers) = other_layer layer layers
-
-  abbrev pub or_same : List ℕ → Option (List ℕ) → List ℕ
-  or_same layer None = layer
-  or_same layer (Some other) = other
-
-  -- places so far apart in a line, and in rows of such lines
-  unfoldable pub line_of : ℕ → Point → Point → List Point
-  line_of zero step at = []
-  line_of (suc n) step at = at ∷ line_of n step (record { x = at.x +ℤ step.x; y = at.y +ℤ step.y })
-
-  abbrev pub array_of : ViaUse → Point → List Point
-  array_of u at = flat_map (line_of u.columns (record { x = u.step.x; y = pos 0 })) (line_of u.rows (record { x = pos 0; y = u.step.y }) at)
-
-  abbrev pub turned_shape : Orient → Point → NamedShape → NamedShape
-  turned_shape o at s = record { layer = s.layer; box = moved at.x at.y (turned o s.box) }
-
-  abbrev pub one_via : ViaUse → Point → Piece
-  one_via u at = via_at u.name at (map (turned_shape u.orient at) (rules.via_shapes u.name))
-
-  abbrev pub off_layer : List ℕ → Option (List ℕ) → List Piece
-  off_layer name None = via_off_layer name ∷ []
-  off_layer name (Some other) = []
-
-  -- a via that is known stands at each place of its array
+  -- a via that is known stands at each place of its array, row by row
   abbrev pub known_via : List ℕ → Point → ViaUse → Option (List (List ℕ)) → List Piece
   known_via layer at u None = unknown_via u.name ∷ []
-  known_via layer at u (Some layers) = map (one_via u) (array_of u at) ++ off_layer u.name (other_layer layer layers)
+  known_via layer at u (Some layers) = flat_map (one_via (rules.via_shapes u.name) u) (array_of u at) ++ off_layer u.name (other_layer layer layers)
 
   abbrev pub via_pieces : List ℕ → Point → ViaUse → List Piece
   via_pieces layer at u = known_via layer at u (rules.via_layers u.name)

@@ -1,10 +1,9 @@
-use Rattle.std.proofs.Common.{arith}
-use Rattle.std.proofs.lemmas.Int.{ints}
 use Rattle.design_model.specs.Views.{rectangle_of}
-use Rattle.orient_geom.proofs.Placing.{placed_box_is}
+use Rattle.orient_geom.proofs.Placing.{placed_is}
 use Rattle.orient_geom.proofs.rectangle.place_box.Goals as goal
 
 pub returns : goal.returns
 returns c =
-    placed_box_is c.args.orient (rectangle_of c.args.boundary) (rectangle_of c.turn-turned.result) c.args.at _ _ _ _ c.turn-turned.ensures.value
-    (omega (arith, ints)) (omega (arith, ints)) (omega (arith, ints)) (omega (arith, ints))
+    let box = rectangle_of c.turn-turned.result in
+    placed_is c.args.orient (rectangle_of c.args.boundary) (rectangle_of c.args.boundary) box box (rectangle_of c.move_by.result) c.args.at c.way.result.x c.way.result.y
+    c.turn-turned.ensures.value c.turn-turned.ensures.value c.way.ensures.x c.way.ensures.y c.move_by.ensures

@@ -1,21 +1,24 @@
-use Rattle.std.proofs.Common.{◌≡◌, ◌∙◌, ℕ, suc, sym, refl, ap, add-one, arith, length}
+use Rattle.std.proofs.Common.{◌≡◌, ◌∙◌, ℕ, suc, sym, refl, ap, add-one, arith, length, ◌+◌}
 use Rattle.std.proofs.lemmas.Result.{err_from_is_err_and}
 use Rattle.statement_model.specs.Tokens.{Lexed, left_from}
 use Rattle.lefdef_tokens.specs.Views.{piece_of}
 use Rattle.lefdef_tokens.specs.declared.span.Span.{Span}
 use Rattle.statement_reader.specs.Endings.{ending_view}
-use Rattle.statement_reader.proofs.Cutting.{going_start, going_on, going_done, going_fault, going_ends, one_later}
+use Rattle.statement_reader.proofs.Cutting.{going_from, going_on, going_done, none_later, going_fault, going_ends, one_later}
 use Rattle.statement_reader.proofs.boundary.statement_run.Goals as goal
 
 pub loop-done-init : goal.loop-done-init
 loop-done-init c =
     let further = c.requires.further in
+    let past = c.passed_over-at.ensures.passes in
+    let low = c.passed_over-at.ensures.low in
+    let few = c.passed_over-at.ensures.few in
     record {
-      further = c.requires.further;
-      within = c.requires.within;
+      further = omega arith;
+      within = c.passed_over-at.ensures.high;
       few = omega arith;
-      end = c.requires.next.end;
-      going = λ e same. rw (c.is_alone-done.ensures, sym same) (going_start e (left_from c.args.text.now c.args.pos) (left_from c.args.text.now c.args.second) (piece_of c.args.first.now) c.requires.begins);
+      end = λ alone. none_later (c.args.first.now.pos + length c.args.first.now.bytes.now) c.passed_over-at.result.0 c.passed_over-at.result.1 c.args.second (left_from c.args.text.now c.args.second).pieces c.requires.next.end (past.none (sym c.is_alone-done.ensures ∙ alone));
+      going = λ e same. going_from e c.args.text.now c.args.second c.passed_over-at.result.0 c.passed_over-at.result.1 (ending_view c.args.ending) (left_from c.args.text.now c.args.pos) (piece_of c.args.first.now) c.is_alone-done.result c.requires.begins same past c.is_alone-done.ensures;
     }
 
 pub loop-done-preserved : goal.loop-done-preserved
@@ -26,7 +29,7 @@ loop-done-preserved c =
       further = omega (arith, s.0, i.further);
       within = s.1;
       few = omega (arith, s.0, i.few);
-      end =
+      end = λ last.
           let n = rw c.in-Some.is at c.in_ok-token.ensures.span in
           let g = rw c.loop-done-test.true at i.going (λ w. ending_view c.args.ending) refl in
           one_later c.args.first.now.pos (length c.args.first.now.bytes.now) (left_from c.args.text.now c.args.second).pieces (left_from c.args.text.now c.in-Some.after).pieces c.loop-done.later (piece_of c.in-Some.token) (g.left ∙ ap (λ (x : Lexed). x.pieces) s.2) ∙ n.end;
@@ -67,4 +70,4 @@ invariant_of-tokens c =
 pub returns-clause-span : goal.returns-clause-span
 returns-clause-span c =
     let g = c.loop-done.invariant.going (λ w. ending_view c.args.ending) refl in
-    rw (g.whole, add-one) (ap (λ (n : ℕ). let s : Span = record { lo = c.args.first.now.pos; hi = n } in s) c.loop-done.invariant.end)
+    rw (g.whole, add-one) (ap (λ (n : ℕ). let s : Span = record { lo = c.args.first.now.pos; hi = n } in s) (c.loop-done.invariant.end c.loop-done-test.false))

@@ -1,4 +1,4 @@
-use Rattle.std.proofs.Common.{◌≡◌, ◌≤◌, ◌<◌, ◌-◌, ◌+◌, ℕ, List, length, take}
+use Rattle.std.proofs.Common.{◌≡◌, true, ◌≤◌, ◌<◌, ◌-◌, ◌+◌, ℕ, List, length, take}
 use Rattle.statement_model.specs.Tokens.{left_from}
 use Rattle.statement_model.specs.Boundaries.{Ending}
 use Rattle.lefdef_tokens.specs.Pieces.{end_after}
@@ -12,7 +12,7 @@ invariant-loop-done l = record {
   further : l.pos < l.at;
   within : l.at ≤ length l.text;
   few : l.later < l.at;
-  end : end_after (l.first.pos + length l.first.bytes.now) (take l.later (left_from l.text l.second).pieces) ≡ l.at;
+  end : l.done ≡ true → end_after (l.first.pos + length l.first.bytes.now) (take l.later (left_from l.text l.second).pieces) ≡ l.at;
   going : (e : List ℕ → Ending) → e l.first.bytes.now ≡ ending_view l.ending → Going e (left_from l.text l.pos) (piece_of l.first) (left_from l.text l.second) l.done l.later (left_from l.text l.at);
 }
 

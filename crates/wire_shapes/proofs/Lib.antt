@@ -1,0 +1,10 @@
+pub mod Bits
+pub mod Cuts
+pub mod Holding
+pub mod Lines
+pub mod PathSteps
+pub mod Places
+pub mod Reach
+pub mod Segments
+pub mod Turned
+pub mod ViaSteps

@@ -1,0 +1,11 @@
+pub mod GeneratedLeft
+pub mod GeneratedViews
+pub mod ItemViews
+pub mod Laws
+pub mod PathLeft
+pub mod PieceViews
+pub mod PiecesLeft
+pub mod PlacesLeft
+pub mod RuleViews
+pub mod SpanViews
+pub mod ViaLeft
