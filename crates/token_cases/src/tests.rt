@@ -4,7 +4,7 @@ use design_model::fault::Fault;
 use design_model::token_kind::TokenKind;
 use lefdef_tokens::{
     Cursor, Scanner, Span, TokenRun, is_name, is_place, is_plain, is_plus, is_quoted, is_semicolon,
-    is_stop, is_word, token_at,
+    is_stop, is_word, skip_plain, token_at,
 };
 use std::alloc::{AllocError, Global};
 use std::test::Fail;
@@ -216,4 +216,27 @@ fn tells_words_apart(rt: HostRuntime) {
         assert_eq!(rt; answers, expected, "of {bytes:?}");
     }
     assert!(rt; is_word(b"END", b"END") && !is_word(b"END", b"EN"));
+}
+
+#[test]
+fn skips_to_the_semicolon(rt: HostRuntime) {
+    let net =
+        b"- net ( u1 A ) ( u2 B ) + ROUTED m1 ( 100 200 ) ( * 300 ) via1 NEW m2 ( 100 300 ) ( 400 * ) ; - other ( u3 A ) ( u4 B ) + ROUTED m1 ( 100 200 ) ( * 300 ) ;";
+    let quote =
+        b"- a\tb\r\nc   + SOURCE DIST + PROPERTY p wo\"rd 1 ; - the words that stand after it in this text";
+    let long =
+        b"- a_word_that_goes_on_past_the_sixty_four_bytes_that_are_gone_over_at_once_or_so b ;";
+    let comment =
+        b"- a # b ; no comment ends before its line does and this one is more than sixty-four bytes";
+    let rows: [(&[u8], usize, (usize, usize)); 6] = [
+        (net, 0, (0, 0)),
+        (net, 1, (92, 31)),
+        (net, 155, (155, 0)),
+        (quote, 1, (38, 9)),
+        (long, 1, (2, 0)),
+        (comment, 1, (4, 1)),
+    ];
+    for (text, from, expected) in rows {
+        assert_eq!(rt; skip_plain(text, from), expected, "of {text:?} from {from}");
+    }
 }

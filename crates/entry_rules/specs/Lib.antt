@@ -1,0 +1,6 @@
+pub mod OffLayer
+pub mod References
+pub mod Unchecked
+pub mod Unknown
+pub mod ViaLayers
+pub mod WireItems
