@@ -11,10 +11,10 @@ use Rattle.cell_library.specs.RuleViews.{rule_name, rules_view}
 use Rattle.cell_library.specs.SiteViews.{site_name, sites_view}
 use Rattle.cell_library.specs.ViaViews.{via_name, vias_view}
 use Rattle.cell_library.specs.declared.layer.Layer.{Layer}
-use Rattle.cell_library.specs.declared.macro_view.Macro.{Macro}
+use Rattle.cell_library.specs.declared.macro_definition.Macro.{Macro}
 use Rattle.cell_library.specs.declared.rule.Rule.{Rule}
 use Rattle.cell_library.specs.declared.site.Site.{Site}
-use Rattle.cell_library.specs.declared.via.Via.{Via}
+use Rattle.cell_library.specs.declared.via_definition.Via.{Via}
 
 module _ {A E : Type 0} (layers : List (List ℕ × Layer)) (sites : List (List ℕ × Site)) (vias : List (List ℕ × Via A)) (rules : List (List ℕ × Rule A)) (macros : List (List ℕ × Macro A))
     (layers' : List (List ℕ × Layer)) (sites' : List (List ℕ × Site)) (vias' : List (List ℕ × Via A)) (rules' : List (List ℕ × Rule A)) (macros' : List (List ℕ × Macro A)) (recs : List LefRecord) where

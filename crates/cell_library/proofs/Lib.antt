@@ -7,5 +7,6 @@ pub mod LayerLemmas
 pub mod NamedLemmas
 pub mod ReadLemmas
 pub mod ShapeLemmas
+pub mod UncheckedLemmas
 pub mod UnitLemmas
 pub mod WalkLemmas

@@ -11,9 +11,9 @@ use Rattle.cell_library.specs.SiteViews.{sites_view}
 use Rattle.cell_library.specs.ViaViews.{vias_view}
 use Rattle.cell_library.specs.declared.layer.Layer.{Layer}
 use Rattle.cell_library.specs.declared.site.Site.{Site}
-use Rattle.cell_library.specs.declared.via.Via.{Via}
+use Rattle.cell_library.specs.declared.via_definition.Via.{Via}
 use Rattle.cell_library.specs.declared.rule.Rule.{Rule}
-use Rattle.cell_library.specs.declared.macro_view.Macro.{Macro}
+use Rattle.cell_library.specs.declared.macro_definition.Macro.{Macro}
 use Rattle.cell_library.specs.declared.library.LibraryError.{LibraryError}
 use Rattle.cell_library.specs.declared.library.LibraryError.TheVariants as library_errors
 

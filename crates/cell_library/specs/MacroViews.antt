@@ -5,7 +5,7 @@ use Rattle.lef_grammar.specs.Definitions.{Macro}
 use Rattle.cell_library.specs.Numbers.{point_view}
 use Rattle.cell_library.specs.PinViews.{pins_view}
 use Rattle.cell_library.specs.Records.{word_view}
-use Rattle.cell_library.specs.declared.macro_view.Macro as code_macro
+use Rattle.cell_library.specs.declared.macro_definition.Macro as code_macro
 
 abbrev pub macro_name : Macro → List ℕ
 macro_name m = m.name

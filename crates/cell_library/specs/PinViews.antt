@@ -1,5 +1,5 @@
 -- Pins of the program as those of the definitions.
-use Rattle.std.specs.Prelude.{ℕ, List, map, length, filter}
+use Rattle.std.specs.Prelude.{ℕ, List, map, length, filter, sum}
 use Rattle.std.specs.List.{filter_map}
 use Rattle.lef_grammar.specs.Definitions.{Distances, LayerShapes, Pin, corners_read, pin_record, port_record, shapes_by, unless_named}
 use Rattle.lef_grammar.specs.Firsts.{front}
@@ -16,6 +16,10 @@ pin_view e = record { name = e.0; shapes = map shapes_view e.1.shapes; unchecked
 
 abbrev pub pins_view : {A : Type 0} → List (List ℕ × code_pin.Pin A) → List Pin
 pins_view es = map pin_view es
+
+-- how many parts of pins have no checked shape
+abbrev pub unchecked_in : List Pin → ℕ
+unchecked_in pins = sum (map (λ (p : Pin). p.unchecked) pins)
 
 -- what the ports of a pin say behind its header
 abbrev pub ports_behind : List LefRecord → List PortRecord

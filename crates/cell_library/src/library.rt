@@ -7,20 +7,22 @@ ghost use Rattle.lef_grammar.specs.Measures.{place_among};
 ghost use Rattle.lef_reader.specs.StatementViews.{lef_view};
 ghost use Rattle.cell_library.specs.LayerViews.{layer_name, layer_view};
 ghost use Rattle.cell_library.specs.LibraryViews.{AddsText, ReadsLibrary, noted};
-ghost use Rattle.cell_library.specs.MacroViews.{macro_view};
+ghost use Rattle.cell_library.specs.MacroViews.{macro_view, macros_view};
 ghost use Rattle.cell_library.specs.Naming.{entry_seen, seen_by};
 ghost use Rattle.cell_library.specs.Records.{records_view, word_view};
 ghost use Rattle.cell_library.specs.RuleViews.{rule_view};
 ghost use Rattle.cell_library.specs.SiteViews.{site_view};
-ghost use Rattle.cell_library.specs.ViaViews.{via_view};
+ghost use Rattle.cell_library.specs.ViaViews.{via_view, vias_view};
 
 use crate::layer::{Layer, add_layers};
 use crate::lef_texts::LefTexts;
-use crate::macro_view::{Macro, add_macros};
+use crate::macro_definition::Macro;
+use crate::macro_view::add_macros;
 use crate::named::Named;
 use crate::rule::{Rule, add_rules};
 use crate::site::{Site, add_sites};
-use crate::via::{Via, add_vias};
+use crate::via::add_vias;
+use crate::via_definition::Via;
 use design_model::MAX_TEXT;
 use design_model::fault::{Fault, FaultCode, ReadError};
 use design_model::identifier::LayerId;
@@ -121,11 +123,25 @@ impl<'l, A: Allocator + Copy> Library<'l, A> {
         self.vias.get(name)
     }
 
+    /// All vias, in the order of the texts.
+    pub fn vias(&self) -> &Named<'l, Via<'l, A>, A>
+        ensures { vias_view result.now ≡ self.now.vias }
+    {
+        &self.vias
+    }
+
     /// The rule of a name.
     pub fn rule(&self, name: &[u8]) -> Option<&Rule<'l, A>>
         ensures { option_map (seen_by rule_view name.now) result ≡ rule_named self.now name.now }
     {
         self.rules.get(name)
+    }
+
+    /// All macros, in the order of the texts.
+    pub fn macros(&self) -> &Named<'l, Macro<'l, A>, A>
+        ensures { macros_view result.now ≡ self.now.macros }
+    {
+        &self.macros
     }
 
     /// The macro of a name, with that name.

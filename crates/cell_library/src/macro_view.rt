@@ -19,6 +19,7 @@ ghost use Rattle.cell_library.specs.Records.{records_view, word_view};
 
 use crate::group::inner_of;
 use crate::library::Library;
+use crate::macro_definition::Macro;
 use crate::macro_shapes::MacroShapes;
 use crate::named::Named;
 use crate::numbers::{MicronPoint, read_both, read_point};
@@ -30,17 +31,6 @@ use lef_reader::macro_block::MacroStatement;
 use lef_reader::outermost::{NamedHeader, OutermostStatement};
 use lef_reader::statement::LefStatement;
 use std::alloc::{AllocError, Allocator, Global};
-
-/// A macro: the first word of its first `CLASS`, its first `SIZE` and `ORIGIN`, the names of its sites, and the first of its
-/// pins of each name.
-#[derive(Drop)]
-pub struct Macro<'l, A: Allocator = Global> {
-    pub class: Option<&'l [u8]>,
-    pub size: Option<MicronPoint>,
-    pub origin: Option<MicronPoint>,
-    pub sites: Sequence<&'l [u8], A>,
-    pub pins: Named<'l, Pin<'l, A>, A>,
-}
 
 /// A macro of a library, with its name.
 #[derive(Clone, Copy)]

@@ -1,6 +1,6 @@
 //! Vias.
 
-ghost use Rattle.std.specs.Prelude.{◌≡◌, List, ℕ, IfOk, OnOk, map};
+ghost use Rattle.std.specs.Prelude.{◌≡◌, ◌≤◌, List, ℕ, IfOk, OnOk, length, map};
 ghost use Rattle.std.specs.Option.{option_map};
 ghost use Rattle.lef_grammar.specs.Definitions.{both_read, generated_by, metals_read, opened_via, via_body, via_record, via_with, vias_of, whole_read};
 ghost use Rattle.lef_grammar.specs.Firsts.{first_of, front, with_all};
@@ -15,6 +15,7 @@ ghost use Rattle.cell_library.specs.ViaViews.{array_view, body_view, count_behin
 use crate::named::Named;
 use crate::numbers::{MicronPoint, MicronRect, read_both, read_corners, read_whole};
 use crate::shapes::{LayerShapes, fitted};
+use crate::via_definition::Via;
 use design_model::sequence::Sequence;
 use lef_reader::outermost::{NamedHeader, OutermostStatement};
 use lef_reader::rule_block::RuleStatement;
@@ -62,13 +63,6 @@ pub struct GeneratedVia<'l> {
 pub enum ViaBody<'l, A: Allocator = Global> {
     Listed(Sequence<LayerShapes<'l, A>, A>),
     Generated(GeneratedVia<'l>),
-}
-
-/// A via, with the number of its polygons, which aren't checked.
-#[derive(Drop)]
-pub struct Via<'l, A: Allocator = Global> {
-    pub body: ViaBody<'l, A>,
-    pub unchecked: usize,
 }
 
 /// The first `VIARULE` behind a header.
@@ -275,7 +269,8 @@ fn shapes_behind<'l, A: Allocator + Copy>(
 /// How many polygons stand behind the header of a via.
 #[tactic(auto, unfolding(lef_grammar::specs::Firsts::front))]
 fn count_behind(behind: &[LefStatement<'_>]) -> usize
-    ensures { result ≡ count_behind (records_view behind.now) }
+    ensures count { result ≡ count_behind (records_view behind.now) }
+    ensures few { result ≤ length behind.now }
 {
     let mut count = 0;
     for statement in behind {

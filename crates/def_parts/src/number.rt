@@ -1,17 +1,18 @@
 //! Places for whole numbers in a statement.
 
-ghost use Rattle.std.specs.Prelude.{◌≡◌, IfSome};
-ghost use Rattle.form_meanings.specs.Words.{Gives, number_at};
+ghost use Rattle.std.specs.Prelude.{◌≡◌, true, IfSome};
+ghost use Rattle.form_meanings.specs.Words.{Gives, is_place, next_passes, number_at};
 ghost use Rattle.statement_model.specs.Form.{number, read};
 ghost use Rattle.def_grammar.specs.Limits.{is_array, is_copies, is_cuts, is_in_range, is_lines, is_size};
 ghost use Rattle.def_grammar.specs.Numbers.{int_of, is_int, is_scale, is_count};
 ghost use Rattle.def_grammar.specs.Parts.{int};
 ghost use Rattle.def_grammar.specs.Points.{coordinate, is_coordinate};
+ghost use Rattle.lefdef_tokens.specs.Unseens.{Finds, IsFurther, unseen_rest, unseen_word};
 ghost use Rattle.lefdef_tokens.specs.Views.{IsIn, IsLater, rest_of, word_of};
 ghost use Rattle.def_parts.specs.Numbers.{is_of_kind};
 
-use lefdef_tokens::{Cursor, Token, is_word};
-use unit_numbers::{is_whole, whole};
+use lefdef_tokens::{Cursor, Token, Unseen, is_word};
+use unit_numbers::{few_digits_are_whole, is_whole, whole};
 
 /// What a whole number stands for, which bounds it.
 #[derive(Clone, Copy)]
@@ -238,4 +239,46 @@ pub fn coordinate_at<'t>(cursor: Cursor<'t>) -> Option<(Token<'t>, Cursor<'t>)>
     ensures lent { IfSome result (λ x. IsIn cursor.entry.tokens.text.now x.0) }
 {
     number_at(NumberKind::Coordinate, cursor)
+}
+
+/// A place for a whole number, where it has one to nine digits and stands between blanks; `None` says nothing.
+#[tactic(auto, unfolding(form_meanings::specs::Words::number_at, def_grammar::specs::Numbers::is_int))]
+#[inline(always)]
+pub fn few_digits_at<'t>(left: Unseen<'t>) -> Option<(Token<'t>, Unseen<'t>)>
+    ensures gives { Finds unseen_word result (read int (unseen_rest left.entry)) }
+    ensures further { IfSome result (λ x. IsFurther left.entry.tokens x.1.tokens) }
+    ensures lent { IfSome result (λ x. IsIn left.entry.tokens.text.now x.0) }
+{
+    few_digits_are_whole();
+    let (number, later) = left.digits()?;
+    Some((number, later))
+}
+
+/// A place for a size, where it has one to nine digits and stands between blanks; `None` says nothing.
+#[tactic(auto, unfolding(form_meanings::specs::Words::number_at, def_grammar::specs::Numbers::is_count))]
+#[inline(always)]
+pub fn few_digits_size_at<'t>(left: Unseen<'t>) -> Option<(Token<'t>, Unseen<'t>)>
+    ensures gives { Finds unseen_word result (read (number is_size) (unseen_rest left.entry)) }
+    ensures place { IfSome result (λ x. next_passes is_place (unseen_rest left.entry) ≡ true) }
+    ensures further { IfSome result (λ x. IsFurther left.entry.tokens x.1.tokens) }
+    ensures lent { IfSome result (λ x. IsIn left.entry.tokens.text.now x.0) }
+{
+    few_digits_are_whole();
+    let (size, later) = left.digits()?;
+    Some((size, later))
+}
+
+/// A place for a coordinate of a later point, where it is `*` or has one to nine digits; `None` says nothing.
+#[tactic(auto, unfolding(form_meanings::specs::Words::number_at, def_grammar::specs::Points::is_coordinate, def_grammar::specs::Numbers::is_int))]
+#[inline(always)]
+pub fn few_digits_or_star_at<'t>(left: Unseen<'t>) -> Option<(Token<'t>, Unseen<'t>)>
+    ensures gives { Finds unseen_word result (read coordinate (unseen_rest left.entry)) }
+    ensures further { IfSome result (λ x. IsFurther left.entry.tokens x.1.tokens) }
+    ensures lent { IfSome result (λ x. IsIn left.entry.tokens.text.now x.0) }
+{
+    few_digits_are_whole();
+    match left.mark(b'*') {
+        Some(found) => Some(found),
+        None => left.digits(),
+    }
 }

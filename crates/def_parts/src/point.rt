@@ -4,10 +4,11 @@ ghost use Rattle.std.specs.Prelude.{◌≡◌, IfSome};
 ghost use Rattle.form_meanings.specs.Words.{Gives};
 ghost use Rattle.statement_model.specs.Form.{read};
 ghost use Rattle.def_grammar.specs.Parts.{orient, point};
+ghost use Rattle.lefdef_tokens.specs.Unseens.{Finds};
 ghost use Rattle.lefdef_tokens.specs.Views.{IsLater, rest_of};
 ghost use Rattle.def_parts.specs.PointViews.{PointIn, point_view, same, with_rest};
 
-use crate::number::int_at;
+use crate::number::{few_digits_at, int_at};
 use design_model::geometry::Orient;
 use lefdef_tokens::{Cursor, Token};
 
@@ -18,10 +19,25 @@ pub struct Coordinates<'t> {
     pub y: Token<'t>,
 }
 
-/// `( x y )`
+/// `( x y )`, where both have one to nine digits, as most do; `None` says nothing
 #[tactic(auto, unfolding(def_grammar::specs::Parts::point))]
 #[inline(always)]
-pub fn point_at<'t>(cursor: Cursor<'t>) -> Option<(Coordinates<'t>, Cursor<'t>)>
+fn short_point_at<'t>(cursor: Cursor<'t>) -> Option<(Coordinates<'t>, Cursor<'t>)>
+    ensures gives { Finds (with_rest point_view) result (read point (rest_of cursor.entry)) }
+    ensures later { IfSome result (λ x. IsLater cursor.entry x.1) }
+    ensures lent { IfSome result (λ x. PointIn cursor.entry.tokens.text.now x.0) }
+{
+    let (x, left) = few_digits_at(cursor.past(b"(")?)?;
+    let (y, left) = few_digits_at(left)?;
+    let (_, left) = left.mark(b')')?;
+    Some((Coordinates { x, y }, left.seen()))
+}
+
+/// `( x y )`, whatever stands there
+#[tactic(auto, unfolding(def_grammar::specs::Parts::point))]
+#[cold]
+#[inline(never)]
+fn any_point_at<'t>(cursor: Cursor<'t>) -> Option<(Coordinates<'t>, Cursor<'t>)>
     ensures gives { Gives (with_rest point_view) result (read point (rest_of cursor.entry)) }
     ensures later { IfSome result (λ x. IsLater cursor.entry x.1) }
     ensures lent { IfSome result (λ x. PointIn cursor.entry.tokens.text.now x.0) }
@@ -31,6 +47,19 @@ pub fn point_at<'t>(cursor: Cursor<'t>) -> Option<(Coordinates<'t>, Cursor<'t>)>
     let (y, cursor) = int_at(cursor)?;
     let cursor = cursor.key(b")")?;
     Some((Coordinates { x, y }, cursor))
+}
+
+/// `( x y )`
+#[inline(always)]
+pub fn point_at<'t>(cursor: Cursor<'t>) -> Option<(Coordinates<'t>, Cursor<'t>)>
+    ensures gives { Gives (with_rest point_view) result (read point (rest_of cursor.entry)) }
+    ensures later { IfSome result (λ x. IsLater cursor.entry x.1) }
+    ensures lent { IfSome result (λ x. PointIn cursor.entry.tokens.text.now x.0) }
+{
+    match short_point_at(cursor) {
+        Some(found) => Some(found),
+        None => any_point_at(cursor),
+    }
 }
 
 /// The orientation of a word.

@@ -4,10 +4,11 @@ ghost use Rattle.std.specs.Prelude.{◌≡◌, IfSome};
 ghost use Rattle.form_meanings.specs.Words.{Gives, next_passes};
 ghost use Rattle.statement_model.specs.Form.{read, spell};
 ghost use Rattle.def_grammar.specs.Points.{corners, is_open, later_point, polygon, two_numbers};
+ghost use Rattle.lefdef_tokens.specs.Unseens.{Finds};
 ghost use Rattle.lefdef_tokens.specs.Views.{IsLater, rest_of};
 ghost use Rattle.def_parts.specs.PointViews.{CornersIn, LaterIn, PointIn, PolygonIn, corners_view, later_view, point_view, polygon_view, with_rest};
 
-use crate::number::{coordinate_at, int_at};
+use crate::number::{coordinate_at, few_digits_or_star_at, int_at};
 use crate::point::{Coordinates, point_at};
 use lefdef_tokens::{Cursor, is_word};
 use statement_reader::parts::{Part, Parts, read_parts};
@@ -63,10 +64,26 @@ pub fn next_is_open<'t>(cursor: Cursor<'t>) -> bool
     cursor.next_is(b"(")
 }
 
-/// `( x y )`, where each can be `*`
+/// `( x y )`, where each is `*` or has one to nine digits, as most do; `None` says nothing
 #[tactic(auto, unfolding(def_grammar::specs::Points::later_point))]
 #[inline(always)]
-pub fn later_point_at<'t>(cursor: Cursor<'t>) -> Option<(LaterPoint<'t>, Cursor<'t>)>
+fn short_later_point_at<'t>(cursor: Cursor<'t>) -> Option<(LaterPoint<'t>, Cursor<'t>)>
+    ensures gives { Finds (with_rest later_view) result (read later_point (rest_of cursor.entry)) }
+    ensures later { IfSome result (λ x. IsLater cursor.entry x.1) }
+    ensures lent { IfSome result (λ x. LaterIn cursor.entry.tokens.text.now x.0) }
+{
+    let (x, left) = few_digits_or_star_at(cursor.past(b"(")?)?;
+    let (y, left) = few_digits_or_star_at(left)?;
+    let (_, left) = left.mark(b')')?;
+    let at = Coordinates { x, y };
+    Some((LaterPoint { at }, left.seen()))
+}
+
+/// `( x y )`, where each can be `*`, whatever stands there
+#[tactic(auto, unfolding(def_grammar::specs::Points::later_point))]
+#[cold]
+#[inline(never)]
+fn any_later_point_at<'t>(cursor: Cursor<'t>) -> Option<(LaterPoint<'t>, Cursor<'t>)>
     ensures gives { Gives (with_rest later_view) result (read later_point (rest_of cursor.entry)) }
     ensures later { IfSome result (λ x. IsLater cursor.entry x.1) }
     ensures lent { IfSome result (λ x. LaterIn cursor.entry.tokens.text.now x.0) }
@@ -77,6 +94,19 @@ pub fn later_point_at<'t>(cursor: Cursor<'t>) -> Option<(LaterPoint<'t>, Cursor<
     let cursor = cursor.key(b")")?;
     let at = Coordinates { x, y };
     Some((LaterPoint { at }, cursor))
+}
+
+/// `( x y )`, where each can be `*`
+#[inline(always)]
+pub fn later_point_at<'t>(cursor: Cursor<'t>) -> Option<(LaterPoint<'t>, Cursor<'t>)>
+    ensures gives { Gives (with_rest later_view) result (read later_point (rest_of cursor.entry)) }
+    ensures later { IfSome result (λ x. IsLater cursor.entry x.1) }
+    ensures lent { IfSome result (λ x. LaterIn cursor.entry.tokens.text.now x.0) }
+{
+    match short_later_point_at(cursor) {
+        Some(found) => Some(found),
+        None => any_later_point_at(cursor),
+    }
 }
 
 impl<'t> Part<'t> for LaterPoint<'t> {

@@ -1,5 +1,5 @@
 -- Where an entry stands: in its section, whose header is the latest statement that its text has once.
-use Rattle.std.proofs.Common.{◌≡◌, ◌⊎◌, ℕ, Bool, true, false, List, [], ◌∷◌, refl, sym, ap, ◌∙◌, subst, inl, inr, codes, Option, Some, None, Ok, if◌then◌else◌}
+use Rattle.std.proofs.Common.{◌≡◌, ◌⊎◌, ℕ, true, List, refl, sym, ap, ◌∙◌, subst, inl, inr, codes, Option, Some, None, Ok}
 use Rattle.std.specs.Option.{option_to_list}
 use Rattle.design_model.specs.declared.mode.Mode.{Mode}
 use Rattle.design_model.specs.declared.mode.Mode.TheVariants.{Top, In, Props, After}

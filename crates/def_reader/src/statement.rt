@@ -1,11 +1,12 @@
 //! The statements of a DEF text, and what they are to the one who reads a whole text.
 
-ghost use Rattle.std.specs.Prelude.{◌≡◌, ℕ, [], ◌∷◌, List, IfSome};
+ghost use Rattle.std.specs.Prelude.{◌≡◌, ℕ, List, IfSome};
 ghost use Rattle.std.specs.Option.{option_map};
 ghost use Rattle.form_meanings.specs.Words.{Gives};
-ghost use Rattle.statement_model.specs.Form.{left, one_of, read, right, whole};
-ghost use Rattle.design_model.specs.EnumWords.{section_word};
-ghost use Rattle.def_grammar.specs.Records.{component_of, def, def_ending, entry_of, in_section, is_after, key_of, mode_after, statement};
+ghost use Rattle.statement_model.specs.Form.{left, read, right, whole};
+ghost use Rattle.design_model.specs.declared.mode.Section.TheVariants.{Components, Nets};
+ghost use Rattle.def_grammar.specs.Properties.{property_statement};
+ghost use Rattle.def_grammar.specs.Records.{component_of, def, def_ending, end_form, entries_form, entry_of, in_section, is_after, key_of, mode_after, statement};
 ghost use Rattle.lefdef_tokens.specs.Views.{IsLater, rest_of, words_of};
 ghost use Rattle.statement_reader.specs.Endings.{ending_view};
 ghost use Rattle.place_parts.specs.ComponentViews.{component_view, ComponentIn};
@@ -22,9 +23,10 @@ use crate::seen::Key;
 use crate::top::top_at;
 use design_model::mode::{Mode, Section};
 use lefdef_tokens::{Cursor, Token, TokenRun, is_semicolon, is_word};
-use place_parts::components::ComponentParts;
+use place_parts::components::{ComponentParts, component_at};
 use statement_reader::boundary::Ending;
 use statement_reader::grammar;
+use wire_parts::nets::net_entry_at;
 
 /// A statement, with parts that borrow the text.
 #[derive(Clone, Copy, Drop)]
@@ -87,13 +89,14 @@ impl<'t> Statement<'t> {
     }
 }
 
-/// `END section`, after `END`
+/// `END section`
+#[inline(never)]
 fn end_at<'t>(section: Section, cursor: Cursor<'t>) -> Option<(Statement<'t>, Cursor<'t>)>
-    ensures gives { Gives (with_rest record_view) result (read (right (right (left (one_of section_word (section ∷ []))))) (rest_of cursor.entry)) }
+    ensures gives { Gives (with_rest record_view) result (read (right (right (left (end_form section)))) (rest_of cursor.entry)) }
     ensures later { IfSome result (λ x. IsLater cursor.entry x.1) }
     ensures lent { IfSome result (λ x. StatementIn cursor.entry.tokens.text.now x.0) }
 {
-    let (word, cursor) = cursor.next()?;
+    let (word, cursor) = cursor.key(b"END")?.next()?;
     if is_word(word.bytes, section.word()) {
         Some((Statement::EndSection(section), cursor))
     } else {
@@ -101,34 +104,74 @@ fn end_at<'t>(section: Section, cursor: Cursor<'t>) -> Option<(Statement<'t>, Cu
     }
 }
 
-/// A statement in a section.
-fn in_section<'t>(section: Section, cursor: Cursor<'t>) -> Option<(Statement<'t>, Cursor<'t>)>
-    ensures gives { Gives (with_rest record_view) result (read (right (right (in_section section))) (rest_of cursor.entry)) }
+// A statement is moved from function to function, and a function pays at its entry for those that it holds. So entries of
+// the largest sections become statements at once.
+
+/// An entry of COMPONENTS
+#[tactic(auto, unfolding(def_grammar::specs::Records::entries_form))]
+#[inline(never)]
+fn component_statement_at<'t>(cursor: Cursor<'t>) -> Option<(Statement<'t>, Cursor<'t>)>
+    ensures gives { Gives (with_rest record_view) result (read (right (right (right (entries_form Components)))) (rest_of cursor.entry)) }
     ensures later { IfSome result (λ x. IsLater cursor.entry x.1) }
     ensures lent { IfSome result (λ x. StatementIn cursor.entry.tokens.text.now x.0) }
 {
-    if cursor.next_is(b"END") {
-        end_at(section, cursor.key(b"END")?)
-    } else {
-        let (entry, cursor) = entry_at(section, cursor)?;
-        Some((Statement::Entry(entry), cursor))
-    }
+    let (parts, cursor) = component_at(cursor)?;
+    Some((Statement::Entry(Entry::Component(parts)), cursor))
+}
+
+/// An entry of NETS
+#[tactic(auto, unfolding(def_grammar::specs::Records::entries_form))]
+#[inline(never)]
+fn net_statement_at<'t>(cursor: Cursor<'t>) -> Option<(Statement<'t>, Cursor<'t>)>
+    ensures gives { Gives (with_rest record_view) result (read (right (right (right (entries_form Nets)))) (rest_of cursor.entry)) }
+    ensures later { IfSome result (λ x. IsLater cursor.entry x.1) }
+    ensures lent { IfSome result (λ x. StatementIn cursor.entry.tokens.text.now x.0) }
+{
+    let (net, cursor) = net_entry_at(cursor)?;
+    Some((Statement::Entry(Entry::Net(net)), cursor))
+}
+
+/// An entry of a section
+#[inline(never)]
+fn entry_statement_at<'t>(
+    section: Section,
+    cursor: Cursor<'t>,
+) -> Option<(Statement<'t>, Cursor<'t>)>
+    ensures gives { Gives (with_rest record_view) result (read (right (right (right (entries_form section)))) (rest_of cursor.entry)) }
+    ensures later { IfSome result (λ x. IsLater cursor.entry x.1) }
+    ensures lent { IfSome result (λ x. StatementIn cursor.entry.tokens.text.now x.0) }
+{
+    let (entry, cursor) = entry_at(section, cursor)?;
+    Some((Statement::Entry(entry), cursor))
+}
+
+/// A statement among property definitions
+#[inline(never)]
+fn property_statement_at<'t>(cursor: Cursor<'t>) -> Option<(Statement<'t>, Cursor<'t>)>
+    ensures gives { Gives (with_rest record_view) result (read (right (left property_statement)) (rest_of cursor.entry)) }
+    ensures later { IfSome result (λ x. IsLater cursor.entry x.1) }
+    ensures lent { IfSome result (λ x. StatementIn cursor.entry.tokens.text.now x.0) }
+{
+    let (property, cursor) = property_at(cursor)?;
+    Some((Statement::Property(property), cursor))
 }
 
 /// A statement by its mode.
 #[tactic(auto, unfolding(def_grammar::specs::Records::statement))]
+#[inline(never)]
 fn statement_at<'t>(mode: Mode, cursor: Cursor<'t>) -> Option<(Statement<'t>, Cursor<'t>)>
     ensures gives { Gives (with_rest record_view) result (read (statement mode) (rest_of cursor.entry)) }
     ensures later { IfSome result (λ x. IsLater cursor.entry x.1) }
     ensures lent { IfSome result (λ x. StatementIn cursor.entry.tokens.text.now x.0) }
 {
+    let ends = cursor.next_is(b"END");
     match mode {
         Mode::Top => top_at(cursor),
-        Mode::In(section) => in_section(section, cursor),
-        Mode::Props => {
-            let (property, cursor) = property_at(cursor)?;
-            Some((Statement::Property(property), cursor))
-        }
+        Mode::In(section) if ends => end_at(section, cursor),
+        Mode::In(Section::Components) => component_statement_at(cursor),
+        Mode::In(Section::Nets) => net_statement_at(cursor),
+        Mode::In(section) => entry_statement_at(section, cursor),
+        Mode::Props => property_statement_at(cursor),
         Mode::After => None,
     }
 }

@@ -144,6 +144,7 @@ fn next_is_section<'t>(cursor: Cursor<'t>) -> bool
 
 /// A statement outside of all sections.
 #[tactic(auto, unfolding(def_grammar::specs::Top::top_statement))]
+#[inline(never)]
 pub fn top_at<'t>(cursor: Cursor<'t>) -> Option<(Statement<'t>, Cursor<'t>)>
     ensures gives { Gives (with_rest record_view) result (read (left top_statement) (rest_of cursor.entry)) }
     ensures later { IfSome result (λ x. IsLater cursor.entry x.1) }

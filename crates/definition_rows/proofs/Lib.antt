@@ -6,6 +6,7 @@ pub mod LefRows
 pub mod LibraryRows
 pub mod LimitRows
 pub mod NetRows
+pub mod PlaceRows
 pub mod SectionRows
 pub mod ShowRows
 pub mod StatementRows

@@ -16,7 +16,7 @@ use Rattle.statement_model.specs.Reading.{fault_at}
 use Rattle.def_grammar.specs.Components.{placed}
 use Rattle.def_grammar.specs.Top.{units, header, end_design}
 use Rattle.def_grammar.specs.Records.{Record, top, end_section, entry, component, read_def}
-use Rattle.lef_grammar.specs.Library.{empty_library}
+use Rattle.lef_grammar.specs.Library.{Library, empty_library}
 use Rattle.design_rules.specs.Boxes.{Boxed}
 use Rattle.design_rules.specs.Diagnostics.{diagnostics}
 use Rattle.design_rules.specs.Edits.{place}
@@ -25,15 +25,23 @@ use Rattle.design_rules.specs.OverlapLines.{overlap_of}
 use Rattle.design_rules.specs.Runs.{design_edit, text_edit, text_outcome}
 use Rattle.design_rules.specs.Script.{report, nothing, make, refuse, ask, bad, order_of, script_lines, unescaped}
 use Rattle.definition_rows.proofs.Computing.{def_texts}
+use Rattle.place_rules.specs.Covering.{is_covered}
 use Rattle.definition_rows.proofs.DefRows.{two}
 
 -- bytes put in place of those from a up to b of the text of two components leave a text with this fault
 abbrev Spoils : ℕ → ℕ → List ℕ → FaultCode → ℕ → Type 0
 Spoils a b put code at = text_outcome two a b put ≡ Err (Unreadable (fault_at code at))
 
--- the lines of a text's report, with no library, where it reads
+-- a library with the macro and the site that the texts name, neither of which has a SIZE
+abbrev names_library : Library
+names_library = record empty_library {
+  sites = record { name = codes "core"; size = None } ∷ [];
+  macros = record { name = codes "INV"; class = None; size = None; origin = None; sites = []; pins = [] } ∷ [];
+}
+
+-- the lines of a text's report, with that library, where it reads
 abbrev report_of : Result (List Record) Fault → Option (List (List ℕ))
-report_of (Ok design) = Some (diagnostics empty_library design)
+report_of (Ok design) = Some (diagnostics names_library design)
 report_of (Err fault) = None
 
 -- the same of the text after a text edit, where it is accepted
@@ -88,12 +96,12 @@ comment_runs_on = (refl, refl)
 
 -- a # behind a byte of a word begins no comment: the two entries are one
 no_comment : report_after (text_outcome two 193 194 (codes "#")) ≡ Some (codes "count COMPONENTS 2 1" ∷ [])
-unfolding def_texts
+unfolding def_texts is_covered
 no_comment = refl
 
 -- an entry that becomes two
 two_of_one : report_after (text_outcome two 188 188 (codes "INV ; - u3 ")) ≡ Some (codes "count COMPONENTS 2 3" ∷ [])
-unfolding def_texts
+unfolding def_texts is_covered
 two_of_one = refl
 
 -- bytes put in anew after they were taken out
@@ -140,7 +148,7 @@ count_first = refl
 
 -- a box of height 2 and width 2, whose left side is here
 abbrev box_from : List ℕ → ℕ → Boxed
-box_from name x = record { name = name; box = record { x1 = pos x; y1 = pos 0; x2 = pos (x + 2); y2 = pos 2 } }
+box_from name x = record { name = name; box = record { x1 = pos x; y1 = pos 0; x2 = pos (x + 2); y2 = pos 2 }; orient = N; class = None; sites = []; region = None }
 
 -- all pairs of three boxes in their order, each by the lesser name first; only the neighbours; and none, where they touch
 three_boxes : (pair_lines overlap_of (box_from (codes "c") 0 ∷ box_from (codes "a") 1 ∷ box_from (codes "b") 1 ∷ []) ≡ codes "overlap a c" ∷ codes "overlap b c" ∷ codes "overlap a b" ∷ [])

@@ -4,7 +4,7 @@ use Rattle.std.specs.Fmt.{signed_decimal}
 use Rattle.design_model.specs.declared.diagnostic.Diag.{Diag}
 use Rattle.design_model.specs.declared.diagnostic.DiagLine.{DiagLine}
 use Rattle.design_model.specs.declared.diagnostic.DiagKind.{DiagKind}
-use Rattle.design_model.specs.declared.diagnostic.DiagKind.TheVariants.{Count, Overlap, Unknown, ViaLayer, Unchecked}
+use Rattle.design_model.specs.declared.diagnostic.DiagKind.TheVariants.{Count, Overlap, Unknown, ViaLayer, Unchecked, OffRow, OffSite, Flip, Outside, Blocked, Fence, Intruder}
 
 -- the word that a line begins with
 abbrev pub kind_word : DiagKind → List ℕ
@@ -13,6 +13,13 @@ kind_word Overlap = codes "overlap"
 kind_word Unknown = codes "unknown"
 kind_word ViaLayer = codes "vialayer"
 kind_word Unchecked = codes "unchecked"
+kind_word OffRow = codes "offrow"
+kind_word OffSite = codes "offsite"
+kind_word Flip = codes "flip"
+kind_word Outside = codes "outside"
+kind_word Blocked = codes "blocked"
+kind_word Fence = codes "fence"
+kind_word Intruder = codes "intruder"
 
 -- a line: its kind, its words and its numbers, parted by spaces
 abbrev pub line_text : DiagKind → List (List ℕ) → List ℤ → List ℕ

@@ -20,6 +20,20 @@ pub enum DiagKind {
     ViaLayer,
     /// Parts whose shape isn't checked.
     Unchecked,
+    /// No row holds a component that needs one.
+    OffRow,
+    /// A row holds a component, but none on its sites.
+    OffSite,
+    /// A component on a site is turned as no row there lets it be.
+    Flip,
+    /// A component reaches out of the die.
+    Outside,
+    /// A component lies on a rectangle where placement is blocked.
+    Blocked,
+    /// A component reaches out of the fence that it is assigned to.
+    Fence,
+    /// A component lies in a fence that it isn't assigned to.
+    Intruder,
 }
 
 impl DiagKind {
@@ -33,6 +47,13 @@ impl DiagKind {
             DiagKind::Unknown => b"unknown",
             DiagKind::ViaLayer => b"vialayer",
             DiagKind::Unchecked => b"unchecked",
+            DiagKind::OffRow => b"offrow",
+            DiagKind::OffSite => b"offsite",
+            DiagKind::Flip => b"flip",
+            DiagKind::Outside => b"outside",
+            DiagKind::Blocked => b"blocked",
+            DiagKind::Fence => b"fence",
+            DiagKind::Intruder => b"intruder",
         }
     }
 }

@@ -1,4 +1,4 @@
--- The boxes of the components that take part in the place checks (own).
+-- The components that take part in the place checks (own).
 use Rattle.std.specs.Prelude.{ℕ, Bool, false, List, Option, Some, None, pos, nat_abs, codes, if◌then◌else◌}
 use Rattle.std.specs.List.{filter_map}
 use Rattle.design_model.specs.declared.geometry.Orient.{Orient}
@@ -13,6 +13,8 @@ use Rattle.def_grammar.specs.Records.{Record, component_of, units_of}
 use Rattle.lef_grammar.specs.Definitions.{Distances}
 use Rattle.lef_grammar.specs.Library.{Macro, Library, macro_named}
 use Rattle.def_grammar.specs.Placing.{placing}
+use Rattle.lef_grammar.specs.Firsts.{first_of}
+use Rattle.entry_rules.specs.References.{region_of_clause}
 
 -- database units per micron: those of UNITS
 abbrev pub units_or_1 : Option (List ℕ) → ℕ
@@ -31,21 +33,33 @@ abbrev pub is_cover : Option (List ℕ) → Bool
 is_cover None = false
 is_cover (Some word) = is_word (codes "COVER") word
 
--- a component that takes part: its name and its box
+-- a component that takes part: its name, its box and how it is turned, the class and the sites of its macro, and the region
+-- that it names itself
 pub record Boxed : Type 0 where
   pub name : List ℕ
   pub box : Rectangle
+  pub orient : Orient
+  pub class : Option (List ℕ)
+  pub sites : List (List ℕ)
+  pub region : Option (List ℕ)
 
--- the box of a macro that is no cover
-abbrev pub box_at : ℕ → List ℕ → Coordinates → Orient → Macro → Option Boxed
-box_at u name at o m =
+-- a component of a macro that is no cover
+abbrev pub box_at : ℕ → Component → Coordinates → Orient → Macro → Option Boxed
+box_at u c at o m =
     if is_cover m.class then None
-    else Some (record { name = name; box = placed_box o (boundary_of u m.size) (record { x = int_of at.x; y = int_of at.y }) })
+    else Some (record {
+      name = c.name;
+      box = placed_box o (boundary_of u m.size) (record { x = int_of at.x; y = int_of at.y });
+      orient = o;
+      class = m.class;
+      sites = m.sites;
+      region = first_of region_of_clause c.clauses;
+    })
 
 -- a component takes part where it is PLACED or FIXED, and its macro is known and no cover
 abbrev pub box_by : Library → ℕ → Component → Option Clause → Option Boxed
-box_by library u c (Some (placed Placed at o)) = macro_named library c.cell >>= box_at u c.name at o
-box_by library u c (Some (placed Fixed at o)) = macro_named library c.cell >>= box_at u c.name at o
+box_by library u c (Some (placed Placed at o)) = macro_named library c.cell >>= box_at u c at o
+box_by library u c (Some (placed Fixed at o)) = macro_named library c.cell >>= box_at u c at o
 box_by library u c _ = None
 
 abbrev pub component_box : Library → ℕ → Component → Option Boxed

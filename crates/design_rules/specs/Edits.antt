@@ -1,5 +1,5 @@
 -- Edits of a design (own): the cuts that they make in a text, and what they make of its records.
-use Rattle.std.specs.Prelude.{◌≡◌, ℕ, ◌+◌, ◌-◌, Bool, ◌||◌, ◌==◌, nat_lt, List, [], ◌∷◌, ◌++◌, length, map, take, drop, zip, Option, Some, None, Result, Ok, Err, ℤ, pos, neg_ℤ, int_lt, codes, cond, if◌then◌else◌}
+use Rattle.std.specs.Prelude.{ℕ, ◌+◌, ◌-◌, Bool, ◌||◌, ◌==◌, nat_lt, List, [], ◌∷◌, ◌++◌, length, map, take, drop, zip, Option, Some, None, Result, Ok, Err, ℤ, pos, neg_ℤ, int_lt, codes, cond, if◌then◌else◌}
 use Rattle.std.specs.Fmt.{signed_decimal}
 use Rattle.std.specs.Str.{bytes_eq}
 use Rattle.design_model.specs.declared.TheConstants.{MAX_TEXT}

@@ -6,5 +6,7 @@ pub mod Entries
 pub mod Families
 pub mod OverlapLines
 pub mod Output
+pub mod PlaceLines
 pub mod Runs
 pub mod Script
+pub mod Surroundings

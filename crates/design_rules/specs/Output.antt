@@ -4,7 +4,7 @@ use Rattle.design_model.specs.declared.edit.Done.{Done}
 use Rattle.design_model.specs.declared.edit.EditCode.{EditCode}
 use Rattle.design_model.specs.declared.edit.EditCode.TheVariants.{UnknownName}
 use Rattle.design_model.specs.declared.edit.EditRefusal.{EditRefusal}
-use Rattle.design_model.specs.declared.edit.EditRefusal.TheVariants.{Refused, Unreadable, Memory}
+use Rattle.design_model.specs.declared.edit.EditRefusal.TheVariants.{Refused, Unreadable}
 use Rattle.design_model.specs.Codes.{fault_number, refusal_number}
 use Rattle.statement_model.specs.Tokens.{Piece}
 use Rattle.def_grammar.specs.Records.{Record, read_def}

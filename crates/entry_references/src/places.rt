@@ -23,7 +23,7 @@ use statement_reader::parts::Parts;
 use std::alloc::{AllocError, Allocator};
 
 /// The first region that clauses of a component name.
-fn first_region<'t>(clauses: Parts<'t, Clause<'t>>) -> Option<Token<'t>>
+pub fn first_region<'t>(clauses: Parts<'t, Clause<'t>>) -> Option<Token<'t>>
     ensures { option_map bytes_view result ≡ first_of region_of_clause (clauses_of clauses.entry) }
 {
     let mut left = clauses;
@@ -105,7 +105,7 @@ pub(crate) fn push_pin<'t, A: Allocator>(
 }
 
 /// The first region of one name that clauses of a group name.
-fn first_group_region<'t>(clauses: Parts<'t, GroupClause<'t>>) -> Option<Token<'t>>
+pub fn first_group_region<'t>(clauses: Parts<'t, GroupClause<'t>>) -> Option<Token<'t>>
     ensures { option_map bytes_view result ≡ first_of region_named (group_clauses_of clauses.entry) }
 {
     let mut left = clauses;

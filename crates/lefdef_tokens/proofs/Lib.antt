@@ -1,3 +1,4 @@
+pub mod ExpectedWords
 pub mod Finding
 pub mod Joining
 pub mod LaneCounts
@@ -11,3 +12,5 @@ pub mod ShortWords
 pub mod SkippingRows
 pub mod Standing
 pub mod StopLemmas
+pub mod WindowMasks
+pub mod WindowSteps

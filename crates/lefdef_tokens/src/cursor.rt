@@ -6,6 +6,7 @@ ghost use Rattle.lefdef_tokens.specs.Runs.{ComesFirst};
 use crate::part_end::{ClauseEnd, PartEnd, StatementEnd};
 use crate::token::Token;
 use crate::token_run::TokenRun;
+use crate::unseen::Unseen;
 use crate::words;
 
 /// The tokens that are left, and how many were left where the first invalid number stood. Where the next token stands is
@@ -23,6 +24,7 @@ impl<'t> Cursor<'t> {
     ghost use Rattle.std.specs.Prelude.{◌∷◌, List, [], length, false, ℕ, IfSome, MatchOption};
     ghost use Rattle.form_meanings.specs.Words.{Gives, is_done, is_plain, is_place, is_plus, is_semicolon, is_stop, is_word, key, name_at, next_passes, next_word, noted, split_rest, word_that};
     ghost use Rattle.lefdef_tokens.specs.Pieces.{StandsFirst};
+    ghost use Rattle.lefdef_tokens.specs.Unseens.{IsFurther, unseen_rest};
     ghost use Rattle.lefdef_tokens.specs.Views.{IsIn, IsLater, rest_of, run_of, word_of, words_of};
 
     /// Before the first token of a run.
@@ -36,7 +38,7 @@ impl<'t> Cursor<'t> {
 
     /// Before the first of these tokens, where this was noted before.
     #[inline(always)]
-    fn at(tokens: TokenRun<'t>, bad: Option<usize>) -> Cursor<'t>
+    pub(crate) fn at(tokens: TokenRun<'t>, bad: Option<usize>) -> Cursor<'t>
         ensures tokens { result.tokens ≡ tokens.entry }
         ensures bad { result.bad ≡ bad }
     {
@@ -104,6 +106,22 @@ impl<'t> Cursor<'t> {
         let (token, cursor) = self.next()?;
         if words::is_word(token.bytes, word) {
             Some(cursor)
+        } else {
+            None
+        }
+    }
+
+    /// What comes after this very word, where the token behind it isn't looked for.
+    #[inline(always)]
+    pub fn past(self, word: &[u8]) -> Option<Unseen<'t>>
+        ensures gives { Gives unseen_rest result (key word.now (rest_of self.entry)) }
+        ensures further { IfSome result (λ x. IsFurther self.entry.tokens x.tokens) }
+    {
+        let first = self.first()?;
+        if words::is_word(first.bytes, word) {
+            let tokens = self.tokens.after(first);
+            let bad = self.bad;
+            Some(Unseen { tokens, bad })
         } else {
             None
         }

@@ -2,7 +2,8 @@
 //!
 //! Begin with `TokenRun::of_text`, all tokens of a text, or with `Scanner`, which gives them one at a time; then
 //! `Cursor::start` reads a run from left to right, a word at each call. `skip_plain` only counts tokens, up to where the
-//! next `;` may stand, many bytes at a time.
+//! next `;` may stand, many bytes at a time. A cursor knows where the next token stands; where a certain kind of word is
+//! expected, `Cursor::past` gives `Unseen`, which tries that kind without a look at other tokens.
 //!
 //! What the tokens of a text are is said in `statement_model/specs/Tokens`, what reading a word gives in
 //! `form_meanings/specs/Words`, and how a cursor is seen there in `specs/Views` (`rest_of`, `words_of`). `specs/Laws`
@@ -15,6 +16,7 @@
 
 mod bytes;
 mod cursor;
+mod expected;
 mod lanes;
 mod laws;
 mod part_end;
@@ -26,6 +28,8 @@ mod step;
 mod stops;
 mod token;
 mod token_run;
+mod unseen;
+mod windows;
 mod words;
 
 pub use cursor::Cursor;
@@ -37,4 +41,5 @@ pub use span::Span;
 pub use step::token_at;
 pub use token::Token;
 pub use token_run::TokenRun;
+pub use unseen::Unseen;
 pub use words::{is_name, is_place, is_plain, is_plus, is_quoted, is_semicolon, is_stop, is_word};

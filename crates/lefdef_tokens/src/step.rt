@@ -1,14 +1,14 @@
 //! The first token of what is left of a text.
 
-ghost use Rattle.std.specs.Prelude.{◌≡◌, ◌≤◌, ◌<◌, ◌+◌, length, IfOk, IfSome};
+ghost use Rattle.std.specs.Prelude.{◌≡◌, ◌≤◌, ◌<◌, ◌+◌, length, slice_index, IfOk, IfSome};
 ghost use Rattle.lefdef_tokens.specs.Pieces.{IsIn, IsNext, Steps, piece_of};
 ghost use Rattle.statement_model.specs.Tokens.{left_from};
 ghost use Rattle.lefdef_tokens.specs.Runs.{ComesFirst, FirstStands, token_from};
+ghost use Rattle.lefdef_tokens.specs.Windows.{IsNextLow, LowMarks};
 
-use crate::bytes::is_white;
 use crate::runs::{string_end, token_start, word_end};
-use crate::stops::first_stop;
 use crate::token::Token;
+use crate::windows::low_marks;
 use design_model::fault::Fault;
 use design_model::token_kind::TokenKind;
 
@@ -30,37 +30,47 @@ pub fn token_bounds(text: &[u8], pos: usize) -> Result<Option<(usize, usize)>, F
     Ok(Some((start, end)))
 }
 
-/// The first place from a place between two tokens on where no white space stands.
+/// The first of the 64 bytes from a place on that stands after `start` and is a blank or below one. The marks are those of
+/// the first 32, and there `start` is the first that has none.
 #[inline(always)]
-fn skip_white(text: &[u8], from: usize) -> usize
-    requires { from ≤ length text.now }
-    ensures low { from ≤ result }
-    ensures high { result ≤ length text.now }
-    ensures same { left_from text.now from ≡ left_from text.now result }
+fn next_low(text: &[u8], from: usize, start: usize, marks: u64) -> Option<usize>
+    requires room { from + 64 ≤ length text.now }
+    requires marks { LowMarks text.now from marks }
+    requires low { from ≤ start }
+    requires near { start ≤ from + 32 }
+    requires high { 32 < slice_index text.now start }
+    ensures { IfSome result (λ end. IsNextLow text.now start end) }
 {
-    let mut pos = from;
-    while pos < text.len() && text[pos] <= b' ' && is_white(text[pos]) {
-        pos += 1;
+    let later = marks >> (start - from);
+    if later != 0 {
+        return Some(start + later.trailing_zeros() as usize);
     }
-    pos
-}
-
-/// The same for a word of at most 16 bytes that only white space stands before, as most are; `None` says nothing.
-#[inline(always)]
-fn short_word(text: &[u8], from: usize) -> Option<(usize, usize)>
-    requires { from ≤ length text.now }
-    ensures { IfSome result (λ x. ComesFirst text.now from x.0 x.1) }
-{
-    let start = skip_white(text, from);
-    if text.len() - start < 17 || text[start] <= b'#' || text[start] == 127 {
-        return None;
-    }
-    let end = first_stop(text, start + 1, start + 17, b' ')?;
-    if is_white(text[end]) {
-        Some((start, end))
+    let marks = low_marks(text, from + 32);
+    if marks != 0 {
+        Some(from + 32 + marks.trailing_zeros() as usize)
     } else {
         None
     }
+}
+
+/// Where a word of some tokens that are left begins and ends, if it ends within 64 bytes, as most do, and no comment or
+/// string comes first; `None` says nothing.
+#[inline(always)]
+fn short_word(text: &[u8], from: usize) -> Option<(usize, usize)>
+    requires within { from ≤ length text.now }
+    requires some { 0 < length (left_from text.now from).pieces }
+    ensures { IfSome result (λ x. ComesFirst text.now from x.0 x.1) }
+{
+    if text.len() - from < 64 {
+        return None;
+    }
+    let marks = low_marks(text, from);
+    let start = from + marks.trailing_ones() as usize;
+    if text[start] <= b'#' {
+        return None;
+    }
+    let end = next_low(text, from, start, marks)?;
+    Some((start, end))
 }
 
 /// Where the first token of some that are left begins and ends, whatever it is.

@@ -1,7 +1,10 @@
 pub mod EachRecord
+pub mod EachSums
 pub mod GoodScales
+pub mod OneOfAll
 pub mod Overlaps
 pub mod PairSums
 pub mod SameLists
+pub mod SameSums
 pub mod SortedLines
 pub mod ToldKinds

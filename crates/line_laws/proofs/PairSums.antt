@@ -7,18 +7,18 @@ use Rattle.design_rules.specs.Families.{pair_lines}
 use Rattle.line_laws.specs.Lines.{times, SameThings}
 use Rattle.line_laws.specs.PairLaws.{PairsAreUnordered}
 
-times-append : (q : List ℕ) (xs ys : List (List ℕ)) → times q (xs ++ ys) ≡ times q xs + times q ys
+pub times-append : (q : List ℕ) (xs ys : List (List ℕ)) → times q (xs ++ ys) ≡ times q xs + times q ys
 times-append q xs ys = sum_by-append (λ x. cond (bytes_eq q x) 1 0) xs ys
 
-sum_by-same : {X : Type 0} (f g : X → ℕ) → ((x : X) → f x ≡ g x) → (xs : List X) → sum_by f xs ≡ sum_by g xs
+pub sum_by-same : {X : Type 0} (f g : X → ℕ) → ((x : X) → f x ≡ g x) → (xs : List X) → sum_by f xs ≡ sum_by g xs
 sum_by-same f g h [] = refl
 sum_by-same f g h (x ∷ xs) = let r = sum_by-same f g h xs in let e = h x in omega (arith, r, e, sum_by-cons f x xs, sum_by-cons g x xs)
 
-sum_by-plus : {X : Type 0} (f g : X → ℕ) (xs : List X) → sum_by (λ x. f x + g x) xs ≡ sum_by f xs + sum_by g xs
+pub sum_by-plus : {X : Type 0} (f g : X → ℕ) (xs : List X) → sum_by (λ x. f x + g x) xs ≡ sum_by f xs + sum_by g xs
 sum_by-plus f g [] = refl
 sum_by-plus f g (x ∷ xs) = let r = sum_by-plus f g xs in omega (arith, r, sum_by-cons f x xs, sum_by-cons g x xs, sum_by-cons (λ x. f x + g x) x xs)
 
-times-flat_map : {A : Type 0} (q : List ℕ) (f : A → List (List ℕ)) (xs : List A) → times q (flat_map f xs) ≡ sum_by (λ x. times q (f x)) xs
+pub times-flat_map : {A : Type 0} (q : List ℕ) (f : A → List (List ℕ)) (xs : List A) → times q (flat_map f xs) ≡ sum_by (λ x. times q (f x)) xs
 times-flat_map q f [] = refl
 times-flat_map q f (x ∷ xs) = let r = times-flat_map q f xs in omega (arith, r, times-append q (f x) (flat_map f xs), sum_by-cons (λ x. times q (f x)) x xs)
 

@@ -1,3 +1,10 @@
 pub mod BoxLemmas
 pub mod CountLemmas
+pub mod FitLemmas
+pub mod HeightLemmas
+pub mod PatternLemmas
+pub mod Ranges
+pub mod SkipLemmas
 pub mod StepLemmas
+pub mod SurroundingLemmas
+pub mod SweepLemmas

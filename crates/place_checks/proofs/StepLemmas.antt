@@ -18,12 +18,12 @@ use Rattle.design_rules.specs.Boxes.{Boxed, box_at, component_box}
 use Rattle.statement_reader.specs.declared.grammar.Read.{Read}
 use Rattle.def_reader.specs.declared.statement.Statement.{Statement}
 use Rattle.def_reader.specs.RecordViews.{record_of}
-use Rattle.place_checks.specs.declared.boxes.PlacedBox.{PlacedBox}
+use Rattle.place_checks.specs.declared.placed_box.PlacedBox.{PlacedBox}
 use Rattle.place_checks.specs.Views.{boxed_view, records_view}
 
 -- the box of a component that is placed or fixed, of a known macro
 pub known_box : (library : Library) (u : ℕ) (c : Component) (status : Status) (at : Coordinates) (o : Orient) (m : Macro) (box : Option Boxed) → Some (placed status at o) ≡ placing c.clauses
-    → (status ≡ Placed) ⊎ (status ≡ Fixed) → Some m ≡ macro_named library c.cell → box ≡ box_at u c.name at o m → box ≡ component_box library u c
+    → (status ≡ Placed) ⊎ (status ≡ Fixed) → Some m ≡ macro_named library c.cell → box ≡ box_at u c at o m → box ≡ component_box library u c
 known_box library u c Placed at o m box is either known made = rw (← is, ← known) made
 known_box library u c Fixed at o m box is either known made = rw (← is, ← known) made
 known_box library u c Cover at o m box is (inl e) known made = absurd (cc)

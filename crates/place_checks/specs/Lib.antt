@@ -1,2 +1,11 @@
 pub mod Corners
+pub mod FenceLines
+pub mod Heights
+pub mod IndexViews
+pub mod Patterns
+pub mod PlaceViews
+pub mod RowEdges
+pub mod RowFits
+pub mod RowSizes
+pub mod Sweep
 pub mod Views

@@ -1,5 +1,6 @@
 -- Statements that were read, boxes and reports of the program as those of the definitions.
 use Rattle.std.specs.Prelude.{ℕ, List, map}
+use Rattle.std.specs.Option.{option_map}
 use Rattle.design_model.specs.declared.diagnostic.Diag.{Diag}
 use Rattle.design_model.specs.declared.mode.Mode.{Mode}
 use Rattle.design_model.specs.Lines.{diag_text}
@@ -9,14 +10,22 @@ use Rattle.design_rules.specs.Boxes.{Boxed}
 use Rattle.statement_reader.specs.declared.grammar.Read.{Read}
 use Rattle.def_reader.specs.declared.statement.Statement.{Statement}
 use Rattle.def_reader.specs.RecordViews.{record_of}
-use Rattle.place_checks.specs.declared.boxes.PlacedBox.{PlacedBox}
+use Rattle.cell_library.specs.Records.{word_view}
+use Rattle.place_checks.specs.declared.placed_box.PlacedBox.{PlacedBox}
 
 -- what statements say, in order
 abbrev pub records_view : List (Read Statement Mode) → List Record
 records_view = map record_of
 
 abbrev pub boxed_view : PlacedBox → Boxed
-boxed_view b = record { name = b.name.now; box = rectangle_of b.rect }
+boxed_view b = record {
+  name = b.name.now;
+  box = rectangle_of b.rect;
+  orient = b.orient;
+  class = option_map word_view b.class;
+  sites = map word_view b.sites.now;
+  region = option_map word_view b.region;
+}
 
 -- the lines of reports
 abbrev pub diag_texts : {A : Type 0} → List (Diag A) → List (List ℕ)

@@ -4,42 +4,33 @@ ghost use Rattle.std.specs.Prelude.{◌≡◌, ◌≤◌, ◌<◌, IfOk, map, na
 ghost use Rattle.std.specs.Option.{option_map};
 ghost use Rattle.design_model.specs.Geometry.{IsNearRectangle};
 ghost use Rattle.design_model.specs.Views.{rectangle_of};
+ghost use Rattle.lef_grammar.specs.Firsts.{first_of};
+ghost use Rattle.def_grammar.specs.Placing.{placing};
+ghost use Rattle.entry_rules.specs.References.{region_of_clause};
 ghost use Rattle.design_rules.specs.Boxes.{boundary_of, box_at, box_of, boxes, is_cover, scale};
 ghost use Rattle.def_parts.specs.PointViews.{point_view};
 ghost use Rattle.def_reader.specs.StatementViews.{record_view};
+ghost use Rattle.place_parts.specs.ComponentViews.{clause_view, component_view};
 ghost use Rattle.cell_library.specs.CellViews.{cell_view};
+ghost use Rattle.cell_library.specs.Numbers.{IsWithin};
+ghost use Rattle.cell_library.specs.Records.{word_view};
 ghost use Rattle.place_checks.specs.Corners.{corner, in_order};
 ghost use Rattle.place_checks.specs.Views.{boxed_view, records_view};
 
+use crate::copied::copied;
+use crate::corners::place_of;
+use crate::placed_box::PlacedBox;
+use crate::scale::scale_of;
 use cell_library::library::Library;
 use cell_library::macro_view::MacroView;
-use def_parts::number::int_of;
 use def_reader::read_statement::Read;
 use def_reader::statement::Statement;
-use design_model::geometry::{Point, Rect, Status};
+use design_model::geometry::{Rect, Status};
+use entry_references::places::first_region;
 use lefdef_tokens::is_word;
 use orient_geom::place_box;
-use place_parts::components::{Clause, Placement};
+use place_parts::components::{Clause, ComponentParts, Placement};
 use std::alloc::{AllocError, Allocator};
-
-/// A component that takes part: its name and its box.
-#[derive(Clone, Copy)]
-pub struct PlacedBox<'t> {
-    pub name: &'t [u8],
-    pub rect: Rect,
-}
-
-/// Database units per micron: those of `UNITS`.
-fn scale_of(records: &[Read<'_>]) -> u32
-    ensures { result ≡ scale (records_view records.now) }
-{
-    for read in records {
-        if let Statement::Units(number) = read.statement {
-            return int_of(number.bytes).unsigned_abs();
-        }
-    }
-    1
-}
 
 /// The rectangle between the origin and a corner.
 fn corner_box(width: i64, height: i64) -> Rect
@@ -47,6 +38,7 @@ fn corner_box(width: i64, height: i64) -> Rect
     requires low { nat_abs height ≤ 100000000000 }
     ensures spans { rectangle_of result ≡ in_order (corner width height) }
     ensures near { IsNearRectangle (rectangle_of result) }
+    ensures small { IsWithin 100000000000 (rectangle_of result) }
 {
     Rect {
         x1: width.min(0),
@@ -62,6 +54,7 @@ fn boundary_of<A: Allocator + Copy>(cell: MacroView<'_, '_, A>, scale: u32) -> R
     requires few { scale ≤ 100000 }
     ensures spans { rectangle_of result ≡ in_order (boundary_of scale (cell_view cell.entry).cell.size) }
     ensures near { IsNearRectangle (rectangle_of result) }
+    ensures small { IsWithin 100000000000 (rectangle_of result) }
 {
     let size = cell.size(scale);
     corner_box(size.x, size.y)
@@ -77,32 +70,53 @@ fn is_cover<A: Allocator + Copy>(cell: MacroView<'_, '_, A>) -> bool
     }
 }
 
-/// The box of a component of this name that is placed so, where its macro is no cover.
+/// The first region that a component names.
+fn region_of<'t>(parts: &ComponentParts<'t>) -> Option<&'t [u8]>
+    ensures { option_map word_view result ≡ first_of region_of_clause (component_view parts.now).clauses }
+{
+    let name = first_region(copied(&parts.clauses))?;
+    Some(name.bytes)
+}
+
+/// The clause that places a component.
+fn placing_of<'t>(parts: &ComponentParts<'t>) -> Option<Clause<'t>>
+    ensures { option_map clause_view result ≡ placing (component_view parts.now).clauses }
+{
+    copied(parts).placing()
+}
+
+/// The box of a component that is placed so, where its macro is no cover.
 fn box_at<'t, A: Allocator + Copy>(
-    cell: MacroView<'_, '_, A>,
+    cell: MacroView<'t, '_, A>,
     scale: u32,
-    name: &'t [u8],
+    parts: &ComponentParts<'t>,
     placement: Placement<'t>,
 ) -> Option<PlacedBox<'t>>
     requires some { 0 < scale }
     requires few { scale ≤ 100000 }
     ensures { let placed = placement.entry in
-        option_map boxed_view result ≡ box_at scale name.entry.now (point_view placed.at) placed.orient (cell_view cell.entry).cell }
+        option_map boxed_view result ≡ box_at scale (component_view parts.now) (point_view placed.at) placed.orient (cell_view cell.entry).cell }
 {
     if is_cover(cell) {
         return None;
     }
-    let at = Point {
-        x: int_of(placement.at.x.bytes) as i64,
-        y: int_of(placement.at.y.bytes) as i64,
-    };
-    let rect = place_box(placement.orient, boundary_of(cell, scale), at);
-    Some(PlacedBox { name, rect })
+    Some(PlacedBox {
+        name: parts.name.bytes,
+        rect: place_box(
+            placement.orient,
+            boundary_of(cell, scale),
+            place_of(placement.at),
+        ),
+        orient: placement.orient,
+        class: cell.cell_class(),
+        sites: cell.sites(),
+        region: region_of(parts),
+    })
 }
 
 /// The box of a component that takes part: one that is placed or fixed, of a known macro that is no cover.
 fn box_of<'t, A: Allocator + Copy>(
-    library: &Library<'_, A>,
+    library: &'t Library<'_, A>,
     scale: u32,
     statement: Statement<'t>,
 ) -> Option<PlacedBox<'t>>
@@ -113,14 +127,13 @@ fn box_of<'t, A: Allocator + Copy>(
     let Some(parts) = statement.component() else {
         return None;
     };
-    let name = parts.name.bytes;
-    let cell = parts.cell.bytes;
-    let Some(Clause::Placed(placement)) = parts.placing() else {
+    let Some(Clause::Placed(placement)) = placing_of(&parts) else {
         return None;
     };
     match placement.status {
         Status::Placed | Status::Fixed => {
-            box_at(library.macro_of(cell)?, scale, name, placement)
+            let cell = library.macro_of(parts.cell.bytes)?;
+            box_at(cell, scale, &parts, placement)
         }
         Status::Cover => None,
     }
@@ -129,7 +142,7 @@ fn box_of<'t, A: Allocator + Copy>(
 /// The boxes of all components that take part, in the order of the text.
 pub fn boxes_of<'t, A: Allocator + Copy>(
     alloc: A,
-    library: &Library<'_, A>,
+    library: &'t Library<'_, A>,
     records: &[Read<'t>],
 ) -> Result<Vec<PlacedBox<'t>, A>, AllocError>
     requires some { 0 < scale (records_view records.now) }

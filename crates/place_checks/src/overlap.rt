@@ -1,12 +1,14 @@
 //! Components that lie on one another.
 
-ghost use Rattle.std.specs.Prelude.{◌≡◌, ◌++◌, ◌∷◌, [], IfOk, OnOk, map};
+ghost use Rattle.std.specs.Prelude.{◌≡◌, ◌++◌, ◌∷◌, [], IfOk, OnOk, map, filter, int_lt, if◌then◌else◌};
 ghost use Rattle.design_model.specs.Lines.{diag_text};
 ghost use Rattle.design_rules.specs.Families.{lines_with, pair_lines};
 ghost use Rattle.design_rules.specs.OverlapLines.{greater, lesser, overlap_line, overlap_of};
+ghost use Rattle.place_checks.specs.Sweep.{InSweepOrder};
 ghost use Rattle.place_checks.specs.Views.{boxed_view, diag_texts};
 
-use crate::boxes::PlacedBox;
+use crate::placed_box::PlacedBox;
+use crate::sweep::{begin_above, begin_below};
 use design_model::diagnostic::{Diag, DiagKind};
 use design_model::sequence::Sequence;
 use orient_geom::overlaps;
@@ -44,28 +46,64 @@ fn overlap<'t, A: Allocator + Copy>(
     })
 }
 
+/// Adds the report on two boxes, where they overlap.
+fn push_overlap<'t, A: Allocator + Copy>(
+    reports: &mut Vec<Diag<'t, A>, A>,
+    first: &PlacedBox<'t>,
+    other: &PlacedBox<'t>,
+) -> Result<(), AllocError>
+    ensures { OnOk result (diag_texts reports.new.items ≡ diag_texts reports.old.items ++ overlap_of (boxed_view first.now) (boxed_view other.now)) }
+{
+    if overlaps(&first.rect, &other.rect) {
+        let alloc = *reports.allocator();
+        reports.push(overlap(alloc, first.name, other.name)?)?;
+    }
+    Ok(())
+}
+
+/// What is left to compare with a box of those behind one: all, or, where that one is not left of the box's right edge,
+/// those that begin above it.
+fn left_behind<'b, 't>(
+    behind: &'b [PlacedBox<'t>],
+    one: &PlacedBox<'t>,
+    first: &PlacedBox<'t>,
+) -> &'b [PlacedBox<'t>]
+    requires { InSweepOrder behind.now }
+    ensures those { result.now ≡ (if int_lt one.entry.now.rect.x1 first.entry.now.rect.x2 then behind.entry.now else filter (λ b. int_lt one.entry.now.rect.y1 b.rect.y1) behind.entry.now) }
+    ensures sorted { InSweepOrder result.now }
+{
+    if one.rect.x1 < first.rect.x2 {
+        return behind;
+    }
+    begin_above(behind, &one.rect)
+}
+
 /// Adds a report for each of the other boxes that a box overlaps.
 fn push_overlaps<'t, A: Allocator + Copy>(
     reports: &mut Vec<Diag<'t, A>, A>,
     first: &PlacedBox<'t>,
     others: &[PlacedBox<'t>],
 ) -> Result<(), AllocError>
+    requires { InSweepOrder others.now }
     ensures { OnOk result (diag_texts reports.new.items ≡ diag_texts reports.old.items ++ lines_with overlap_of (boxed_view first.now) (map boxed_view others.now)) }
 {
-    let alloc = *reports.allocator();
-    for other in others {
-        if overlaps(&first.rect, &other.rect) {
-            reports.push(overlap(alloc, first.name, other.name)?)?;
-        }
+    let mut left = begin_below(others, &first.rect);
+    while let Some((next, behind)) = left.split_first() {
+        push_overlap(reports, first, next)?;
+        left = left_behind(behind, next, first);
     }
     Ok(())
 }
 
 /// The reports on all pairs of components that overlap, in the order of the boxes.
+///
+/// Each box is compared with those behind it alone that begin below its upper edge and, at their height, left of its
+/// right edge.
 pub fn overlaps_of<'t, A: Allocator + Copy>(
     alloc: A,
     boxes: &[PlacedBox<'t>],
 ) -> Result<Vec<Diag<'t, A>, A>, AllocError>
+    requires { InSweepOrder boxes.now }
     ensures { IfOk result (λ v. diag_texts v.items ≡ pair_lines overlap_of (map boxed_view boxes.now)) }
 {
     let mut reports = Vec::new(alloc);

@@ -62,8 +62,8 @@ fn a_session_from_its_opening_to_its_text(rt: HostRuntime) -> Result<(), Fail> {
     assert_eq!(rt; session.text_len(), 271);
     assert_eq!(rt; session.text_edit(179, 180, b"3"), Ok(done));
     let lines = session.diagnostics()?;
-    assert_eq!(rt; lines.len(), 2);
-    let wanted: [&[u8]; 2] = [b"count COMPONENTS 3 2", b"overlap u1 u2"];
+    assert_eq!(rt; lines.len(), 3);
+    let wanted: [&[u8]; 3] = [b"count COMPONENTS 3 2", b"offsite u1", b"overlap u1 u2"];
     for (line, text) in lines.as_slice().iter().zip(wanted) {
         assert_eq!(rt; line.text.as_slice(), text);
     }
@@ -94,7 +94,7 @@ fn placed(alloc: Global, lef: &[u8], def: &[u8]) -> Result<(usize, Vec<u8>), Fai
 #[test]
 fn the_calls_that_the_readme_shows(rt: HostRuntime) -> Result<(), Fail> {
     let (diagnostics, text) = placed(rt.alloc(), INVERTER, TWO_INVERTERS)?;
-    assert_eq!(rt; diagnostics, 1);
+    assert_eq!(rt; diagnostics, 2);
     assert_eq!(rt; text.len(), 273);
     Ok(())
 }

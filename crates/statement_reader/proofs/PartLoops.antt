@@ -5,14 +5,7 @@ use Rattle.form_meanings.specs.Words.{◌>>=◌, Rest, next_passes}
 use Rattle.form_meanings.specs.Meaning.{repeat, items, item_then}
 use Rattle.std.proofs.lemmas.Bool.{cases_Bool}
 use Rattle.form_meanings.proofs.Steps.{some_same}
-
--- what is left after a reading
-abbrev pub left_after : {A : Type 0} → Option (A × Rest) → Option Rest
-left_after read = read >>= λ x. Some x.1
-
--- so much of a repetition is read that this is left of it, and may be repeated so often
-pub record Going {A : Type 0} (t : List ℕ → Bool) (f : Rest → Option (A × Rest)) (n : ℕ) (r : Rest) (left : ℕ) (here : Rest) : Type 0 where
-  pub going : left_after (repeat n t f r) ≡ left_after (repeat left t f here)
+use Rattle.statement_reader.specs.PartViews.{left_after, Going}
 
 -- one value before the others
 abbrev pub put_first : {A : Type 0} → A → Option (List A × Rest) → Option (List A × Rest)
@@ -54,6 +47,19 @@ unfolding repeat
 going_on t f n count i r here later x lt is reads so_far =
     let k : count - i ≡ suc (count - (i + 1)) = omega arith in
     let one : left_after (repeat (count - i) t f here) ≡ left_after (repeat (count - (i + 1)) t f later) = rw (k, is, reads) (left_after_more x (repeat (count - (i + 1)) t f later)) in
+    record { going = so_far.going ∙ one }
+
+-- a value was passed
+left_after_one : {A : Type 0} (o : Option (A × Rest)) (later : Rest) (g : Rest → Option (List A × Rest)) → left_after o ≡ Some later → left_after (one_more o g) ≡ left_after (g later)
+left_after_one None later g e = absurd (cc)
+left_after_one (Some x) later g e = left_after_more x.0 (g x.1) ∙ ap (λ (r : Rest). left_after (g r)) (some_same x.1 later e)
+
+pub going_past : {A : Type 0} (t : List ℕ → Bool) (f : Rest → Option (A × Rest)) (n most i : ℕ) (r here later : Rest) → i < most → next_passes t here ≡ true → left_after (f here) ≡ Some later
+    → Going t f n r (most - i) here → Going t f n r (most - (i + 1)) later
+unfolding repeat
+going_past t f n most i r here later lt is passes so_far =
+    let k : most - i ≡ suc (most - (i + 1)) = omega arith in
+    let one : left_after (repeat (most - i) t f here) ≡ left_after (repeat (most - (i + 1)) t f later) = rw (k, is) (left_after_one (f here) later (repeat (most - (i + 1)) t f) passes) in
     record { going = so_far.going ∙ one }
 
 none_left_after : {A : Type 0} (o : Option (A × Rest)) → left_after o ≡ None → o ≡ None

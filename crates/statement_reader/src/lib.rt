@@ -2,7 +2,7 @@
 //!
 //! A kind of text implements `grammar::Statement` for its statements. Then begin with `read_statement`, one statement from
 //! a position on, or with `text::Statements`, all of them in order. `parts::read_parts` reads a part that is repeated
-//! within a statement, and `boundary::statement_run` finds where a statement ends.
+//! within a statement (`read_usual_parts`, where most have a usual form that is passed faster than it is read), and `boundary::statement_run` finds where a statement ends.
 //!
 //! What reading gives is said in `statement_model/specs/Reading`, by a grammar of `statement_model/specs/Grammar`;
 //! `specs/StatementViews` ties the program to it, and `laws` says how a whole text is read statement by statement.

@@ -1,10 +1,11 @@
 //! Parts of a statement that are repeated, read one at a time from its text.
 
-ghost use Rattle.std.specs.Prelude.{◌≡◌, ◌<◌, ℕ, Bool, List, ◌++◌, length, take, Option, Some, IfSome, MatchOption};
+ghost use Rattle.std.specs.Prelude.{◌≡◌, ◌<◌, ℕ, Bool, List, ◌++◌, length, take, true, Option, Some, IfSome, MatchOption};
 ghost use Rattle.form_meanings.specs.Words.{Rest, Gives, next_passes};
-ghost use Rattle.form_meanings.specs.Meaning.{read_many, items};
+ghost use Rattle.form_meanings.specs.Meaning.{read_many, items, repeat};
+ghost use Rattle.lefdef_tokens.specs.Unseens.{Finds};
 ghost use Rattle.lefdef_tokens.specs.Views.{pieces_of, rest_of, words_of, IsLater};
-ghost use Rattle.statement_reader.specs.PartViews.{IsFirst, IsStep};
+ghost use Rattle.statement_reader.specs.PartViews.{Going, IsFirst, IsStep, left_after};
 
 use lefdef_tokens::{Cursor, TokenRun};
 use std::marker::PhantomData;
@@ -37,6 +38,15 @@ pub trait Part<'t>: Sized + Copy + Drop {
     ghost spelled: { (r : Rest) (p : Value × Rest) → reads r ≡ Some p → r.words ≡ spells p.0 ++ p.1.words };
 }
 
+/// A part that has a most usual form, in which it is passed faster than it is read.
+pub trait UsualPart<'t>: Part<'t> {
+    /// What comes after the part that is next, where it has that form; `None` says nothing.
+    fn skip(cursor: Cursor<'t>) -> Option<Cursor<'t>>
+        ensures begins { IfSome result (λ x. next_passes Self.test (rest_of cursor.entry) ≡ true) }
+        ensures gives { Finds rest_of result (left_after (Self.reads (rest_of cursor.entry))) }
+        ensures later { IfSome result (λ x. IsLater cursor.entry x) };
+}
+
 /// Parts that are left, at most `most` of them. They are read when they are asked for, and take no memory.
 #[derive(Clone, Copy)]
 pub struct Parts<'t, P> {
@@ -56,6 +66,50 @@ fn next_begins<'t, P: Part<'t>>(cursor: Cursor<'t>) -> bool
     }
 }
 
+/// What comes after the next parts of the most usual form, and how many more parts there can be, of at most `most`.
+#[inline(never)]
+fn skip_usual<'t, P: UsualPart<'t>>(cursor: Cursor<'t>, most: usize) -> (Cursor<'t>, usize)
+    ensures going { Going P.test P.reads most (rest_of cursor.entry) result.1 (rest_of result.0) }
+    ensures later { IsLater cursor.entry result.0 }
+{
+    let mut left = cursor;
+    for passed in 0..most {
+        let Some(later) = P::skip(left) else {
+            return (left, most - passed);
+        };
+        left = later;
+    }
+    (left, 0)
+}
+
+/// What comes after the next parts, which are at most `most`; or `None` where one of them has no form.
+#[inline(always)]
+fn pass_parts<'t, P: Part<'t>>(cursor: Cursor<'t>, most: usize) -> Option<Cursor<'t>>
+    ensures gives { Gives rest_of result (left_after (repeat most P.test P.reads (rest_of cursor.entry))) }
+    ensures later { IfSome result (λ x. IsLater cursor.entry x) }
+{
+    let mut left = cursor;
+    for _ in 0..most {
+        if !next_begins::<P>(left) {
+            return Some(left);
+        }
+        let (_, later) = P::read(left)?;
+        left = later;
+    }
+    let goes_on = next_begins::<P>(left);
+    if goes_on { None } else { Some(left) }
+}
+
+/// The same, where a part has not its most usual form.
+#[cold]
+#[inline(never)]
+fn pass_unusual<'t, P: UsualPart<'t>>(cursor: Cursor<'t>, most: usize) -> Option<Cursor<'t>>
+    ensures gives { Gives rest_of result (left_after (repeat most P.test P.reads (rest_of cursor.entry))) }
+    ensures later { IfSome result (λ x. IsLater cursor.entry x) }
+{
+    pass_parts::<P>(cursor, most)
+}
+
 /// The parts that come next, and what comes after them; or `None` where one of them has no form.
 #[inline(always)]
 pub fn read_parts<'t, P: Part<'t>>(cursor: Cursor<'t>) -> Option<(Parts<'t, P>, Cursor<'t>)>
@@ -63,24 +117,51 @@ pub fn read_parts<'t, P: Part<'t>>(cursor: Cursor<'t>) -> Option<(Parts<'t, P>, 
     ensures later { IfSome result (λ x. IsLater cursor.entry x.1) }
     ensures lent { IfSome result (λ x. x.0.cursor.tokens.text.now ≡ cursor.entry.tokens.text.now) }
 {
-    let count = cursor.len();
+    let most = cursor.len();
     let all = Parts {
         cursor,
-        most: count,
+        most,
         of: PhantomData,
     };
-    let mut left = cursor;
-    for _ in 0..count {
-        if !next_begins::<P>(left) {
-            return Some((all, left));
-        }
-        let (_, later) = P::read(left)?;
-        left = later;
-    }
+    let later = pass_parts::<P>(cursor, most)?;
+    Some((all, later))
+}
+
+/// The same, where most parts have their most usual form.
+#[inline(always)]
+pub fn read_usual_parts<'t, P: UsualPart<'t>>(
+    cursor: Cursor<'t>,
+) -> Option<(Parts<'t, P>, Cursor<'t>)>
+    ensures gives { Gives (λ x. (items x.0.most P.test P.reads (rest_of x.0.cursor), rest_of x.1)) result (read_many P.test P.reads (rest_of cursor.entry)) }
+    ensures later { IfSome result (λ x. IsLater cursor.entry x.1) }
+    ensures lent { IfSome result (λ x. x.0.cursor.tokens.text.now ≡ cursor.entry.tokens.text.now) }
+{
+    let most = cursor.len();
+    let all = Parts {
+        cursor,
+        most,
+        of: PhantomData,
+    };
+    let (left, fewer) = skip_usual::<P>(cursor, most);
     if next_begins::<P>(left) {
-        None
+        let later = pass_unusual::<P>(left, fewer)?;
+        Some((all, later))
     } else {
         Some((all, left))
+    }
+}
+
+/// What comes after the next parts, where each has its most usual form; `None` says nothing.
+#[inline(always)]
+pub fn skip_parts<'t, P: UsualPart<'t>>(cursor: Cursor<'t>) -> Option<Cursor<'t>>
+    ensures gives { Finds (λ x. (items (length (rest_of cursor.entry).words) P.test P.reads (rest_of cursor.entry), rest_of x)) result (read_many P.test P.reads (rest_of cursor.entry)) }
+    ensures later { IfSome result (λ x. IsLater cursor.entry x) }
+{
+    let (later, _) = skip_usual::<P>(cursor, cursor.len());
+    if next_begins::<P>(later) {
+        None
+    } else {
+        Some(later)
     }
 }
 

@@ -1,11 +1,12 @@
 -- Few digits spell a small number.
-use Rattle.std.proofs.Common.{◌≡◌, ℕ, zero, suc, ◌+◌, ◌-◌, ◌*◌, ◌<◌, ◌≤◌, Bool, true, false, ◌&&◌, List, [], ◌∷◌, length, take, arith, refl, subst, ◌∙◌, le_refl}
+use Rattle.std.proofs.Common.{◌≡◌, ℕ, zero, suc, ◌+◌, ◌-◌, ◌*◌, ◌<◌, ◌≤◌, Bool, true, false, ◌&&◌, ◌==◌, List, [], ◌∷◌, length, take, arith, refl, subst, ◌∙◌, le_refl}
 use Rattle.std.proofs.lemmas.List.{take_all}
 use Rattle.std.specs.Prelude.{fold, nat_lt, nat_le, IsOk}
 use Rattle.std.specs.List.{list_all}
 use Rattle.std.specs.Char.{is_ascii_digit}
 use Rattle.std.proofs.lemmas.Bool.{lt-ltb, le-leb}
 use Rattle.std.proofs.lemmas.Bool.Decides.{nat_tests}
+use Rattle.unit_numbers.specs.Laws.{FewDigitsAreWhole}
 use Rattle.design_model.specs.Units.{one_more, decimal_value, unsigned, whole}
 
 digit_high : (d : ℕ) → is_ascii_digit d ≡ true → d - 48 ≤ 9
@@ -50,13 +51,17 @@ nine_digits = refl
 nine : (k : ℕ) → k ≤ 9 → bound k 1 ≤ 1000000000
 nine k h = subst (λ (n : ℕ). bound k 1 ≤ n) nine_digits (bound_longer (9 - k) k 9 1 (omega arith))
 
+few_digits_within : (ds : List ℕ) → length ds ≤ 9 → list_all is_ascii_digit ds ≡ true → decimal_value ds ≤ 2147483647
+few_digits_within ds few digits =
+    let below = spelled_below ds 0 1 (omega arith) digits in
+    let most = nine (length ds) few in
+    omega arith
+
 short_digits : (text : List ℕ) → 0 < length (unsigned text) → length (unsigned text) ≤ 9 → list_all is_ascii_digit (unsigned text) ≡ true → IsOk (whole text)
 unfolding whole
 short_digits text some few digits =
     let any : nat_lt 0 (length (unsigned text)) ≡ true = lt-ltb _ _ some in
-    let below = spelled_below (unsigned text) 0 1 (omega arith) digits in
-    let most = nine (length (unsigned text)) few in
-    let within : nat_le (decimal_value (unsigned text)) 2147483647 ≡ true = le-leb _ _ (omega arith) in
+    let within : nat_le (decimal_value (unsigned text)) 2147483647 ≡ true = le-leb _ _ (few_digits_within (unsigned text) few digits) in
     rw (any, digits, within) refl
 
 -- all of a body was passed
@@ -64,3 +69,16 @@ pub short_body : (text body : List ℕ) (n : ℕ) → body ≡ unsigned text →
 short_body text body n is some few all digits =
     short_digits text (subst (λ (b : List ℕ). 0 < length b) is some) (subst (λ (b : List ℕ). length b ≤ 9) is few)
     (subst (λ (b : List ℕ). list_all is_ascii_digit b ≡ true) (take_all n body all ∙ is) digits)
+
+digit_is_no_sign : (b : ℕ) → is_ascii_digit b ≡ true → ((b == 43) ≡ false) × ((b == 45) ≡ false)
+digit_is_no_sign b digit = (grind (arith, nat_tests), grind (arith, nat_tests))
+
+-- one to nine digits have no sign
+pub few_digits : FewDigitsAreWhole
+unfolding whole
+few_digits [] some few = cc
+few_digits (b ∷ bs) some few =
+    let all : list_all is_ascii_digit (b ∷ bs) ≡ true = (both (nat_lt 0 (length (b ∷ bs))) (list_all is_ascii_digit (b ∷ bs)) some).1 in
+    let first = digit_is_no_sign b (both (is_ascii_digit b) (list_all is_ascii_digit bs) all).0 in
+    let within : nat_le (decimal_value (b ∷ bs)) 2147483647 ≡ true = le-leb _ _ (few_digits_within (b ∷ bs) few all) in
+    rw (first.0, first.1, some, within) refl

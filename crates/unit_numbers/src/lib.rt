@@ -22,6 +22,6 @@ mod whole_text;
 
 pub use distance::{Microns, Units};
 pub use distance_text::microns;
-pub use laws::nearest_is_unique;
+pub use laws::{few_digits_are_whole, nearest_is_unique};
 pub use printed::print;
 pub use whole_text::{is_whole, whole};

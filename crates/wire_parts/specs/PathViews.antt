@@ -1,12 +1,15 @@
 -- Points, vias and paths of the program as those of the definitions, and what they lend from a text.
-use Rattle.std.specs.Prelude.{ℕ, List, codes, IfSome}
+use Rattle.std.specs.Prelude.{ℕ, List, Option, codes, IfSome}
 use Rattle.std.specs.Option.{option_map}
+use Rattle.form_meanings.specs.Words.{Rest}
 use Rattle.form_meanings.specs.Meaning.{items}
 use Rattle.statement_model.specs.Form.{Form, number, read, ◌▸◌, ◌⨟◌}
 use Rattle.def_grammar.specs.Limits.{is_copies}
 use Rattle.def_grammar.specs.Wiring.{WirePoint, WireVia, wire_via, ViaArray, SpecialVia, special_via, PathItem, path_mask, path_virtual, path_rectangle, path_point, path_via, goes_on, path_item, Path}
 use Rattle.lefdef_tokens.specs.Views.{IsIn, rest_of}
+use Rattle.lefdef_tokens.specs.Unseens.{unseen_rest}
 use Rattle.lefdef_tokens.specs.declared.token.Token.{Token}
+use Rattle.lefdef_tokens.specs.declared.unseen.Unseen.{Unseen}
 use Rattle.statement_reader.specs.declared.parts.Parts.{Parts}
 use Rattle.def_parts.specs.ClauseViews.{MaskIn, mask_view}
 use Rattle.def_parts.specs.PointViews.{CornersIn, PartsIn, PointIn, corners_view, point_view}
@@ -20,6 +23,10 @@ use Rattle.wire_parts.specs.declared.paths.Path as code_path
 
 abbrev pub wire_point_view : code_point.WirePoint → WirePoint
 wire_point_view p = record { at = point_view p.at; extension = mask_view p.extension }
+
+-- how far a wire goes past a point, and what is left after it
+abbrev pub extension_view : Option Token × Unseen → Option (List ℕ) × Rest
+extension_view x = (mask_view x.0, unseen_rest x.1)
 
 abbrev pub wire_via_view : code_via.WireVia → WireVia
 wire_via_view v = record { name = v.name.bytes.now; orient = v.orient }

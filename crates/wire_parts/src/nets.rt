@@ -14,7 +14,7 @@ use crate::terminals::Terminal;
 use crate::wiring::{Wiring, wiring_at};
 use def_parts::clauses::{KeptClause, kept_clause_at};
 use lefdef_tokens::{Cursor, Token, TokenRun, is_plus};
-use statement_reader::parts::{Part, Parts, read_parts};
+use statement_reader::parts::{Part, Parts, read_parts, read_usual_parts};
 
 /// A clause of an entry, without its `+`.
 #[derive(Clone, Copy, Drop)]
@@ -160,7 +160,7 @@ fn net_at<'t>(cursor: Cursor<'t>) -> Option<(NetParts<'t>, Cursor<'t>)>
     ensures lent { IfSome result (λ x. NetIn cursor.entry.tokens.text.now x.0) }
 {
     let (name, cursor) = cursor.name()?;
-    let (terminals, cursor) = read_parts::<Terminal<'t>>(cursor)?;
+    let (terminals, cursor) = read_usual_parts::<Terminal<'t>>(cursor)?;
     let (clauses, cursor) = read_parts::<NetClause<'t>>(cursor)?;
     let parts = NetParts {
         name,

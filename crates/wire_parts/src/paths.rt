@@ -1,23 +1,28 @@
 //! Paths of wires: points, vias and rectangles (LEF/DEF 5.8 Language Reference, "Regular Wiring Statement" and "Special
 //! Wiring Statement").
 
-ghost use Rattle.std.specs.Prelude.{◌≡◌, ℕ, List, IfSome};
+ghost use Rattle.std.specs.Prelude.{◌≡◌, ℕ, List, codes, true, IfSome};
 ghost use Rattle.form_meanings.specs.Words.{Gives, is_place, next_passes};
-ghost use Rattle.statement_model.specs.Form.{Form, opt, read, spell};
+ghost use Rattle.statement_model.specs.Form.{Form, ◌◂◌, opt, read, spell};
 ghost use Rattle.def_grammar.specs.Parts.{orient};
 ghost use Rattle.def_grammar.specs.Wiring.{array_size, extension, goes_on, is_orient, net_path, special_path, path_item, special_via, via_array, wire_point, wire_rectangle, wire_start, wire_via};
+ghost use Rattle.lefdef_tokens.specs.Unseens.{Finds, IsFurther, unseen_rest};
 ghost use Rattle.lefdef_tokens.specs.Views.{IsIn, IsLater, rest_of};
 ghost use Rattle.def_parts.specs.ClauseViews.{MaskIn, mask_view};
 ghost use Rattle.def_parts.specs.PointViews.{CornersIn, corners_view, same, with_rest};
-ghost use Rattle.wire_parts.specs.PathViews.{array_counts, counts_view, net_path_view, special_path_view, ItemIn, PathIn, SpecialViaIn, ViaArrayIn, WirePointIn, WireViaIn, item_view, special_via_view, via_array_view, wire_point_view, wire_via_view};
+ghost use Rattle.statement_reader.specs.PartViews.{left_after};
+ghost use Rattle.wire_parts.specs.PathViews.{array_counts, counts_view, net_path_view, special_path_view, ItemIn, PathIn, SpecialViaIn, ViaArrayIn, extension_view, WirePointIn, WireViaIn, item_view, special_via_view, via_array_view, wire_point_view, wire_via_view};
 
 use def_parts::clauses::mask_at;
-use def_parts::number::{coordinate_at, copies_at, int_at, is_array, size_at};
+use def_parts::number::{
+    coordinate_at, copies_at, few_digits_at, few_digits_or_star_at, few_digits_size_at, int_at,
+    is_array, size_at,
+};
 use def_parts::point::Coordinates;
 use def_parts::points::{Corners, is_open, later_point_at, next_is_open, two_numbers_at};
 use design_model::geometry::Orient;
-use lefdef_tokens::{Cursor, Token, is_name, is_place, is_word};
-use statement_reader::parts::{Part, Parts, read_parts};
+use lefdef_tokens::{Cursor, Token, Unseen, is_name, is_place, is_word};
+use statement_reader::parts::{Part, Parts, UsualPart, read_usual_parts, skip_parts};
 
 /// A point of a path, and how far the wire goes past it. A `*` repeats the coordinate of the path's last point.
 #[derive(Clone, Copy)]
@@ -95,10 +100,41 @@ fn next_is_place<'t>(cursor: Cursor<'t>) -> bool
     }
 }
 
-/// `( x y [extension] )`, which begins a path
+/// `[extension] )`, where the extension has one to nine digits; `None` says nothing
+#[inline(always)]
+fn short_end_at<'t>(left: Unseen<'t>) -> Option<(Option<Token<'t>>, Unseen<'t>)>
+    ensures gives { Finds extension_view result (read (extension ◂ codes ")") (unseen_rest left.entry)) }
+    ensures further { IfSome result (λ x. IsFurther left.entry.tokens x.1.tokens) }
+    ensures lent { IfSome result (λ x. MaskIn left.entry.tokens.text.now x.0) }
+{
+    if let Some((_, left)) = left.mark(b')') {
+        return Some((None, left));
+    }
+    let (number, left) = few_digits_size_at(left)?;
+    let (_, left) = left.mark(b')')?;
+    Some((Some(number), left))
+}
+
+/// `( x y [extension] )`, which begins a path, where each has one to nine digits, as most do; `None` says nothing
 #[tactic(auto, unfolding(def_grammar::specs::Wiring::wire_start))]
 #[inline(always)]
-fn wire_start_at<'t>(cursor: Cursor<'t>) -> Option<(WirePoint<'t>, Cursor<'t>)>
+fn short_start_at<'t>(cursor: Cursor<'t>) -> Option<(WirePoint<'t>, Cursor<'t>)>
+    ensures gives { Finds (with_rest wire_point_view) result (read wire_start (rest_of cursor.entry)) }
+    ensures later { IfSome result (λ x. IsLater cursor.entry x.1) }
+    ensures lent { IfSome result (λ x. WirePointIn cursor.entry.tokens.text.now x.0) }
+{
+    let (x, left) = few_digits_at(cursor.past(b"(")?)?;
+    let (y, left) = few_digits_at(left)?;
+    let (extension, left) = short_end_at(left)?;
+    let at = Coordinates { x, y };
+    Some((WirePoint { at, extension }, left.seen()))
+}
+
+/// `( x y [extension] )`, which begins a path, whatever stands there
+#[tactic(auto, unfolding(def_grammar::specs::Wiring::wire_start))]
+#[cold]
+#[inline(never)]
+fn any_start_at<'t>(cursor: Cursor<'t>) -> Option<(WirePoint<'t>, Cursor<'t>)>
     ensures gives { Gives (with_rest wire_point_view) result (read wire_start (rest_of cursor.entry)) }
     ensures later { IfSome result (λ x. IsLater cursor.entry x.1) }
     ensures lent { IfSome result (λ x. WirePointIn cursor.entry.tokens.text.now x.0) }
@@ -111,10 +147,39 @@ fn wire_start_at<'t>(cursor: Cursor<'t>) -> Option<(WirePoint<'t>, Cursor<'t>)>
     Some((WirePoint { at, extension }, cursor))
 }
 
-/// `( x y [extension] )`, where x and y can be `*`
+/// `( x y [extension] )`, which begins a path
+#[inline(always)]
+fn wire_start_at<'t>(cursor: Cursor<'t>) -> Option<(WirePoint<'t>, Cursor<'t>)>
+    ensures gives { Gives (with_rest wire_point_view) result (read wire_start (rest_of cursor.entry)) }
+    ensures later { IfSome result (λ x. IsLater cursor.entry x.1) }
+    ensures lent { IfSome result (λ x. WirePointIn cursor.entry.tokens.text.now x.0) }
+{
+    match short_start_at(cursor) {
+        Some(found) => Some(found),
+        None => any_start_at(cursor),
+    }
+}
+
+/// `( x y [extension] )`, where x and y can be `*` and each other has one to nine digits, as most do; `None` says nothing
 #[tactic(auto, unfolding(def_grammar::specs::Wiring::wire_point))]
 #[inline(always)]
-fn wire_point_at<'t>(cursor: Cursor<'t>) -> Option<(WirePoint<'t>, Cursor<'t>)>
+fn short_wire_point_at<'t>(cursor: Cursor<'t>) -> Option<(WirePoint<'t>, Cursor<'t>)>
+    ensures gives { Finds (with_rest wire_point_view) result (read wire_point (rest_of cursor.entry)) }
+    ensures later { IfSome result (λ x. IsLater cursor.entry x.1) }
+    ensures lent { IfSome result (λ x. WirePointIn cursor.entry.tokens.text.now x.0) }
+{
+    let (x, left) = few_digits_or_star_at(cursor.past(b"(")?)?;
+    let (y, left) = few_digits_or_star_at(left)?;
+    let (extension, left) = short_end_at(left)?;
+    let at = Coordinates { x, y };
+    Some((WirePoint { at, extension }, left.seen()))
+}
+
+/// `( x y [extension] )`, where x and y can be `*`, whatever stands there
+#[tactic(auto, unfolding(def_grammar::specs::Wiring::wire_point))]
+#[cold]
+#[inline(never)]
+fn any_wire_point_at<'t>(cursor: Cursor<'t>) -> Option<(WirePoint<'t>, Cursor<'t>)>
     ensures gives { Gives (with_rest wire_point_view) result (read wire_point (rest_of cursor.entry)) }
     ensures later { IfSome result (λ x. IsLater cursor.entry x.1) }
     ensures lent { IfSome result (λ x. WirePointIn cursor.entry.tokens.text.now x.0) }
@@ -125,6 +190,19 @@ fn wire_point_at<'t>(cursor: Cursor<'t>) -> Option<(WirePoint<'t>, Cursor<'t>)>
     let cursor = cursor.key(b")")?;
     let at = Coordinates { x, y };
     Some((WirePoint { at, extension }, cursor))
+}
+
+/// `( x y [extension] )`, where x and y can be `*`
+#[inline(always)]
+fn wire_point_at<'t>(cursor: Cursor<'t>) -> Option<(WirePoint<'t>, Cursor<'t>)>
+    ensures gives { Gives (with_rest wire_point_view) result (read wire_point (rest_of cursor.entry)) }
+    ensures later { IfSome result (λ x. IsLater cursor.entry x.1) }
+    ensures lent { IfSome result (λ x. WirePointIn cursor.entry.tokens.text.now x.0) }
+{
+    match short_wire_point_at(cursor) {
+        Some(found) => Some(found),
+        None => any_wire_point_at(cursor),
+    }
 }
 
 /// `( x1 y1 x2 y2 )`
@@ -319,6 +397,40 @@ fn path_item_at<'t, V: PathVia<'t>>(cursor: Cursor<'t>) -> Option<(PathItem<'t, 
     }
 }
 
+/// Whether a path goes on.
+#[inline(always)]
+fn next_goes_on<'t>(cursor: Cursor<'t>) -> bool
+    ensures { result ≡ next_passes goes_on (rest_of cursor.entry) }
+{
+    match cursor.peek() {
+        Some(token) => goes_on(token.bytes),
+        None => false,
+    }
+}
+
+/// What comes after a point with few digits, or after a via, as most items are; `None` says nothing.
+#[inline(always)]
+fn usual_item_past<'t, V: PathVia<'t>>(cursor: Cursor<'t>) -> Option<Cursor<'t>>
+    ensures begins { IfSome result (λ x. next_passes goes_on (rest_of cursor.entry) ≡ true) }
+    ensures gives { Finds rest_of result (left_after (read (path_item V.form) (rest_of cursor.entry))) }
+    ensures later { IfSome result (λ x. IsLater cursor.entry x) }
+{
+    if !next_goes_on(cursor)
+        || cursor.next_is(b"MASK")
+        || cursor.next_is(b"VIRTUAL")
+        || cursor.next_is(b"RECT")
+    {
+        return None;
+    }
+    if next_is_open(cursor) {
+        let (_, later) = short_wire_point_at(cursor)?;
+        Some(later)
+    } else {
+        let (_, later) = V::read(cursor)?;
+        Some(later)
+    }
+}
+
 impl<'t, V: PathVia<'t>> Part<'t> for PathItem<'t, V> {
     ghost use Rattle.def_grammar.specs.Wiring.{PathItem as TheItem};
 
@@ -353,6 +465,17 @@ impl<'t, V: PathVia<'t>> Part<'t> for PathItem<'t, V> {
     }
 }
 
+impl<'t, V: PathVia<'t>> UsualPart<'t> for PathItem<'t, V> {
+    #[inline(always)]
+    fn skip(cursor: Cursor<'t>) -> Option<Cursor<'t>>
+        ensures begins { IfSome result (λ x. next_passes goes_on (rest_of cursor.entry) ≡ true) }
+        ensures gives { Finds rest_of result (left_after (read (path_item V.form) (rest_of cursor.entry))) }
+        ensures later { IfSome result (λ x. IsLater cursor.entry x) }
+    {
+        usual_item_past::<V>(cursor)
+    }
+}
+
 /// `[MASK word]`, the first point, and what the path goes on with
 #[tactic(auto, unfolding(def_grammar::specs::Wiring::net_path, def_grammar::specs::Wiring::net_item))]
 #[inline(always)]
@@ -363,8 +486,20 @@ pub fn net_path_at<'t>(cursor: Cursor<'t>) -> Option<(Path<'t, WireVia<'t>>, Cur
 {
     let (mask, cursor) = mask_at(cursor)?;
     let (start, cursor) = wire_start_at(cursor)?;
-    let (items, cursor) = read_parts::<PathItem<'t, WireVia<'t>>>(cursor)?;
+    let (items, cursor) = read_usual_parts::<PathItem<'t, WireVia<'t>>>(cursor)?;
     Some((Path { mask, start, items }, cursor))
+}
+
+/// What comes after a path whose points have few digits and whose other items are vias; `None` says nothing.
+#[tactic(auto, unfolding(def_grammar::specs::Wiring::net_path, def_grammar::specs::Wiring::net_item))]
+#[inline(always)]
+pub(crate) fn usual_net_path_past<'t>(cursor: Cursor<'t>) -> Option<Cursor<'t>>
+    ensures gives { Finds rest_of result (left_after (read net_path (rest_of cursor.entry))) }
+    ensures later { IfSome result (λ x. IsLater cursor.entry x) }
+{
+    let (_, cursor) = mask_at(cursor)?;
+    let (_, cursor) = short_start_at(cursor)?;
+    skip_parts::<PathItem<'t, WireVia<'t>>>(cursor)
 }
 
 /// `[MASK word]`, the first point, and what the path of a special net goes on with
@@ -376,6 +511,6 @@ pub fn special_path_at<'t>(cursor: Cursor<'t>) -> Option<(Path<'t, SpecialVia<'t
 {
     let (mask, cursor) = mask_at(cursor)?;
     let (start, cursor) = wire_start_at(cursor)?;
-    let (items, cursor) = read_parts::<PathItem<'t, SpecialVia<'t>>>(cursor)?;
+    let (items, cursor) = read_usual_parts::<PathItem<'t, SpecialVia<'t>>>(cursor)?;
     Some((Path { mask, start, items }, cursor))
 }

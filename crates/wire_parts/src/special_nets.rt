@@ -16,7 +16,7 @@ use def_parts::clauses::{KeptClause, kept_clause_at};
 use def_parts::point::{Coordinates, point_at};
 use def_parts::points::{Corners, LaterPoint, Polygon, corners_at, polygon_at};
 use lefdef_tokens::{Cursor, Token, TokenRun, is_plus};
-use statement_reader::parts::{Part, Parts, read_parts};
+use statement_reader::parts::{Part, Parts, read_parts, read_usual_parts};
 
 /// A via at one point and more.
 #[derive(Clone, Copy)]
@@ -194,7 +194,7 @@ pub fn special_net_at<'t>(cursor: Cursor<'t>) -> Option<(SpecialNetParts<'t>, Cu
     ensures lent { IfSome result (λ x. SpecialNetIn cursor.entry.tokens.text.now x.0) }
 {
     let (name, cursor) = cursor.key(b"-")?.name()?;
-    let (terminals, cursor) = read_parts::<Terminal<'t>>(cursor)?;
+    let (terminals, cursor) = read_usual_parts::<Terminal<'t>>(cursor)?;
     let (clauses, cursor) = read_parts::<SpecialClause<'t>>(cursor)?;
     let cursor = cursor.key(b";")?;
     let parts = SpecialNetParts {

@@ -1,17 +1,19 @@
 //! The terminals of nets (LEF/DEF 5.8 Language Reference, "Nets").
 
-ghost use Rattle.std.specs.Prelude.{◌≡◌, IfSome};
-ghost use Rattle.form_meanings.specs.Words.{Gives};
+ghost use Rattle.std.specs.Prelude.{◌≡◌, true, IfSome};
+ghost use Rattle.form_meanings.specs.Words.{Gives, next_passes};
 ghost use Rattle.statement_model.specs.Form.{read, spell};
 ghost use Rattle.def_grammar.specs.Points.{is_open};
 ghost use Rattle.def_grammar.specs.Terminals.{is_of_all, is_of_design, is_virtual, synthesized, terminal};
+ghost use Rattle.lefdef_tokens.specs.Unseens.{Finds};
 ghost use Rattle.lefdef_tokens.specs.Views.{IsLater, rest_of};
 ghost use Rattle.def_parts.specs.PointViews.{same, with_rest};
+ghost use Rattle.statement_reader.specs.PartViews.{left_after};
 ghost use Rattle.wire_parts.specs.TerminalViews.{TerminalIn, terminal_view};
 
-use def_parts::points::is_open;
+use def_parts::points::{is_open, next_is_open};
 use lefdef_tokens::{Cursor, Token, is_word};
-use statement_reader::parts::Part;
+use statement_reader::parts::{Part, UsualPart};
 
 /// A terminal of a net: whose pin it is, the pin, and whether it is of a synthesized scan chain.
 #[derive(Clone, Copy, Drop)]
@@ -111,5 +113,20 @@ impl<'t> Part<'t> for Terminal<'t> {
         ensures lent { IfSome result (λ x. TerminalIn cursor.entry.tokens.text.now x.0) }
     {
         terminal_at(cursor)
+    }
+}
+
+impl<'t> UsualPart<'t> for Terminal<'t> {
+    #[inline(always)]
+    fn skip(cursor: Cursor<'t>) -> Option<Cursor<'t>>
+        ensures begins { IfSome result (λ x. next_passes is_open (rest_of cursor.entry) ≡ true) }
+        ensures gives { Finds rest_of result (left_after (read terminal (rest_of cursor.entry))) }
+        ensures later { IfSome result (λ x. IsLater cursor.entry x) }
+    {
+        if !next_is_open(cursor) {
+            return None;
+        }
+        let (_, later) = terminal_at(cursor)?;
+        Some(later)
     }
 }

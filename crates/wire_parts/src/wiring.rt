@@ -1,22 +1,24 @@
 //! Wiring clauses of nets and of special nets (LEF/DEF 5.8 Language Reference, "Regular Wiring Statement" and "Special
 //! Wiring Statement").
 
-ghost use Rattle.std.specs.Prelude.{◌≡◌, codes, not, IfSome};
+ghost use Rattle.std.specs.Prelude.{◌≡◌, codes, not, true, IfSome};
 ghost use Rattle.std.specs.Option.{option_map};
 ghost use Rattle.form_meanings.specs.Words.{Gives, is_plus, is_stop, next_passes};
 ghost use Rattle.form_meanings.specs.Meaning.{find};
 ghost use Rattle.statement_model.specs.Form.{◌⨟◌, empty, many, on, opt_on, read, spell};
 ghost use Rattle.def_grammar.specs.Parts.{int, name};
 ghost use Rattle.def_grammar.specs.Wiring.{is_new, new_special_wire, new_wire, special_wire, special_wires, special_wiring, taper, wire, wire_mark, wiring, wiring_status, wiring_statuses, wiring_word};
+ghost use Rattle.lefdef_tokens.specs.Unseens.{Finds};
 ghost use Rattle.lefdef_tokens.specs.Views.{IsLater, rest_of};
 ghost use Rattle.def_parts.specs.ClauseViews.{MaskIn, mask_view};
 ghost use Rattle.def_parts.specs.PointViews.{with_rest};
+ghost use Rattle.statement_reader.specs.PartViews.{left_after};
 ghost use Rattle.wire_parts.specs.WiringViews.{MarkIn, SpecialKindIn, SpecialWireIn, SpecialWiresIn, SpecialWiringIn, TaperIn, WireIn, WiringIn, first_and_others, kind_view, mark_view, special_kind_view, special_wire_view, special_wiring_view, status_view, taper_view, wire_view, wires_view, wiring_view};
 
-use crate::paths::{Path, SpecialVia, WireVia, net_path_at, special_path_at};
+use crate::paths::{Path, SpecialVia, WireVia, net_path_at, special_path_at, usual_net_path_past};
 use def_parts::number::{int_at, size_at};
 use lefdef_tokens::{Cursor, Token, is_plus, is_stop, is_word};
-use statement_reader::parts::{Part, Parts, read_parts};
+use statement_reader::parts::{Part, Parts, UsualPart, read_parts, read_usual_parts};
 
 /// How wiring was made.
 #[derive(Clone, Copy, Debug, PartialEq, Eq)]
@@ -234,6 +236,34 @@ impl<'t> Part<'t> for Wire<'t> {
     }
 }
 
+/// What comes after `NEW` and a wire with a usual path; `None` says nothing.
+#[tactic(auto, unfolding(def_grammar::specs::Wiring::new_wire, def_grammar::specs::Wiring::wire))]
+#[inline(always)]
+fn usual_wire_past<'t>(cursor: Cursor<'t>) -> Option<Cursor<'t>>
+    ensures begins { IfSome result (λ x. next_passes is_new (rest_of cursor.entry) ≡ true) }
+    ensures gives { Finds rest_of result (left_after (read new_wire (rest_of cursor.entry))) }
+    ensures later { IfSome result (λ x. IsLater cursor.entry x) }
+{
+    if !cursor.next_is(b"NEW") {
+        return None;
+    }
+    let (_, cursor) = cursor.key(b"NEW")?.name()?;
+    let (_, cursor) = taper_at(cursor)?;
+    let (_, cursor) = style_at(cursor)?;
+    usual_net_path_past(cursor)
+}
+
+impl<'t> UsualPart<'t> for Wire<'t> {
+    #[inline(always)]
+    fn skip(cursor: Cursor<'t>) -> Option<Cursor<'t>>
+        ensures begins { IfSome result (λ x. next_passes is_new (rest_of cursor.entry) ≡ true) }
+        ensures gives { Finds rest_of result (left_after (read new_wire (rest_of cursor.entry))) }
+        ensures later { IfSome result (λ x. IsLater cursor.entry x) }
+    {
+        usual_wire_past(cursor)
+    }
+}
+
 /// `NOSHIELD`, or a status
 fn wiring_kind_at<'t>(cursor: Cursor<'t>) -> Option<(WiringKind, Cursor<'t>)>
     ensures gives { Gives (with_rest kind_view) result (read (on (codes "NOSHIELD") empty wiring_status) (rest_of cursor.entry)) }
@@ -258,7 +288,7 @@ pub fn wiring_at<'t>(cursor: Cursor<'t>) -> Option<(Wiring<'t>, Cursor<'t>)>
 {
     let (kind, cursor) = wiring_kind_at(cursor)?;
     let (first, cursor) = wire_at(cursor)?;
-    let (others, cursor) = read_parts::<Wire<'t>>(cursor)?;
+    let (others, cursor) = read_usual_parts::<Wire<'t>>(cursor)?;
     let wiring = Wiring {
         kind,
         first,

@@ -1,4 +1,4 @@
-use Rattle.std.proofs.Common.{◌≡◌, ℕ, length, arith, refl, sym, ap, ◌∙◌, Err}
+use Rattle.std.proofs.Common.{ℕ, length, arith, refl, sym, ap, ◌∙◌, Err}
 use Rattle.std.proofs.lemmas.Result.{err_from_is_err_and}
 use Rattle.design_model.specs.declared.mode.Mode.TheVariants.{Top}
 use Rattle.statement_model.specs.Tokens.{left_from}

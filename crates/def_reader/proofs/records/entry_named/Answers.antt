@@ -1,5 +1,4 @@
-use Rattle.std.proofs.Common.{◌≡◌, ◌∙◌, sym, ap, refl}
-use Rattle.design_model.specs.declared.mode.Mode.TheVariants.{Top}
+use Rattle.std.proofs.Common.{◌∙◌, sym, ap, refl}
 use Rattle.lefdef_tokens.specs.Views.{pieces_of}
 use Rattle.statement_reader.specs.Located.{located_at}
 use Rattle.def_grammar.specs.Records.{def}

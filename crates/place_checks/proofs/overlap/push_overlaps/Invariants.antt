@@ -1,10 +1,14 @@
-use Rattle.std.proofs.Common.{◌≡◌, ◌++◌, drop, map}
-use Rattle.design_rules.specs.Families.{lines_with}
-use Rattle.design_rules.specs.OverlapLines.{overlap_of}
-use Rattle.place_checks.specs.Views.{boxed_view, diag_texts}
+use Rattle.std.proofs.Common.{◌≡◌, ◌++◌, length}
+use Rattle.place_checks.specs.Sweep.{InSweepOrder}
+use Rattle.place_checks.specs.Views.{diag_texts}
+use Rattle.place_checks.proofs.SkipLemmas.{lines_of}
 use Rattle.place_checks.proofs.overlap.push_overlaps.Given as goal
 
-abbrev pub invariant-loop-other : goal.invariant-loop-other
-invariant-loop-other g l =
-    diag_texts l.reports.items ++ lines_with overlap_of (boxed_view l.first) (map boxed_view (drop l.other-index l.others))
-    ≡ diag_texts l.initial.reports.items ++ lines_with overlap_of (boxed_view l.first) (map boxed_view l.others)
+abbrev pub invariant-loop-next : goal.invariant-loop-next
+invariant-loop-next g l = record {
+  sorted : InSweepOrder l.left;
+  so_far : diag_texts l.reports.items ++ lines_of l.first l.left ≡ diag_texts l.initial.reports.items ++ lines_of l.first l.others;
+}
+
+abbrev pub decreases-loop-next : goal.decreases-loop-next
+decreases-loop-next g l = length l.left

@@ -1,0 +1,10 @@
+use Rattle.std.proofs.Common.{ap, drop}
+use Rattle.std.proofs.lemmas.List.{drop_all}
+use Rattle.design_names.specs.NameViews.{lent_entry, records_view}
+use Rattle.design_names.proofs.TableLemmas.{passed_all}
+use Rattle.design_names.proofs.names.names_of.Goals as goal
+
+pub invariant_of-result : goal.invariant_of-result
+invariant_of-result g c =
+    passed_all lent_entry c.loop-read.table.entries (records_view (drop c.loop-read.read-index c.args.records.now)) (records_view c.args.records.now)
+    (ap records_view (drop_all c.loop-read.read-index c.args.records.now c.loop-read-test.false)) c.loop-read.invariant

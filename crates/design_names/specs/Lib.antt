@@ -1,0 +1,2 @@
+pub mod NameViews
+pub mod Tables

@@ -1,0 +1,166 @@
+//! The entries of a design by their names (LEF/DEF 5.8 Language Reference, "DEF Syntax").
+
+ghost use Rattle.std.specs.Prelude.{◌≡◌, IfOk, OnOk, is_some};
+ghost use Rattle.std.specs.Option.{option_map};
+ghost use Rattle.design_model.specs.declared.mode.Section.TheVariants.{Components};
+ghost use Rattle.def_reader.specs.EntryViews.{entry_view};
+ghost use Rattle.entry_rules.specs.EntryNames.{entry_named};
+ghost use Rattle.entry_rules.specs.Unknown.{component_named, stands_in};
+ghost use Rattle.entry_rules.specs.ViaLayers.{def_rule_named, def_via_named, rule_of_entry, via_of_entry};
+ghost use Rattle.design_names.specs.NameViews.{component_of_entry, lent_component, lent_entry, lent_rule, lent_via, records_view};
+ghost use Rattle.design_names.specs.Tables.{Adds};
+
+use def_reader::entry::Entry;
+use def_reader::read_statement::Read;
+use def_reader::statement::Statement;
+use design_model::mode::Section;
+use indexmap::IndexMap;
+use place_parts::components::ComponentParts;
+use std::alloc::{AllocError, Allocator, Global};
+use std::hash::{BuildHasherDefault, FoldHasher};
+use std::marker::Model;
+use wire_parts::rules::RuleParts;
+use wire_parts::vias::ViaParts;
+
+/// The word of a section, and the name of one of its entries.
+type Key<'t> = (&'static [u8], &'t [u8]);
+
+/// The first entry of each section and name.
+type Table<'r, 't, A> = IndexMap<Key<'t>, &'r Entry<'t>, BuildHasherDefault<FoldHasher>, A>;
+
+/// The statements of a design, with its entries by their names.
+#[derive(Drop)]
+pub struct Names<'r, 't, A: Allocator = Global> {
+    records: &'r [Read<'t>],
+    table: Table<'r, 't, A>,
+}
+
+impl<'r, 't, A: Allocator> Model for Names<'r, 't, A> {
+    ghost use Rattle.std.specs.Prelude.{List};
+    ghost use Rattle.def_grammar.specs.Records.{Record};
+    ghost use Rattle.design_names.specs.NameViews.{lent_entry, records_view};
+    ghost use Rattle.design_names.specs.Tables.{HasFirsts};
+
+    ghost Value = { List Record };
+
+    ghost view = { λ n. records_view n.records.now };
+
+    ghost invariant = { λ n. HasFirsts lent_entry n.table.entries (records_view n.records.now) };
+}
+
+/// Adds an entry to a table, unless it has no name or its name is taken.
+fn add<'r, 't, A: Allocator + Copy>(
+    table: &mut Table<'r, 't, A>,
+    entry: &'r Entry<'t>,
+) -> Result<(), AllocError>
+    ensures { OnOk result (Adds lent_entry table.old.entries table.new.entries (entry_view entry.entry.now)) }
+{
+    let Some(name) = entry.name() else {
+        return Ok(());
+    };
+    let key = (entry.section().word(), name);
+    if table.contains_key(&key) {
+        return Ok(());
+    }
+    table.insert(key, entry)?;
+    Ok(())
+}
+
+/// The component that an entry is.
+fn component_of<'r, 't>(entry: &'r Entry<'t>) -> Option<&'r ComponentParts<'t>>
+    ensures { option_map lent_component result ≡ component_of_entry (entry_view entry.entry.now) }
+{
+    match entry {
+        Entry::Component(parts) => Some(parts),
+        _ => None,
+    }
+}
+
+/// The via that an entry is.
+fn via_of<'r, 't>(entry: &'r Entry<'t>) -> Option<&'r ViaParts<'t>>
+    ensures { option_map lent_via result ≡ via_of_entry (entry_view entry.entry.now) }
+{
+    match entry {
+        Entry::Via(parts) => Some(parts),
+        _ => None,
+    }
+}
+
+/// The rule that an entry is.
+fn rule_of<'r, 't>(entry: &'r Entry<'t>) -> Option<&'r RuleParts<'t>>
+    ensures { option_map lent_rule result ≡ rule_of_entry (entry_view entry.entry.now) }
+{
+    match entry {
+        Entry::Rule(parts) => Some(parts),
+        _ => None,
+    }
+}
+
+/// The names of the statements of a text. One pass over them makes a table of their entries.
+pub fn names_of<'r, 't, A: Allocator + Copy>(
+    alloc: A,
+    records: &'r [Read<'t>],
+) -> Result<Names<'r, 't, A>, AllocError>
+    ensures { IfOk result (λ names. names ≡ records_view records.entry.now) }
+{
+    let mut table: Table<'r, 't, A> = IndexMap::with_capacity_and_hasher(
+        alloc,
+        records.len(),
+        BuildHasherDefault::new(),
+    )?;
+    for read in records {
+        if let Statement::Entry(entry) = &read.statement {
+            add(&mut table, entry)?;
+        }
+    }
+    Ok(Names { records, table })
+}
+
+impl<'r, 't, A: Allocator + Copy> Names<'r, 't, A> {
+    /// The statements of the text, in their order.
+    pub fn records(&self) -> &'r [Read<'t>]
+        ensures { records_view result.now ≡ self.now }
+    {
+        self.records
+    }
+
+    /// The first entry of this section with this name.
+    pub fn entry(&self, section: Section, name: &[u8]) -> Option<&'r Entry<'t>>
+        ensures { option_map lent_entry result ≡ entry_named self.now section name.now }
+    {
+        self.table.get(&(section.word(), name)).copied()
+    }
+
+    /// Whether an entry of this section has this name.
+    #[tactic(auto, using(crate::proofs::NameLemmas::stands_where_named))]
+    pub fn has(&self, section: Section, name: &[u8]) -> bool
+        ensures { result ≡ stands_in self.now section name.now }
+    {
+        self.entry(section, name).is_some()
+    }
+
+    /// The first component with this name.
+    #[tactic(auto, using(crate::proofs::NameLemmas::component_picked))]
+    pub fn component(&self, name: &[u8]) -> Option<&'r ComponentParts<'t>>
+        ensures gives { option_map lent_component result ≡ component_named self.now name.now }
+        ensures there { is_some result ≡ stands_in self.now Components name.now }
+    {
+        component_of(self.entry(Section::Components, name)?)
+    }
+
+    /// The first via with this name.
+    #[tactic(auto, using(crate::proofs::NameLemmas::via_picked))]
+    pub fn via(&self, name: &[u8]) -> Option<&'r ViaParts<'t>>
+        ensures { option_map lent_via result ≡ def_via_named self.now name.now }
+    {
+        via_of(self.entry(Section::Vias, name)?)
+    }
+
+    /// The first nondefault rule with this name.
+    #[tactic(auto, using(crate::proofs::NameLemmas::rule_picked))]
+    pub fn rule(&self, name: &[u8]) -> Option<&'r RuleParts<'t>>
+        ensures { option_map lent_rule result ≡ def_rule_named self.now name.now }
+    {
+        rule_of(self.entry(Section::NonDefaultRules, name)?)
+    }
+}

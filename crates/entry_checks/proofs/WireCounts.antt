@@ -1,0 +1,122 @@
+-- Unchecked parts of nets are no more than their words.
+use Rattle.std.proofs.Common.{◌≤◌, ℕ, List, [], ◌∷◌, ◌++◌, length, map, sum, codes, arith, length-append, Option, Some, None}
+use Rattle.std.specs.List.{list_any}
+use Rattle.form_meanings.specs.Meaning.{spell_all}
+use Rattle.statement_model.specs.Form.{spell, opt_on}
+use Rattle.def_grammar.specs.Clauses.{mask}
+use Rattle.def_grammar.specs.Parts.{int, is_some}
+use Rattle.def_grammar.specs.Nets.{NetClause, net_subnet, net_use, net_rule, net_wiring, net_kept, net_clause, net_listed}
+use Rattle.def_grammar.specs.SpecialNets.{SpecialClause, special_subnet, special_use, special_shape_word, special_mask, special_rectangle, special_vias, special_polygon, special_has_wiring, special_kept, special_clause, special_listed, special_shape}
+use Rattle.def_grammar.specs.Wiring as forms
+use Rattle.def_grammar.specs.Wiring.{Path, WireVia, SpecialVia, Wire, SpecialWire, Wiring, SpecialWiring, WireMark, wire_shape, wire_style, wire_mask}
+use Rattle.entry_rules.specs.Unchecked.{diagonals_of, is_listed, is_style, net_words, one_if, special_words, unchecked_in_clause, unchecked_in_special, unchecked_in_special_wire, unchecked_in_wire}
+use Rattle.entry_rules.specs.WireItems.{net_via, special_via}
+use Rattle.entry_checks.proofs.PartCounts.{few_spelled, sum_cons}
+use Rattle.entry_checks.proofs.PathCounts.{few_in_path, one_at_most}
+
+some_wire_via : (v : WireVia) → 1 ≤ length (spell forms.wire_via v)
+unfolding forms.wire_via
+some_wire_via v = omega arith
+
+some_special_via : (v : SpecialVia) → 1 ≤ length (spell forms.special_via v)
+unfolding forms.special_via forms.wire_via
+some_special_via v = omega arith
+
+few_in_net_path : (p : Path WireVia) → diagonals_of net_via p ≤ length (spell forms.net_path p)
+unfolding forms.net_path forms.net_item
+few_in_net_path p =
+    let k = few_in_path forms.wire_via some_wire_via net_via p in
+    let items = spell_all (spell (forms.path_item forms.wire_via)) p.items in
+    let start = spell forms.wire_start p.start in
+    rw (length-append (spell mask p.mask) (start ++ items), length-append start items) (omega (arith, k))
+
+few_in_special_path : (p : Path SpecialVia) → diagonals_of special_via p ≤ length (spell forms.special_path p)
+unfolding forms.special_path forms.special_item
+few_in_special_path p =
+    let k = few_in_path forms.special_via some_special_via special_via p in
+    let items = spell_all (spell (forms.path_item forms.special_via)) p.items in
+    let start = spell forms.wire_start p.start in
+    rw (length-append (spell mask p.mask) (start ++ items), length-append start items) (omega (arith, k))
+
+few_in_style : (s : Option (List ℕ)) → one_if (is_some s) ≤ length (spell (opt_on (codes "STYLE") int) s)
+few_in_style None = omega arith
+few_in_style (Some n) = omega arith
+
+few_in_wire : (w : Wire) → unchecked_in_wire w ≤ length (spell forms.wire w)
+unfolding forms.wire
+few_in_wire w =
+    let style = spell (opt_on (codes "STYLE") int) w.style in
+    let path = spell forms.net_path w.path in
+    let taper = spell forms.taper w.taper in
+    let k = few_in_style w.style in
+    let l = few_in_net_path w.path in
+    rw (length-append taper (style ++ path), length-append style path) (omega (arith, k, l))
+
+few_in_marks : (ms : List WireMark) → one_if (list_any is_style ms) ≤ length (spell_all (spell forms.wire_mark) ms)
+unfolding forms.wire_mark
+few_in_marks [] = omega arith
+few_in_marks (m ∷ ms) =
+    let one = one_at_most (list_any is_style (m ∷ ms)) in
+    rw (length-append (spell forms.wire_mark m) (spell_all (spell forms.wire_mark) ms)) (omega (arith, one))
+
+few_in_special_wire : (w : SpecialWire) → unchecked_in_special_wire w ≤ length (spell forms.special_wire w)
+unfolding forms.special_wire
+few_in_special_wire w =
+    let marks = spell_all (spell forms.wire_mark) w.marks in
+    let path = spell forms.special_path w.path in
+    let k = few_in_marks w.marks in
+    let l = few_in_special_path w.path in
+    rw (length-append marks path) (omega (arith, k, l))
+
+few_in_new_wire : (w : Wire) → unchecked_in_wire w ≤ length (spell forms.new_wire w)
+unfolding forms.new_wire
+few_in_new_wire w = let k = few_in_wire w in omega (arith, k)
+
+few_in_new_special_wire : (w : SpecialWire) → unchecked_in_special_wire w ≤ length (spell forms.new_special_wire w)
+unfolding forms.new_special_wire
+few_in_new_special_wire w = let k = few_in_special_wire w in omega (arith, k)
+
+few_in_wiring : (w : Wiring) → unchecked_in_clause (net_wiring w) ≤ length (spell forms.wiring w)
+unfolding forms.wiring
+few_in_wiring w =
+    let first = spell forms.wire w.first in
+    let others = spell_all (spell forms.new_wire) w.others in
+    let k = few_in_wire w.first in
+    let l = few_spelled forms.new_wire unchecked_in_wire few_in_new_wire w.others in
+    rw (sum_cons unchecked_in_wire w.first w.others, length-append _ (first ++ others), length-append first others) (omega (arith, k, l))
+
+few_in_special_wires : (ws : List SpecialWire) → sum (map unchecked_in_special_wire ws) ≤ length (spell forms.special_wires ws)
+unfolding forms.special_wires
+few_in_special_wires [] = omega arith
+few_in_special_wires (w ∷ ws) =
+    let first = spell forms.special_wire w in
+    let others = spell_all (spell forms.new_special_wire) ws in
+    let k = few_in_special_wire w in
+    let l = few_spelled forms.new_special_wire unchecked_in_special_wire few_in_new_special_wire ws in
+    rw (sum_cons unchecked_in_special_wire w ws, length-append first others) (omega (arith, k, l))
+
+few_in_special_wiring : (w : SpecialWiring) → sum (map unchecked_in_special_wire w.wires) ≤ length (spell forms.special_wiring w)
+unfolding forms.special_wiring
+few_in_special_wiring w =
+    let k = few_in_special_wires w.wires in
+    rw (length-append _ (spell forms.special_wires w.wires)) (omega (arith, k))
+
+pub few_in_clause : (c : NetClause) → unchecked_in_clause c ≤ length (spell net_clause c)
+unfolding net_clause net_listed
+few_in_clause (net_subnet tokens) = omega arith
+few_in_clause (net_use word) = omega arith
+few_in_clause (net_rule name) = omega arith
+few_in_clause (net_wiring w) = let k = few_in_wiring w in omega (arith, k)
+few_in_clause (net_kept c) = let one = one_at_most (is_listed net_words c) in omega (arith, one)
+
+pub few_in_special_clause : (c : SpecialClause) → unchecked_in_special c ≤ length (spell special_clause c)
+unfolding special_clause special_listed special_shape
+few_in_special_clause (special_subnet tokens) = omega arith
+few_in_special_clause (special_use word) = omega arith
+few_in_special_clause (special_shape_word word) = omega arith
+few_in_special_clause (special_mask word) = omega arith
+few_in_special_clause (special_rectangle layer corners) = omega arith
+few_in_special_clause (special_vias via) = omega arith
+few_in_special_clause (special_polygon layer polygon) = omega arith
+few_in_special_clause (special_has_wiring w) = let k = few_in_special_wiring w in omega (arith, k)
+few_in_special_clause (special_kept c) = let one = one_at_most (is_listed special_words c) in omega (arith, one)

@@ -1,0 +1,13 @@
+use Rattle.std.proofs.Common.{◌≡◌, ◌++◌, ◌-◌, drop, flat_map, length}
+use Rattle.cell_library.specs.ViaViews.{vias_view}
+use Rattle.entry_checks.specs.UncheckedViews.{unchecked_of_via}
+use Rattle.entry_checks.specs.Views.{diag_texts}
+use Rattle.entry_checks.proofs.unchecked.push_vias.Given as goal
+
+abbrev pub invariant-loop-name : goal.invariant-loop-name
+invariant-loop-name g l =
+    diag_texts l.reports.items ++ flat_map unchecked_of_via (drop l.place (vias_view l.vias))
+    ≡ diag_texts l.initial.reports.items ++ flat_map unchecked_of_via (vias_view l.vias)
+
+abbrev pub decreases-loop-name : goal.decreases-loop-name
+decreases-loop-name g l = length l.vias - l.place

@@ -1,0 +1,4 @@
+pub mod JoinedLayers
+pub mod OffLayerViews
+pub mod UncheckedViews
+pub mod Views

@@ -1,0 +1,164 @@
+//! What a via of a design does in a path on a layer (LEF/DEF 5.8 Language Reference, "Vias").
+
+ghost use Rattle.std.specs.Prelude.{◌≡◌, ◌∷◌, [], is_some, map};
+ghost use Rattle.std.specs.List.{filter_map};
+ghost use Rattle.std.specs.Option.{option_map};
+ghost use Rattle.lef_grammar.specs.Firsts.{first_of};
+ghost use Rattle.wire_rules.specs.Paths.{other_layer};
+ghost use Rattle.wire_parts.specs.ViaViews.{via_clause_view, via_clauses_of, via_layers_view, via_view};
+ghost use Rattle.cell_library.specs.ShapeViews.{shapes_view};
+ghost use Rattle.cell_library.specs.ViaViews.{body_view};
+ghost use Rattle.def_reader.specs.EntryViews.{bytes_of};
+ghost use Rattle.wire_shapes.specs.RuleViews.{via_on_view};
+ghost use Rattle.entry_rules.specs.References.{layer_of_shape, layers_of_clause};
+ghost use Rattle.entry_rules.specs.ViaLayers.{body_layers, def_via_layers, rule_of_via, via_layers};
+ghost use Rattle.entry_checks.specs.JoinedLayers.{Joins, layer_of};
+
+use crate::again::again;
+use crate::joined_layers::JoinedLayers;
+use cell_library::library::Library;
+use cell_library::shapes::LayerShapes;
+use cell_library::via::ViaBody;
+use cell_library::via_definition::Via;
+use design_names::names::Names;
+use statement_reader::parts::Parts;
+use std::alloc::Allocator;
+use wire_parts::vias::{ViaClause, ViaLayers, ViaParts};
+use wire_shapes::ViaOn;
+
+/// Whether a rule of LEF generates a via with these clauses.
+fn is_generated<'t>(clauses: Parts<'t, ViaClause<'t>>) -> bool
+    ensures { result ≡ is_some (first_of rule_of_via (via_clauses_of clauses.entry)) }
+{
+    let mut left = clauses;
+    while let Some(clause) = left.next() {
+        if let ViaClause::Rule(_) = clause {
+            return true;
+        }
+    }
+    false
+}
+
+/// The first `LAYERS` among clauses of a via.
+fn first_layers<'t>(clauses: Parts<'t, ViaClause<'t>>) -> Option<ViaLayers<'t>>
+    ensures { option_map via_layers_view result ≡ first_of layers_of_clause (via_clauses_of clauses.entry) }
+{
+    let mut left = clauses;
+    while let Some(clause) = left.next() {
+        if let ViaClause::Layers(layers) = clause {
+            return Some(layers);
+        }
+    }
+    None
+}
+
+/// The layer of a rectangle or a polygon of a via.
+fn shape_layer<'t>(clause: ViaClause<'t>) -> Option<&'t [u8]>
+    ensures { option_map bytes_of result ≡ layer_of_shape (via_clause_view clause.entry) }
+{
+    match clause {
+        ViaClause::Rectangle(rectangle) => Some(rectangle.layer.bytes),
+        ViaClause::Polygon(polygon) => Some(polygon.layer.bytes),
+        _ => None,
+    }
+}
+
+/// The layers of the rectangles and polygons of a via.
+fn by_shapes<'t, A: Allocator + Copy>(
+    library: &Library<'_, A>,
+    clauses: Parts<'t, ViaClause<'t>>,
+) -> JoinedLayers<'t>
+    ensures { Joins library.now result [] (filter_map layer_of_shape (via_clauses_of clauses.entry)) }
+{
+    let mut left = clauses;
+    let mut joined = JoinedLayers::Nothing;
+    while let Some(clause) = left.next() {
+        if let Some(layer) = shape_layer(clause) {
+            joined = joined.note(library, layer);
+        }
+    }
+    joined
+}
+
+/// The layers below, at and above the cuts of a generated via.
+fn by_names<'a, A: Allocator + Copy>(
+    library: &Library<'_, A>,
+    bottom: &'a [u8],
+    cut: &'a [u8],
+    top: &'a [u8],
+) -> JoinedLayers<'a>
+    ensures { Joins library.now result [] (bottom.entry.now ∷ cut.entry.now ∷ top.entry.now ∷ []) }
+{
+    let joined = JoinedLayers::Nothing.note(library, bottom);
+    let joined = joined.note(library, cut);
+    joined.note(library, top)
+}
+
+/// The layers of the shapes of a via of LEF.
+fn by_layers<'l, A: Allocator + Copy>(
+    library: &Library<'_, A>,
+    shapes: &[LayerShapes<'l, A>],
+) -> JoinedLayers<'l>
+    ensures { Joins library.now result [] (map layer_of (map shapes_view shapes.now)) }
+{
+    let mut joined = JoinedLayers::Nothing;
+    for shape in shapes {
+        joined = joined.note(library, shape.layer);
+    }
+    joined
+}
+
+/// The layers that a via of DEF joins.
+fn joined_in_def<'t, A: Allocator + Copy>(
+    library: &Library<'_, A>,
+    via: &ViaParts<'t>,
+) -> JoinedLayers<'t>
+    ensures { Joins library.now result [] (def_via_layers (via_view via.now)) }
+{
+    if !is_generated(again(&via.clauses)) {
+        return by_shapes(library, again(&via.clauses));
+    }
+    match first_layers(again(&via.clauses)) {
+        Some(layers) => by_names(
+            library,
+            layers.bottom.bytes,
+            layers.cut.bytes,
+            layers.top.bytes,
+        ),
+        None => JoinedLayers::Nothing,
+    }
+}
+
+/// The layers that a via of LEF joins.
+fn joined_in_lef<'l, A: Allocator + Copy>(
+    library: &Library<'_, A>,
+    via: &Via<'l, A>,
+) -> JoinedLayers<'l>
+    ensures { Joins library.now result [] (body_layers (body_view via.now.body)) }
+{
+    match &via.body {
+        ViaBody::Listed(shapes) => by_layers(library, shapes.as_slice()),
+        ViaBody::Generated(generated) => match generated.layers {
+            Some(names) => by_names(library, names.bottom, names.cut, names.top),
+            None => JoinedLayers::Nothing,
+        },
+    }
+}
+
+/// What a via does where a path is on a layer. Vias of DEF come before those of LEF. It takes no memory.
+pub fn via_on<'a, A: Allocator + Copy>(
+    library: &'a Library<'_, A>,
+    names: &'a Names<'_, '_, A>,
+    via: &[u8],
+    layer: &[u8],
+) -> ViaOn<'a>
+    ensures { via_on_view result ≡ option_map (other_layer layer.now) (via_layers library.now names.now via.now) }
+{
+    if let Some(parts) = names.via(via) {
+        return joined_in_def(library, parts).via_on(layer);
+    }
+    match library.via(via) {
+        Some(found) => joined_in_lef(library, found).via_on(layer),
+        None => ViaOn::Unknown,
+    }
+}

@@ -1,0 +1,3 @@
+pub mod ViaRectangles
+pub mod Widths
+pub mod WirePieces

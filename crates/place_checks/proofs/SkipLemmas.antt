@@ -1,0 +1,133 @@
+-- Boxes that are left out share no area with the one that is compared.
+use Rattle.std.proofs.Common.{◌≡◌, ◌≤◌, ◌<◌, ◌+◌, ℕ, suc, ◌≤ℤ◌, Bool, true, false, not, List, [], ◌∷◌, ◌++◌, filter, flat_map, map, length, get_or, refl, sym, ap, ◌∙◌, arith, append_assoc, ⊎_elim, if◌then◌else◌, drop, drop-cons, add-one}
+use Rattle.std.specs.Prelude.{int_lt, ◌&&◌}
+use Rattle.std.specs.Int.{int_min, int_max}
+use Rattle.std.specs.List.{All}
+use Rattle.std.specs.Ordering.{is_lt}
+use Rattle.std.proofs.lemmas.Bool.{cases_Bool as cases}
+use Rattle.std.proofs.lemmas.Int.{ints, clamps}
+use Rattle.std.proofs.lemmas.List.Elements.{All-head, All-tail}
+use Rattle.std.proofs.lemmas.List.Filters.{length-filter_both}
+use Rattle.std.proofs.lemmas.List.Folds.{flat_map-map}
+use Rattle.std.proofs.lemmas.List.Sorted.{sorted_far}
+use Rattle.design_model.specs.Geometry.{Rectangle, overlap}
+use Rattle.design_model.specs.Views.{rectangle_of}
+use Rattle.design_rules.specs.Families.{lines_with, pair_lines}
+use Rattle.design_rules.specs.OverlapLines.{overlap_of}
+use Rattle.place_checks.specs.declared.placed_box.PlacedBox.{PlacedBox}
+use Rattle.place_checks.specs.Sweep.{InSweepOrder, sweep_cmp}
+use Rattle.place_checks.specs.Views.{boxed_view}
+use Rattle.place_checks.proofs.SweepLemmas.{is_order, not_right, not_below_of, not_below_test}
+
+abbrev Lines : Type 0
+Lines = List (List ℕ)
+
+-- not so where one of two is not
+fails_first : (a b : Bool) → a ≡ false → (a && b) ≡ false
+fails_first true b e = cc
+fails_first false b e = refl
+
+fails_second : (a b : Bool) → b ≡ false → (a && b) ≡ false
+fails_second true b e = e
+fails_second false b e = refl
+
+-- a rectangle at or right of another, or at or above it, shares no area with it
+pub apart_right : (a b : Rectangle) → a.x2 ≤ℤ b.x1 → overlap a b ≡ false
+apart_right a b h = fails_first _ _ (not_below_test (int_max a.x1 b.x1) (int_min a.x2 b.x2) (omega (arith, ints, clamps)))
+
+pub apart_above : (a b : Rectangle) → a.y2 ≤ℤ b.y1 → overlap a b ≡ false
+apart_above a b h = fails_second _ _ (not_below_test (int_max a.y1 b.y1) (int_min a.y2 b.y2) (omega (arith, ints, clamps)))
+
+pub apart_below : (a b : Rectangle) → a.y2 ≤ℤ b.y1 → overlap b a ≡ false
+apart_below a b h = fails_second _ _ (not_below_test (int_max b.y1 a.y1) (int_min b.y2 a.y2) (omega (arith, ints, clamps)))
+
+-- what gives no line can be left out
+pub left_out : (f : PlacedBox → Lines) (p : PlacedBox → Bool) (xs : List PlacedBox) → All (λ x. p x ≡ false → f x ≡ []) xs → flat_map f (filter p xs) ≡ flat_map f xs
+left_out f p [] h = refl
+left_out f p (x ∷ xs) h =
+    let rest = left_out f p xs (All-tail (λ x. p x ≡ false → f x ≡ []) x xs h) in
+    ⊎_elim
+    (λ (yes : p x ≡ true). rw yes (ap (λ (ls : Lines). f x ++ ls) rest))
+    (λ (no : p x ≡ false). let none : f x ≡ [] = All-head (λ x. p x ≡ false → f x ≡ []) x xs h no in rw (no, none) rest)
+    (cases (p x))
+
+-- the lines of a box with others
+abbrev pub lines_of : PlacedBox → List PlacedBox → Lines
+lines_of first xs = lines_with overlap_of (boxed_view first) (map boxed_view xs)
+
+abbrev line_of : PlacedBox → PlacedBox → Lines
+line_of first b = overlap_of (boxed_view first) (boxed_view b)
+
+no_line : (first b : PlacedBox) → overlap (rectangle_of first.rect) (rectangle_of b.rect) ≡ false → line_of first b ≡ []
+no_line first b e = rw e refl
+
+lines_are : (first : PlacedBox) (xs : List PlacedBox) → lines_of first xs ≡ flat_map (line_of first) xs
+lines_are first xs = flat_map-map (overlap_of (boxed_view first)) boxed_view xs
+
+same_lines : (first : PlacedBox) (p : PlacedBox → Bool) (xs ys : List PlacedBox) → ys ≡ filter p xs → All (λ x. p x ≡ false → line_of first x ≡ []) xs → lines_of first ys ≡ lines_of first xs
+same_lines first p xs ys is h = lines_are first ys ∙ ap (flat_map (line_of first)) is ∙ left_out (line_of first) p xs h ∙ sym (lines_are first xs)
+
+-- those that begin at or above a box's upper edge
+pub lines_below : (first : PlacedBox) (xs ys : List PlacedBox) → ys ≡ filter (λ b. int_lt b.rect.y1 first.rect.y2) xs → lines_of first ys ≡ lines_of first xs
+lines_below first xs ys is = same_lines first (λ b. int_lt b.rect.y1 first.rect.y2) xs ys is
+    (λ k d low no. no_line first (get_or xs k d) (apart_above (rectangle_of first.rect) (rectangle_of (get_or xs k d).rect) (not_below_of _ _ no)))
+
+-- none of those behind a box comes before it
+none_before : (next : PlacedBox) (behind : List PlacedBox) → InSweepOrder (next ∷ behind) → All (λ (b : PlacedBox). is_lt (sweep_cmp b.rect next.rect) ≡ false) behind
+none_before next behind s k d below = sorted_far _ is_order (next ∷ behind) s.rises 0 (suc k) d (omega arith) (omega arith)
+
+pub sorted_behind : (next : PlacedBox) (behind : List PlacedBox) → InSweepOrder (next ∷ behind) → InSweepOrder behind
+sorted_behind next behind s = record {
+  rises = λ k d low high. sorted_far _ is_order (next ∷ behind) s.rises (suc k) (suc (k + 1)) d (omega arith) (omega arith);
+}
+
+-- those at the height of a box that isn't left of the right edge
+pub lines_above : (first next : PlacedBox) (behind ys : List PlacedBox) → InSweepOrder (next ∷ behind) → int_lt next.rect.x1 first.rect.x2 ≡ false
+    → ys ≡ filter (λ b. int_lt next.rect.y1 b.rect.y1) behind → lines_of first ys ≡ lines_of first behind
+lines_above first next behind ys s right is = same_lines first (λ b. int_lt next.rect.y1 b.rect.y1) behind ys is
+    (λ k d low no.
+    let b : PlacedBox = get_or behind k d in
+    let from : first.rect.x2 ≤ℤ next.rect.x1 = not_below_of _ _ right in
+    let on : next.rect.x1 ≤ℤ b.rect.x1 = not_right next.rect b.rect (none_before next behind s k d low) (not_below_of _ _ no) in
+    let apart : first.rect.x2 ≤ℤ b.rect.x1 = omega (arith, ints) in
+    no_line first b (apart_right (rectangle_of first.rect) (rectangle_of b.rect) apart))
+
+pub lines_left : (first next : PlacedBox) (behind ys : List PlacedBox) → InSweepOrder (next ∷ behind)
+    → ys ≡ (if int_lt next.rect.x1 first.rect.x2 then behind else filter (λ b. int_lt next.rect.y1 b.rect.y1) behind) → lines_of first ys ≡ lines_of first behind
+lines_left first next behind ys s is = ⊎_elim
+    (λ (yes : int_lt next.rect.x1 first.rect.x2 ≡ true). ap (lines_of first) (rw yes at is))
+    (λ (no : int_lt next.rect.x1 first.rect.x2 ≡ false). lines_above first next behind ys s no (rw no at is))
+    (cases (int_lt next.rect.x1 first.rect.x2))
+
+-- one box more is compared
+pub one_compared : (first next : PlacedBox) (behind left rest all : List PlacedBox) (old new begun : Lines) → InSweepOrder left → left ≡ next ∷ behind
+    → rest ≡ (if int_lt next.rect.x1 first.rect.x2 then behind else filter (λ b. int_lt next.rect.y1 b.rect.y1) behind)
+    → new ≡ old ++ overlap_of (boxed_view first) (boxed_view next) → old ++ lines_of first left ≡ begun ++ lines_of first all → new ++ lines_of first rest ≡ begun ++ lines_of first all
+one_compared first next behind left rest all old new begun s split is added so_far =
+    let same = lines_left first next behind rest (rw split at s) is in
+    rw (added, same, append_assoc) (rw split at so_far)
+
+pub sorted_from : (next : PlacedBox) (behind left : List PlacedBox) → left ≡ next ∷ behind → InSweepOrder left → InSweepOrder behind
+sorted_from next behind left split s = sorted_behind next behind (rw split at s)
+
+fewer_pass : (p : PlacedBox → Bool) (xs : List PlacedBox) → length (filter p xs) ≤ length xs
+fewer_pass p xs = let both = length-filter_both p (λ x. not (p x)) (λ x. refl) xs in omega arith
+
+pub fewer_left : (first next : PlacedBox) (behind left rest : List PlacedBox) → left ≡ next ∷ behind
+    → rest ≡ (if int_lt next.rect.x1 first.rect.x2 then behind else filter (λ b. int_lt next.rect.y1 b.rect.y1) behind) → length rest < length left
+fewer_left first next behind left rest split is = rw (split, is) (⊎_elim
+    (λ (yes : int_lt next.rect.x1 first.rect.x2 ≡ true). rw yes (omega arith))
+    (λ (no : int_lt next.rect.x1 first.rect.x2 ≡ false). rw no (let few = fewer_pass (λ b. int_lt next.rect.y1 b.rect.y1) behind in omega arith))
+    (cases (int_lt next.rect.x1 first.rect.x2)))
+
+-- the lines of all pairs of boxes
+abbrev pub pairs_of : List PlacedBox → Lines
+pairs_of boxes = pair_lines overlap_of (map boxed_view boxes)
+
+left_from : (boxes : List PlacedBox) (i : ℕ) (x : PlacedBox) → i < length boxes → x ≡ get_or boxes i x → drop i boxes ≡ x ∷ drop (i + 1) boxes
+left_from boxes i x below is = rw (add-one, drop-cons boxes i x, ← is) refl
+
+-- one box more has its reports
+pub one_box : (boxes : List PlacedBox) (i : ℕ) (x : PlacedBox) (old new all : Lines) → i < length boxes → x ≡ get_or boxes i x → new ≡ old ++ lines_of x (drop (i + 1) boxes)
+    → old ++ pairs_of (drop i boxes) ≡ all → new ++ pairs_of (drop (i + 1) boxes) ≡ all
+one_box boxes i x old new all below is added so_far = rw (added, append_assoc) (rw (left_from boxes i x below is) at so_far)

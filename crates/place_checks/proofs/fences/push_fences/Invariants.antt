@@ -1,0 +1,11 @@
+use Rattle.std.proofs.Common.{◌≡◌, ◌++◌, drop, map}
+use Rattle.cell_library.specs.Records.{word_view}
+use Rattle.place_checks.specs.FenceLines.{fence_lines_in}
+use Rattle.place_checks.specs.PlaceViews.{fence_view}
+use Rattle.place_checks.specs.Views.{boxed_view, diag_texts}
+use Rattle.place_checks.proofs.fences.push_fences.Given as goal
+
+abbrev pub invariant-loop-fence : goal.invariant-loop-fence
+invariant-loop-fence g l =
+    diag_texts l.reports.items ++ fence_lines_in (map word_view l.regions) (boxed_view l.component) (map fence_view (drop l.fence-index l.fences))
+    ≡ diag_texts l.fn.reports.items ++ fence_lines_in (map word_view l.regions) (boxed_view l.component) (map fence_view l.fences)

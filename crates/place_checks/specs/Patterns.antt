@@ -1,0 +1,48 @@
+-- Patterns of components' names by themselves, and the regions that they assign a component to.
+use Rattle.std.specs.Prelude.{◌≡◌, ℕ, Bool, not, ◌==◌, List, [], ◌∷◌, map, flat_map}
+use Rattle.std.specs.List.{filter, list_any}
+use Rattle.std.specs.Str.{bytes_eq}
+use Rattle.place_rules.specs.Patterns.{matches, star}
+use Rattle.design_rules.specs.Boxes.{Boxed}
+use Rattle.design_rules.specs.PlaceLines.{is_assigned}
+use Rattle.design_rules.specs.Surroundings.{Assignment}
+use Rattle.place_checks.specs.declared.assigned.Assigned.{Assigned}
+
+abbrev pub has_star : List ℕ → Bool
+has_star pattern = list_any (λ b. b == star) pattern
+
+abbrev pub is_starred : Assigned → Bool
+is_starred a = has_star a.pattern.now
+
+-- an assignment by one pattern
+abbrev pub assigned_view : Assigned → Assignment
+assigned_view a = record { region = a.region.now; patterns = a.pattern.now ∷ [] }
+
+-- an assignment for each pattern of one
+abbrev pub by_pattern : Assignment → List Assignment
+by_pattern a = map (λ p. record { region = a.region; patterns = p ∷ [] }) a.patterns
+
+abbrev pub by_patterns : List Assignment → List Assignment
+by_patterns all = flat_map by_pattern all
+
+-- of such, those with a star, and those without
+abbrev pub has_starred : Assignment → Bool
+has_starred a = list_any has_star a.patterns
+
+abbrev pub with_star : List Assignment → List Assignment
+with_star all = filter has_starred all
+
+abbrev pub without_star : List Assignment → List Assignment
+without_star all = filter (λ a. not (has_starred a)) all
+
+-- the regions of those whose patterns a name matches
+abbrev pub regions_for : List ℕ → List Assignment → List (List ℕ)
+regions_for name all = map (λ a. a.region) (filter (λ a. list_any (λ p. matches p name) a.patterns) all)
+
+-- a region is one of these
+abbrev pub is_one_of : List (List ℕ) → List ℕ → Bool
+is_one_of regions region = list_any (λ r. bytes_eq r region) regions
+
+-- these are the regions that a component is assigned to
+abbrev pub AreRegionsOf : List Assignment → Boxed → List (List ℕ) → Type 0
+AreRegionsOf all c regions = (region : List ℕ) → is_one_of regions region ≡ is_assigned all c region

@@ -1,0 +1,150 @@
+//! The patterns by which groups assign components to regions, for look-ups by a component's name (LEF/DEF 5.8 Language
+//! Reference, "Groups").
+
+ghost use Rattle.std.specs.Prelude.{◌≡◌, ◌++◌, false, map, IsSortedByKey, OnOk};
+ghost use Rattle.std.specs.Cmp.Lexicographic.{slice_cmp};
+ghost use Rattle.std.specs.List.{list_any};
+ghost use Rattle.std.specs.Option.{option_map, option_to_list};
+ghost use Rattle.std.specs.Ordering.{is_eq, nat_cmp};
+ghost use Rattle.cell_library.specs.Records.{word_view};
+ghost use Rattle.place_checks.specs.Patterns.{assigned_view, by_pattern, has_star, is_starred, regions_for, with_star, without_star};
+ghost use Rattle.place_checks.specs.PlaceViews.{assignment_view};
+
+use crate::assigned::Assigned;
+use crate::copied::copied;
+use crate::groups::Assignment;
+use crate::placed_box::PlacedBox;
+use place_kernels::patterns::matches;
+use std::alloc::{AllocError, Allocator, Global};
+
+/// The patterns of all groups: those without a star in the order of their bytes, and the others.
+#[derive(Drop)]
+pub struct AssignmentTable<'t, A: Allocator = Global> {
+    named: Vec<Assigned<'t>, A>,
+    starred: Vec<Assigned<'t>, A>,
+    ghost sorted: { IsSortedByKey (λ a. a.pattern.now) (slice_cmp nat_cmp) named.items },
+    ghost starless: { list_any is_starred named.items ≡ false },
+}
+
+/// Whether a pattern has a star.
+fn has_star(pattern: &[u8]) -> bool
+    ensures { result ≡ has_star pattern.now }
+{
+    pattern.contains(&b'*')
+}
+
+/// Adds the patterns of a group, each to those with a star or to those without.
+fn push_patterns<'t, A: Allocator>(
+    assignment: &Assignment<'t>,
+    named: &mut Vec<Assigned<'t>, A>,
+    starred: &mut Vec<Assigned<'t>, A>,
+) -> Result<(), AllocError>
+    ensures named { OnOk result (map assigned_view named.new.items ≡ map assigned_view named.old.items ++ without_star (by_pattern (assignment_view assignment.now))) }
+    ensures starred { OnOk result (map assigned_view starred.new.items ≡ map assigned_view starred.old.items ++ with_star (by_pattern (assignment_view assignment.now))) }
+{
+    let mut left = copied(&assignment.patterns);
+    while let Some(pattern) = left.next() {
+        let assigned = Assigned {
+            pattern: pattern.word.bytes,
+            region: assignment.region,
+        };
+        if has_star(assigned.pattern) {
+            starred.push(assigned)?;
+        } else {
+            named.push(assigned)?;
+        }
+    }
+    Ok(())
+}
+
+/// Adds the region that a component names itself.
+fn push_own<'t, A: Allocator>(
+    regions: &mut Vec<&'t [u8], A>,
+    component: &PlacedBox<'t>,
+) -> Result<(), AllocError>
+    ensures { OnOk result (map word_view regions.new.items ≡ map word_view regions.old.items ++ option_to_list (option_map word_view component.now.region)) }
+{
+    if let Some(region) = component.region {
+        regions.push(region)?;
+    }
+    Ok(())
+}
+
+/// Adds the regions of these.
+fn push_regions<'t, A: Allocator>(
+    regions: &mut Vec<&'t [u8], A>,
+    all: &[Assigned<'t>],
+) -> Result<(), AllocError>
+    ensures { OnOk result (map word_view regions.new.items ≡ map word_view regions.old.items ++ map (λ a. a.region.now) all.now) }
+{
+    for assigned in all {
+        regions.push(assigned.region)?;
+    }
+    Ok(())
+}
+
+/// Adds the regions of those whose pattern a name matches.
+fn push_matching<'t, A: Allocator>(
+    regions: &mut Vec<&'t [u8], A>,
+    all: &[Assigned<'t>],
+    name: &[u8],
+) -> Result<(), AllocError>
+    ensures { OnOk result (map word_view regions.new.items ≡ map word_view regions.old.items ++ regions_for name.now (map assigned_view all.now)) }
+{
+    for assigned in all {
+        if matches(assigned.pattern, name) {
+            regions.push(assigned.region)?;
+        }
+    }
+    Ok(())
+}
+
+impl<'t, A: Allocator + Copy> AssignmentTable<'t, A> {
+    ghost use Rattle.std.specs.Prelude.{filter, IfOk, IsPermutation};
+    ghost use Rattle.place_checks.specs.IndexViews.{assignments_view};
+    ghost use Rattle.place_checks.specs.Patterns.{by_patterns, AreRegionsOf};
+    ghost use Rattle.place_checks.specs.Views.{boxed_view};
+
+    /// A table of the patterns of these assignments.
+    pub fn new(
+        alloc: A,
+        assignments: &[Assignment<'t>],
+    ) -> Result<AssignmentTable<'t, A>, AllocError>
+        ensures { IfOk result (λ table. IsPermutation (by_patterns (map assignment_view assignments.now)) (assignments_view table)) }
+    {
+        let mut named = Vec::new(alloc);
+        let mut starred = Vec::new(alloc);
+        for assignment in assignments {
+            push_patterns(assignment, &mut named, &mut starred)?;
+        }
+        named.sort_unstable_by(|a, b| a.pattern.cmp(b.pattern));
+        Ok(AssignmentTable { named, starred })
+    }
+
+    /// The patterns without a star that are this name.
+    fn with_name(&self, name: &[u8]) -> &[Assigned<'t>]
+        ensures { result.now ≡ filter (λ a. is_eq (slice_cmp nat_cmp a.pattern.now name.now)) self.now.named.items }
+    {
+        let start = self
+            .named
+            .partition_point(|assigned| assigned.pattern.cmp(name).is_lt());
+        let named = &self.named[start..];
+        let count = named.partition_point(|assigned| assigned.pattern.cmp(name).is_le());
+        &named[..count]
+    }
+
+    /// The regions that a component is assigned to, by itself and by groups. Some may stand there more than once.
+    pub(crate) fn regions_of(
+        &self,
+        alloc: A,
+        component: &PlacedBox<'t>,
+    ) -> Result<Vec<&'t [u8], A>, AllocError>
+        ensures { IfOk result (λ regions. AreRegionsOf (assignments_view self.now) (boxed_view component.now) (map word_view regions.items)) }
+    {
+        let mut regions = Vec::new(alloc);
+        push_own(&mut regions, component)?;
+        push_regions(&mut regions, self.with_name(component.name))?;
+        push_matching(&mut regions, &self.starred, component.name)?;
+        Ok(regions)
+    }
+}

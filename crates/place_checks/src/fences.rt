@@ -1,0 +1,120 @@
+//! Components and the die, and components and fences (LEF/DEF 5.8 Language Reference, "Die Area", "Regions" and "Groups").
+
+ghost use Rattle.std.specs.Prelude.{◌≡◌, ◌++◌, map, OnOk};
+ghost use Rattle.std.specs.List.{list_any};
+ghost use Rattle.std.specs.Option.{option_map};
+ghost use Rattle.design_model.specs.Geometry.{overlap};
+ghost use Rattle.design_model.specs.Views.{rectangle_of};
+ghost use Rattle.cell_library.specs.Records.{word_view};
+ghost use Rattle.design_rules.specs.PlaceLines.{fence_lines, outside_lines};
+ghost use Rattle.place_checks.specs.FenceLines.{fence_lines_by, fence_lines_in};
+ghost use Rattle.place_checks.specs.IndexViews.{surroundings_view};
+ghost use Rattle.place_checks.specs.Patterns.{is_one_of};
+ghost use Rattle.place_checks.specs.PlaceViews.{fence_view};
+ghost use Rattle.place_checks.specs.Views.{boxed_view, diag_texts};
+
+use crate::placed_box::PlacedBox;
+use crate::regions::Fence;
+use crate::report::push_report;
+use crate::surroundings::Surroundings;
+use design_model::diagnostic::{Diag, DiagKind};
+use design_model::geometry::Rect;
+use orient_geom::overlaps;
+use place_kernels::covering::covered;
+use std::alloc::{AllocError, Allocator};
+
+/// Whether a region is one of these.
+fn is_one_of(regions: &[&[u8]], region: &[u8]) -> bool
+    ensures { result ≡ is_one_of (map word_view regions.now) region.now }
+{
+    for other in regions {
+        if *other == region {
+            return true;
+        }
+    }
+    false
+}
+
+/// Whether a box overlaps one of some rectangles.
+fn overlaps_any(area: &Rect, rectangles: &[Rect]) -> bool
+    ensures { result ≡ list_any (overlap (rectangle_of area.now)) (map rectangle_of rectangles.now) }
+{
+    for rect in rectangles {
+        if overlaps(area, rect) {
+            return true;
+        }
+    }
+    false
+}
+
+/// Adds the report on a component that reaches out of the die, where that is known.
+fn push_outside<'t, A: Allocator + Copy>(
+    die: Option<Rect>,
+    component: &PlacedBox<'t>,
+    reports: &mut Vec<Diag<'t, A>, A>,
+) -> Result<(), AllocError>
+    ensures { OnOk result (diag_texts reports.new.items ≡ diag_texts reports.old.items ++ outside_lines (option_map rectangle_of die) (boxed_view component.now)) }
+{
+    let Some(die) = die else {
+        return Ok(());
+    };
+    if covered(component.rect, &[die]) {
+        return Ok(());
+    }
+    push_report(reports, DiagKind::Outside, &[component.name])
+}
+
+/// Adds the report on a component that reaches out of a fence that it is assigned to, or that lies in another one.
+fn push_fence<'t, A: Allocator + Copy>(
+    fence: &Fence<'t, A>,
+    is_assigned: bool,
+    component: &PlacedBox<'t>,
+    reports: &mut Vec<Diag<'t, A>, A>,
+) -> Result<(), AllocError>
+    ensures { OnOk result (diag_texts reports.new.items ≡ diag_texts reports.old.items ++ fence_lines_by is_assigned (boxed_view component.now) (fence_view fence.now)) }
+{
+    let rectangles = fence.rectangles.as_slice();
+    let kind = if is_assigned {
+        if covered(component.rect, rectangles) {
+            return Ok(());
+        }
+        DiagKind::Fence
+    } else {
+        if !overlaps_any(&component.rect, rectangles) {
+            return Ok(());
+        }
+        DiagKind::Intruder
+    };
+    push_report(reports, kind, &[component.name, fence.name])
+}
+
+/// Adds the reports on a component, which is assigned to these regions, and fences.
+fn push_fences<'t, A: Allocator + Copy>(
+    fences: &[Fence<'t, A>],
+    regions: &[&[u8]],
+    component: &PlacedBox<'t>,
+    reports: &mut Vec<Diag<'t, A>, A>,
+) -> Result<(), AllocError>
+    ensures { OnOk result (diag_texts reports.new.items ≡ diag_texts reports.old.items ++ fence_lines_in (map word_view regions.now) (boxed_view component.now) (map fence_view fences.now)) }
+{
+    for fence in fences {
+        push_fence(fence, is_one_of(regions, fence.name), component, reports)?;
+    }
+    Ok(())
+}
+
+/// Adds the reports on a component that reaches out of the die or of a fence that it is assigned to, or that lies in
+/// another fence.
+pub fn of_component<'t, A: Allocator + Copy>(
+    surroundings: &Surroundings<'t, A>,
+    component: &PlacedBox<'t>,
+    reports: &mut Vec<Diag<'t, A>, A>,
+) -> Result<(), AllocError>
+    ensures { let s = surroundings_view surroundings.now in let c = boxed_view component.now in
+        OnOk result (diag_texts reports.new.items ≡ diag_texts reports.old.items ++ (outside_lines s.die c ++ fence_lines s c)) }
+{
+    push_outside(surroundings.die, component, reports)?;
+    let alloc = *reports.allocator();
+    let regions = surroundings.assignments.regions_of(alloc, component)?;
+    push_fences(&surroundings.fences, &regions, component, reports)
+}

@@ -1,0 +1,48 @@
+//! The reports on components in rows, in the die and in fences.
+
+ghost use Rattle.std.specs.Prelude.{◌≡◌, ◌≤◌, ◌<◌, ◌++◌, flat_map, map, IfOk, OnOk};
+ghost use Rattle.design_rules.specs.Boxes.{scale};
+ghost use Rattle.design_rules.specs.PlaceLines.{lines_in};
+ghost use Rattle.design_rules.specs.Surroundings.{surroundings};
+ghost use Rattle.place_checks.specs.IndexViews.{surroundings_view};
+ghost use Rattle.place_checks.specs.Views.{boxed_view, diag_texts, records_view};
+
+use crate::fences::of_component;
+use crate::placed_box::PlacedBox;
+use crate::rows::of_rows;
+use crate::surroundings::{Surroundings, surroundings_of};
+use cell_library::library::Library;
+use def_reader::read_statement::Read;
+use design_model::diagnostic::Diag;
+use std::alloc::{AllocError, Allocator};
+
+/// Adds the reports on a component in its surroundings.
+pub fn push_lines<'t, A: Allocator + Copy>(
+    surroundings: &Surroundings<'t, A>,
+    component: &PlacedBox<'t>,
+    reports: &mut Vec<Diag<'t, A>, A>,
+) -> Result<(), AllocError>
+    ensures { OnOk result (diag_texts reports.new.items ≡ diag_texts reports.old.items ++ lines_in (surroundings_view surroundings.now) (boxed_view component.now)) }
+{
+    of_rows(&surroundings.rows, component, reports)?;
+    of_component(surroundings, component, reports)
+}
+
+/// The reports on these components in the surroundings of a design, in the order of the components.
+pub fn lines_of<'t, A: Allocator + Copy>(
+    alloc: A,
+    library: &Library<'_, A>,
+    records: &[Read<'t>],
+    boxes: &[PlacedBox<'t>],
+) -> Result<Vec<Diag<'t, A>, A>, AllocError>
+    requires some { 0 < scale (records_view records.now) }
+    requires few { scale (records_view records.now) ≤ 100000 }
+    ensures { IfOk result (λ v. diag_texts v.items ≡ flat_map (lines_in (surroundings library.now (records_view records.now))) (map boxed_view boxes.now)) }
+{
+    let surroundings = surroundings_of(alloc, library, records)?;
+    let mut reports = Vec::new(alloc);
+    for component in boxes {
+        push_lines(&surroundings, component, &mut reports)?;
+    }
+    Ok(reports)
+}

@@ -1,0 +1,84 @@
+//! The fences of a design: its regions of TYPE FENCE (LEF/DEF 5.8 Language Reference, "Regions").
+
+ghost use Rattle.std.specs.Prelude.{◌≡◌, IfOk, map};
+ghost use Rattle.std.specs.Option.{option_map};
+ghost use Rattle.design_model.specs.Views.{rectangle_of};
+ghost use Rattle.lef_grammar.specs.Firsts.{first_of};
+ghost use Rattle.def_grammar.specs.Regions.{region_points};
+ghost use Rattle.place_parts.specs.RegionViews.{region_clauses_of, region_kind_view, region_view};
+ghost use Rattle.design_rules.specs.Surroundings.{fences, rectangles_of, type_of};
+ghost use Rattle.place_checks.specs.PlaceViews.{fence_view};
+ghost use Rattle.place_checks.specs.Views.{records_view};
+
+use crate::copied::copied;
+use crate::corners::{point_after, rectangle_between};
+use def_reader::entry::Entry;
+use def_reader::read_statement::Read;
+use def_reader::statement::Statement;
+use design_model::geometry::Rect;
+use design_model::sequence::Sequence;
+use place_parts::regions::{RegionClause, RegionKind, RegionParts};
+use statement_reader::parts::Parts;
+use std::alloc::{AllocError, Allocator, Global};
+
+/// A fence: its name, and its rectangles in database units.
+#[derive(Drop)]
+pub struct Fence<'t, A: Allocator = Global> {
+    pub name: &'t [u8],
+    pub rectangles: Sequence<Rect, A>,
+}
+
+/// The first TYPE of a region.
+fn kind_of<'t>(clauses: Parts<'t, RegionClause<'t>>) -> Option<RegionKind>
+    ensures { option_map region_kind_view result ≡ first_of type_of (region_clauses_of clauses.entry) }
+{
+    let mut left = clauses;
+    while let Some(clause) = left.next() {
+        if let RegionClause::Kind(kind) = clause {
+            return Some(kind);
+        }
+    }
+    None
+}
+
+/// The rectangles of a region.
+fn rectangles_of<A: Allocator + Copy>(
+    alloc: A,
+    region: &RegionParts<'_>,
+) -> Result<Sequence<Rect, A>, AllocError>
+    ensures { IfOk result (λ all. map rectangle_of all ≡ rectangles_of (region_points (region_view region.now))) }
+{
+    let first = region.first.first;
+    let mut last = point_after(first, region.first.second);
+    let mut rectangles = Sequence::new(alloc);
+    rectangles.push(rectangle_between(first, last))?;
+    let mut left = copied(&region.others);
+    while let Some(later) = left.next() {
+        let first = point_after(last, later.corners.first);
+        last = point_after(first, later.corners.second);
+        rectangles.push(rectangle_between(first, last))?;
+    }
+    Ok(rectangles)
+}
+
+/// The fences of a design, in the order of the text.
+pub fn fences_of<'t, A: Allocator + Copy>(
+    alloc: A,
+    records: &[Read<'t>],
+) -> Result<Vec<Fence<'t, A>, A>, AllocError>
+    ensures { IfOk result (λ v. map fence_view v.items ≡ fences (records_view records.now)) }
+{
+    let mut fences = Vec::new(alloc);
+    for read in records {
+        let Statement::Entry(Entry::Region(region)) = &read.statement else {
+            continue;
+        };
+        if let Some(RegionKind::Fence) = kind_of(copied(&region.clauses)) {
+            fences.push(Fence {
+                name: region.name.bytes,
+                rectangles: rectangles_of(alloc, region)?,
+            })?;
+        }
+    }
+    Ok(fences)
+}

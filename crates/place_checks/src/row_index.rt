@@ -1,0 +1,54 @@
+//! Rows by their lower edges.
+
+ghost use Rattle.std.specs.Prelude.{◌≡◌, IsSortedByKey};
+ghost use Rattle.std.specs.Ordering.{int_cmp, int_eq};
+ghost use Rattle.place_checks.specs.RowEdges.{edge_of};
+
+use crate::placed_row::PlacedRow;
+use std::alloc::{Allocator, Global};
+
+/// The edge by which rows are looked up that have no line of sites, or several.
+pub(crate) const NO_EDGE: i64 = i64::MAX;
+
+/// Rows in the order of the edges by which they are looked up.
+#[derive(Drop)]
+pub struct RowIndex<'t, A: Allocator = Global> {
+    rows: Vec<PlacedRow<'t>, A>,
+    ghost sorted: { IsSortedByKey edge_of int_cmp rows.items },
+}
+
+/// The edge by which a row is looked up: the lower one of its sites, where they stand in one line.
+fn edge_of(row: &PlacedRow<'_>) -> i64
+    ensures { result ≡ edge_of row.now }
+{
+    if row.sites.rows == 1 {
+        row.sites.origin.y
+    } else {
+        NO_EDGE
+    }
+}
+
+impl<'t, A: Allocator> RowIndex<'t, A> {
+    ghost use Rattle.std.specs.Prelude.{filter, map, IsPermutation};
+    ghost use Rattle.place_checks.specs.PlaceViews.{placed_row_view};
+    ghost use Rattle.place_checks.specs.IndexViews.{rows_view};
+
+    /// An index of these rows. It takes no memory.
+    pub fn new(rows: Vec<PlacedRow<'t>, A>) -> RowIndex<'t, A>
+        ensures { IsPermutation (map placed_row_view rows.entry.items) (rows_view result) }
+    {
+        let mut rows = rows;
+        rows.sort_unstable_by_key(edge_of);
+        RowIndex { rows }
+    }
+
+    /// The rows that are looked up by an edge.
+    pub(crate) fn at_edge(&self, edge: i64) -> &[PlacedRow<'t>]
+        ensures { result.now ≡ filter (λ row. int_eq (edge_of row) edge) self.now.rows.items }
+    {
+        let start = self.rows.partition_point(|row| edge_of(row) < edge);
+        let rows = &self.rows[start..];
+        let count = rows.partition_point(|row| edge_of(row) <= edge);
+        &rows[..count]
+    }
+}

@@ -1,0 +1,47 @@
+//! What components stand in: rows of sites, the die, and fences.
+
+ghost use Rattle.std.specs.Prelude.{◌≡◌, ◌≤◌, ◌<◌, IfOk};
+ghost use Rattle.design_rules.specs.Boxes.{scale, Boxed};
+ghost use Rattle.design_rules.specs.PlaceLines.{lines_in};
+ghost use Rattle.design_rules.specs.Surroundings.{surroundings};
+ghost use Rattle.place_checks.specs.IndexViews.{surroundings_view};
+ghost use Rattle.place_checks.specs.Views.{records_view};
+
+use crate::assignment_table::AssignmentTable;
+use crate::floor::{die_of, rows_of};
+use crate::groups::assignments_of;
+use crate::regions::{Fence, fences_of};
+use crate::row_index::RowIndex;
+use cell_library::library::Library;
+use def_reader::read_statement::Read;
+use design_model::geometry::Rect;
+use std::alloc::{AllocError, Allocator, Global};
+
+/// The rows, the die, the fences and the groups of a design, for look-ups by a component.
+#[derive(Drop)]
+pub struct Surroundings<'t, A: Allocator = Global> {
+    pub rows: RowIndex<'t, A>,
+    pub die: Option<Rect>,
+    pub fences: Vec<Fence<'t, A>, A>,
+    pub assignments: AssignmentTable<'t, A>,
+}
+
+/// What the components of a design stand in. Each component has the same lines there as in the definition's lists, whose
+/// rows and patterns stand in another order.
+pub fn surroundings_of<'t, A: Allocator + Copy>(
+    alloc: A,
+    library: &Library<'_, A>,
+    records: &[Read<'t>],
+) -> Result<Surroundings<'t, A>, AllocError>
+    requires some { 0 < scale (records_view records.now) }
+    requires few { scale (records_view records.now) ≤ 100000 }
+    ensures { IfOk result (λ s. (c : Boxed) → lines_in (surroundings_view s) c ≡ lines_in (surroundings library.now (records_view records.now)) c) }
+{
+    let assignments = assignments_of(alloc, records)?;
+    Ok(Surroundings {
+        rows: RowIndex::new(rows_of(alloc, library, records)?),
+        die: die_of(records),
+        fences: fences_of(alloc, records)?,
+        assignments: AssignmentTable::new(alloc, &assignments)?,
+    })
+}
