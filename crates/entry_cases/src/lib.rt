@@ -1,4 +1,4 @@
-//! Tests of the names of a design and of the reports on its entries, each call once.
+//! Tests of the names of a design, each call once.
 #![tactic(auto)]
 
 #[cfg(test)]

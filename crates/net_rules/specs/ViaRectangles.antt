@@ -103,7 +103,7 @@ layer_names l = (l.bottom, (l.cut, l.top))
 abbrev pub def_generated : DefVia → Option GeneratedVia
 def_generated v =
     generated_of (first_of size_of_clause v.clauses) (option_map layer_names (first_of layers_of_clause v.clauses)) (first_of spacing_of_clause v.clauses)
-      (first_of enclosure_of_clause v.clauses) (first_of array_of_clause v.clauses) (first_of origin_of_clause v.clauses) (first_of offset_of_clause v.clauses)
+    (first_of enclosure_of_clause v.clauses) (first_of array_of_clause v.clauses) (first_of origin_of_clause v.clauses) (first_of offset_of_clause v.clauses)
 
 abbrev pub def_via_shapes : DefVia → List NamedShape
 def_via_shapes v = by_rule (first_of rule_of_via v.clauses) (filter_map listed_shape v.clauses) (shapes_if (def_generated v))
@@ -118,7 +118,7 @@ metals_in u m = (point_in u m.0, point_in u m.1)
 abbrev pub lef_generated : ℕ → lef.GeneratedVia → Option GeneratedVia
 lef_generated u v =
     generated_of (option_map (point_in u) v.cut_size) v.layers (option_map (point_in u) v.cut_spacing) (option_map (metals_in u) v.enclosure)
-      v.row_col (option_map (point_in u) v.origin) (option_map (metals_in u) v.offset)
+    v.row_col (option_map (point_in u) v.origin) (option_map (metals_in u) v.offset)
 
 abbrev pub body_shapes : ℕ → lef.ViaBody → List NamedShape
 body_shapes u (lef.listed shapes) = flat_map (shapes_on u) shapes
