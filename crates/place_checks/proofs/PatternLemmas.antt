@@ -1,11 +1,12 @@
 -- The regions of a component by a table of patterns.
-use Rattle.std.proofs.Common.{◌≡◌, ℕ, Bool, true, false, not, ◌&&◌, ◌||◌, ◌==◌, List, [], ◌∷◌, ◌++◌, map, Option, Some, None, IsPermutation, refl, sym, subst, ap, ap₂, ◌∙◌}
+use Rattle.std.proofs.Common.{◌≡◌, ℕ, suc, arith, Bool, true, false, not, ◌&&◌, ◌||◌, ◌==◌, List, [], ◌∷◌, ◌++◌, map, Option, Some, None, IsPermutation, refl, sym, subst, ap, ap₂, ◌∙◌}
+use Rattle.std.specs.Prelude.{MatchOption}
 use Rattle.std.specs.Cmp.Lexicographic.{slice_cmp}
 use Rattle.std.specs.List.{filter, list_any}
 use Rattle.std.specs.Option.{option_to_list}
 use Rattle.std.specs.Ordering.{is_eq, nat_cmp}
 use Rattle.std.specs.Str.{bytes_eq}
-use Rattle.std.proofs.lemmas.List.{map-append}
+use Rattle.std.proofs.lemmas.Bool.{ne_eqb, or_right}
 use Rattle.std.proofs.lemmas.List.Folds.{list_any-append}
 use Rattle.std.proofs.lemmas.List.Sorted.{IsPermutation-append_left, IsPermutation-filter_both, IsPermutation-map, IsPermutation-trans}
 use Rattle.std.proofs.lemmas.Map.Text.{is_eq-slice_cmp}
@@ -15,8 +16,12 @@ use Rattle.entry_rules.specs.Unknown.{is_same}
 use Rattle.design_rules.specs.Boxes.{Boxed}
 use Rattle.design_rules.specs.PlaceLines.{is_assigned, is_assigned_by}
 use Rattle.design_rules.specs.Surroundings.{Assignment}
-use Rattle.place_checks.specs.Patterns.{assigned_view, has_star, has_starred, is_starred, regions_for, with_star, without_star, AreRegionsOf}
+use Rattle.place_checks.specs.Patterns.{assigned_view, has_star, has_starred, is_starred, regions_for, starred_view, with_star, without_star, AreRegionsOf}
+use Rattle.place_kernels.specs.Stars.{Starless}
+use Rattle.place_kernels.specs.Views.{starred_pattern}
+use Rattle.place_kernels.specs.declared.patterns.StarredPattern.{StarredPattern}
 use Rattle.place_checks.specs.declared.assigned.Assigned.{Assigned}
+use Rattle.place_checks.specs.declared.assigned.Starred.{Starred}
 
 pub or_false : (a : Bool) → (a || false) ≡ a
 or_false true = refl
@@ -111,26 +116,24 @@ module _ (c : Boxed) (region : List ℕ) where
   or_parts a b d x y z h k m = rw (h, k, m) (or_assoc x y z)
 
   -- the regions of a component, by parts
-  has_region : (named starred : List Assigned) → list_any is_starred named ≡ false
-      → list_any is_here ((option_to_list c.region ++ map (λ (a : Assigned). a.region.now) (filter is_name named)) ++ regions_for c.name (map assigned_view starred))
-      ≡ is_assigned (map assigned_view (named ++ starred)) c region
+  has_region : (named : List Assigned) (starred : List Assignment) → list_any is_starred named ≡ false
+      → list_any is_here ((option_to_list c.region ++ map (λ (a : Assigned). a.region.now) (filter is_name named)) ++ regions_for c.name starred)
+      ≡ is_assigned (map assigned_view named ++ starred) c region
   has_region named starred h =
       let own = option_to_list c.region in
       let by_name = map (λ (a : Assigned). a.region.now) (filter is_name named) in
-      let by_star = regions_for c.name (map assigned_view starred) in
+      let by_star = regions_for c.name starred in
       let left : list_any is_here ((own ++ by_name) ++ by_star) ≡ ((list_any is_here own || list_any is_here by_name) || list_any is_here by_star) =
       list_any-append is_here (own ++ by_name) by_star ∙ ap (λ z. z || list_any is_here by_star) (list_any-append is_here own by_name) in
-      let groups : list_any (is_assigned_by c region) (map assigned_view (named ++ starred))
-      ≡ (list_any (is_assigned_by c region) (map assigned_view named) || list_any (is_assigned_by c region) (map assigned_view starred)) =
-      ap (list_any (is_assigned_by c region)) (map-append assigned_view named starred) ∙ list_any-append (is_assigned_by c region) (map assigned_view named) (map assigned_view starred) in
+      let groups = list_any-append (is_assigned_by c region) (map assigned_view named) starred in
       left
-      ∙ or_parts _ _ _ _ _ _ (own_region c.region) (named_regions named h) (matched (map assigned_view starred))
+      ∙ or_parts _ _ _ _ _ _ (own_region c.region) (named_regions named h) (matched starred)
       ∙ ap (λ z. is_same region c.region || z) (sym groups)
 
-pub regions_are : (c : Boxed) (named starred here lent : List Assigned) (none own by_name all : List (List ℕ)) → list_any is_starred named ≡ false
+pub regions_are : (c : Boxed) (named here : List Assigned) (starred lent : List Starred) (none own by_name all : List (List ℕ)) → list_any is_starred named ≡ false
     → none ≡ [] → own ≡ none ++ option_to_list c.region → here ≡ filter (λ a. is_eq (slice_cmp nat_cmp a.pattern.now c.name)) named → by_name ≡ own ++ map (λ (a : Assigned). a.region.now) here
-    → lent ≡ starred → all ≡ by_name ++ regions_for c.name (map assigned_view lent) → AreRegionsOf (map assigned_view (named ++ starred)) c all
-regions_are c named starred here lent none own by_name all h e0 e1 e2 e3 e4 e5 = λ region. rw (e5, e4, e3, e2, e1, e0) (has_region c region named starred h)
+    → lent ≡ starred → all ≡ by_name ++ regions_for c.name (map starred_view lent) → AreRegionsOf (map assigned_view named ++ map starred_view starred) c all
+regions_are c named here starred lent none own by_name all h e0 e1 e2 e3 e4 e5 = λ region. rw (e5, e4, e3, e2, e1, e0) (has_region c region named (map starred_view starred) h)
 
 -- all patterns, each by itself, parted into those without a star and those with one
 none_starred : (all : List Assignment) → list_any has_starred (without_star all) ≡ false
@@ -143,9 +146,25 @@ parted_without_star all named is =
     ∙ ap (list_any has_starred) is
     ∙ none_starred all
 
-pub parted : (all : List Assignment) (named sorted starred : List Assigned) → map assigned_view named ≡ without_star all → map assigned_view starred ≡ with_star all → IsPermutation named sorted
-    → IsPermutation all (map assigned_view (sorted ++ starred))
+pub parted : (all : List Assignment) (named sorted : List Assigned) (starred : List Assignment) → map assigned_view named ≡ without_star all → starred ≡ with_star all → IsPermutation named sorted
+    → IsPermutation all (map assigned_view sorted ++ starred)
 parted all named sorted starred first second moved =
     let both = IsPermutation-filter_both (λ (a : Assignment). not (has_starred a)) has_starred (λ a. sym (not_not (has_starred a))) all in
-    let lists : without_star all ++ with_star all ≡ map assigned_view (named ++ starred) = sym (map-append assigned_view named starred ∙ ap₂ (λ u v. u ++ v) first second) in
-    IsPermutation-trans _ _ _ (subst (IsPermutation all) lists both) (IsPermutation-map assigned_view _ _ (IsPermutation-append_left starred named sorted moved))
+    let lists : without_star all ++ with_star all ≡ map assigned_view named ++ starred = sym (ap₂ (λ u v. u ++ v) first second) in
+    IsPermutation-trans _ _ _ (subst (IsPermutation all) lists both) (IsPermutation-append_left starred (map assigned_view named) (map assigned_view sorted) (IsPermutation-map assigned_view named sorted moved))
+
+-- a pattern has a star, or none
+pub starless_has_none : (p : List ℕ) → Starless p → has_star p ≡ false
+starless_has_none [] starless = refl
+starless_has_none (b ∷ p) starless =
+    let first : (b == star) ≡ false = ne_eqb b star (starless 0 0 (omega arith)) in
+    rw first (starless_has_none p (λ k d below. starless (suc k) d (omega arith)))
+
+pub starred_has_one : (front after : List ℕ) → has_star (front ++ (star ∷ after)) ≡ true
+starred_has_one [] after = refl
+starred_has_one (b ∷ front) after = or_right (b == star) _ (starred_has_one front after)
+
+pub has_star_or_none : (pattern : List ℕ) (found : Option StarredPattern) → MatchOption found (Starless pattern) (λ p. starred_pattern p ≡ pattern)
+    → MatchOption found (has_star pattern ≡ false) (λ p. (starred_pattern p ≡ pattern) × (has_star pattern ≡ true))
+has_star_or_none pattern None starless = starless_has_none pattern starless
+has_star_or_none pattern (Some p) is = (is, ap has_star (sym is) ∙ starred_has_one p.front.now p.after.now)

@@ -6,7 +6,9 @@ use Rattle.place_rules.specs.Patterns.{matches, star}
 use Rattle.design_rules.specs.Boxes.{Boxed}
 use Rattle.design_rules.specs.PlaceLines.{is_assigned}
 use Rattle.design_rules.specs.Surroundings.{Assignment}
+use Rattle.place_kernels.specs.Views.{starred_pattern}
 use Rattle.place_checks.specs.declared.assigned.Assigned.{Assigned}
+use Rattle.place_checks.specs.declared.assigned.Starred.{Starred}
 
 abbrev pub has_star : List ℕ → Bool
 has_star pattern = list_any (λ b. b == star) pattern
@@ -17,6 +19,9 @@ is_starred a = has_star a.pattern.now
 -- an assignment by one pattern
 abbrev pub assigned_view : Assigned → Assignment
 assigned_view a = record { region = a.region.now; patterns = a.pattern.now ∷ [] }
+
+abbrev pub starred_view : Starred → Assignment
+starred_view a = record { region = a.region.now; patterns = starred_pattern a.pattern ∷ [] }
 
 -- an assignment for each pattern of one
 abbrev pub by_pattern : Assignment → List Assignment

@@ -1,8 +1,17 @@
-//! A pattern by which a group assigns components to a region.
+//! Patterns by which groups assign components to regions.
 
-/// A pattern of components' names, and the region that it assigns them to.
+use place_kernels::patterns::StarredPattern;
+
+/// A pattern of components' names without a `*`, and the region that it assigns them to.
 #[derive(Clone, Copy)]
 pub struct Assigned<'t> {
     pub pattern: &'t [u8],
+    pub region: &'t [u8],
+}
+
+/// A pattern of components' names with a `*`, and the region that it assigns them to.
+#[derive(Clone, Copy)]
+pub struct Starred<'t> {
+    pub pattern: StarredPattern<'t>,
     pub region: &'t [u8],
 }

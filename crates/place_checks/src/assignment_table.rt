@@ -1,57 +1,55 @@
 //! The patterns by which groups assign components to regions, for look-ups by a component's name (LEF/DEF 5.8 Language
 //! Reference, "Groups").
 
-ghost use Rattle.std.specs.Prelude.{◌≡◌, ◌++◌, false, map, IsSortedByKey, OnOk};
+ghost use Rattle.std.specs.Prelude.{◌≡◌, ◌++◌, false, true, map, IsSortedByKey, MatchOption, OnOk};
 ghost use Rattle.std.specs.Cmp.Lexicographic.{slice_cmp};
 ghost use Rattle.std.specs.List.{list_any};
 ghost use Rattle.std.specs.Option.{option_map, option_to_list};
 ghost use Rattle.std.specs.Ordering.{is_eq, nat_cmp};
 ghost use Rattle.cell_library.specs.Records.{word_view};
-ghost use Rattle.place_checks.specs.Patterns.{assigned_view, by_pattern, has_star, is_starred, regions_for, with_star, without_star};
+ghost use Rattle.place_kernels.specs.Views.{starred_pattern};
+ghost use Rattle.place_checks.specs.Patterns.{assigned_view, by_pattern, has_star, is_starred, regions_for, starred_view, with_star, without_star};
 ghost use Rattle.place_checks.specs.PlaceViews.{assignment_view};
 
-use crate::assigned::Assigned;
+use crate::assigned::{Assigned, Starred};
 use crate::copied::copied;
 use crate::groups::Assignment;
 use crate::placed_box::PlacedBox;
-use place_kernels::patterns::matches;
+use place_kernels::patterns::StarredPattern;
 use std::alloc::{AllocError, Allocator, Global};
 
 /// The patterns of all groups: those without a star in the order of their bytes, and the others.
 #[derive(Drop)]
 pub struct AssignmentTable<'t, A: Allocator = Global> {
     named: Vec<Assigned<'t>, A>,
-    starred: Vec<Assigned<'t>, A>,
+    starred: Vec<Starred<'t>, A>,
     ghost sorted: { IsSortedByKey (λ a. a.pattern.now) (slice_cmp nat_cmp) named.items },
     ghost starless: { list_any is_starred named.items ≡ false },
 }
 
-/// Whether a pattern has a star.
-fn has_star(pattern: &[u8]) -> bool
-    ensures { result ≡ has_star pattern.now }
+/// A pattern that has a star.
+fn starred_of<'t>(pattern: &'t [u8]) -> Option<StarredPattern<'t>>
+    ensures { MatchOption result (has_star pattern.now ≡ false) (λ p. (starred_pattern p ≡ pattern.now) × (has_star pattern.now ≡ true)) }
 {
-    pattern.contains(&b'*')
+    StarredPattern::of(pattern)
 }
 
 /// Adds the patterns of a group, each to those with a star or to those without.
 fn push_patterns<'t, A: Allocator>(
     assignment: &Assignment<'t>,
     named: &mut Vec<Assigned<'t>, A>,
-    starred: &mut Vec<Assigned<'t>, A>,
+    starred: &mut Vec<Starred<'t>, A>,
 ) -> Result<(), AllocError>
     ensures named { OnOk result (map assigned_view named.new.items ≡ map assigned_view named.old.items ++ without_star (by_pattern (assignment_view assignment.now))) }
-    ensures starred { OnOk result (map assigned_view starred.new.items ≡ map assigned_view starred.old.items ++ with_star (by_pattern (assignment_view assignment.now))) }
+    ensures starred { OnOk result (map starred_view starred.new.items ≡ map starred_view starred.old.items ++ with_star (by_pattern (assignment_view assignment.now))) }
 {
     let mut left = copied(&assignment.patterns);
     while let Some(pattern) = left.next() {
-        let assigned = Assigned {
-            pattern: pattern.word.bytes,
-            region: assignment.region,
-        };
-        if has_star(assigned.pattern) {
-            starred.push(assigned)?;
-        } else {
-            named.push(assigned)?;
+        let pattern = pattern.word.bytes;
+        let region = assignment.region;
+        match starred_of(pattern) {
+            Some(pattern) => starred.push(Starred { pattern, region })?,
+            None => named.push(Assigned { pattern, region })?,
         }
     }
     Ok(())
@@ -86,14 +84,14 @@ fn push_regions<'t, A: Allocator>(
 /// Adds the regions of those whose pattern a name matches.
 fn push_matching<'t, A: Allocator>(
     regions: &mut Vec<&'t [u8], A>,
-    all: &[Assigned<'t>],
+    all: &[Starred<'t>],
     name: &[u8],
 ) -> Result<(), AllocError>
-    ensures { OnOk result (map word_view regions.new.items ≡ map word_view regions.old.items ++ regions_for name.now (map assigned_view all.now)) }
+    ensures { OnOk result (map word_view regions.new.items ≡ map word_view regions.old.items ++ regions_for name.now (map starred_view all.now)) }
 {
-    for assigned in all {
-        if matches(assigned.pattern, name) {
-            regions.push(assigned.region)?;
+    for starred in all {
+        if starred.pattern.matches(name) {
+            regions.push(starred.region)?;
         }
     }
     Ok(())

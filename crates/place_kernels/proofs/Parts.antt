@@ -134,9 +134,3 @@ pub first_none : (pattern front after name : List ℕ) → IsSplitAtStar pattern
 first_none pattern front after name split none =
     sym (false_from_ne_true _ (λ h. let says = first_part_says front after name split.starless h in none (says.0 ++ says.1) says.2))
     ∙ ap (λ ps. matches ps name) (sym split.is)
-
--- a pattern without stars
-pub whole_name : (pattern name : List ℕ) (r : Bool) → Starless pattern → (r ≡ true → pattern ≡ name) × (pattern ≡ name → r ≡ true) → r ≡ matches pattern name
-whole_name pattern name r starless equal = same_answer _ _
-    (λ h. ap (matches pattern) (sym (equal.0 h)) ∙ starless_from pattern starless)
-    (λ h. equal.1 (starless_says pattern name starless h))

@@ -1,6 +1,9 @@
--- Rows of sites of the program as those of the definitions.
+-- Rows of sites and patterns of the program as those of the definitions.
+use Rattle.std.specs.Prelude.{ℕ, List, ◌∷◌, ◌++◌}
 use Rattle.design_model.specs.Geometry.{IsNear}
+use Rattle.place_rules.specs.Patterns.{star}
 use Rattle.place_rules.specs.Sites.{SiteRow}
+use Rattle.place_kernels.specs.declared.patterns.StarredPattern.{StarredPattern}
 use Rattle.place_kernels.specs.declared.sites.SiteRow as code
 
 abbrev pub site_row_of : code.SiteRow → SiteRow
@@ -13,3 +16,6 @@ pub record IsNearRow (row : SiteRow) : Type 0 where
   pub step_x : IsNear row.step.x
   pub step_y : IsNear row.step.y
   pub width : IsNear row.size.x
+
+abbrev pub starred_pattern : StarredPattern → List ℕ
+starred_pattern p = p.front.now ++ (star ∷ p.after.now)

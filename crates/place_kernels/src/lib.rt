@@ -3,7 +3,7 @@
 //!
 //! Begin with `covering::covered`, whether rectangles cover a box; `sites::holds` and `sites::on_sites`, how a box stands
 //! in a `SiteRow`, `sites::turned_site` and `sites::rows_agree`, how sites and components are turned there; and
-//! `patterns::matches`, whether a name matches a pattern with `*`.
+//! `patterns::StarredPattern`, which names match a pattern with `*`.
 //!
 //! The definitions are in `place_rules/specs`: `Covering`, `Sites` and `Patterns`; the laws of `laws` say what they mean.
 //! Rectangles, points and rows are copied, and nothing is lent. Nothing fails and nothing takes memory: the calls on rows

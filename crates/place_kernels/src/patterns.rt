@@ -39,15 +39,33 @@ fn matches_after_star(pattern: &[u8], name: &[u8]) -> bool
     left.ends_with(parts)
 }
 
-/// Whether a name matches a pattern, in which each `*` stands for any bytes, also none, and each other byte for itself.
-pub fn matches(pattern: &[u8], name: &[u8]) -> bool
-    ensures { result ≡ matches pattern.now name.now }
-{
-    let Some((front, after)) = split_at_star(pattern) else {
-        return pattern == name;
-    };
-    match name.strip_prefix(front) {
-        Some(rest) => matches_after_star(after, rest),
-        None => false,
+/// A pattern that has a `*`, cut at the first one: a name that begins otherwise is told at once. Each `*` stands for any
+/// bytes, also none, and each other byte for itself.
+#[derive(Clone, Copy)]
+pub struct StarredPattern<'t> {
+    front: &'t [u8],
+    after: &'t [u8],
+    ghost starless: { Starless front.now },
+}
+
+impl<'t> StarredPattern<'t> {
+    ghost use Rattle.place_kernels.specs.Views.{starred_pattern};
+
+    /// A pattern without a `*` gives `None`: it means itself alone.
+    pub fn of(pattern: &'t [u8]) -> Option<StarredPattern<'t>>
+        ensures { MatchOption result (Starless pattern.now) (λ p. starred_pattern p ≡ pattern.now) }
+    {
+        let (front, after) = split_at_star(pattern)?;
+        Some(StarredPattern { front, after })
+    }
+
+    /// Whether a name matches the pattern.
+    pub fn matches(&self, name: &[u8]) -> bool
+        ensures { result ≡ matches (starred_pattern self.now) name.now }
+    {
+        match name.strip_prefix(self.front) {
+            Some(rest) => matches_after_star(self.after, rest),
+            None => false,
+        }
     }
 }

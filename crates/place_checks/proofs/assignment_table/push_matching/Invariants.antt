@@ -1,8 +1,8 @@
 use Rattle.std.proofs.Common.{◌≡◌, ◌++◌, drop, map}
 use Rattle.cell_library.specs.Records.{word_view}
-use Rattle.place_checks.specs.Patterns.{assigned_view, regions_for}
+use Rattle.place_checks.specs.Patterns.{regions_for, starred_view}
 use Rattle.place_checks.proofs.assignment_table.push_matching.Given as goal
 
-abbrev pub invariant-loop-assigned : goal.invariant-loop-assigned
-invariant-loop-assigned g l =
-    map word_view l.regions.items ++ regions_for l.name (map assigned_view (drop l.assigned-index l.all)) ≡ map word_view l.fn.regions.items ++ regions_for l.name (map assigned_view l.all)
+abbrev pub invariant-loop-starred : goal.invariant-loop-starred
+invariant-loop-starred g l =
+    map word_view l.regions.items ++ regions_for l.name (map starred_view (drop l.starred-index l.all)) ≡ map word_view l.fn.regions.items ++ regions_for l.name (map starred_view l.all)

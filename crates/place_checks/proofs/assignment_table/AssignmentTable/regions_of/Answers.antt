@@ -7,5 +7,5 @@ use Rattle.place_checks.proofs.assignment_table.AssignmentTable.regions_of.Goals
 pub returns : goal.returns
 returns g c =
     let table = c.args.self.now in
-    regions_are (boxed_view c.args.component.now) table.named.items table.starred.items c.with_name.result.now c.deref.result.now _ _ _ _ table.starless
+    regions_are (boxed_view c.args.component.now) table.named.items c.with_name.result.now table.starred.items c.deref.result.now _ _ _ _ table.starless
     (ap (map word_view) c.new-regions.ensures.items) c.in_ok-push_own.ensures c.with_name.ensures c.in_ok-push_regions.ensures c.deref.ensures.value c.in_ok-push_matching.ensures
