@@ -5,9 +5,10 @@ use Rattle.design_model.specs.declared.geometry.Point.{Point}
 use Rattle.def_grammar.specs.Wiring as wiring
 use Rattle.def_grammar.specs.Wiring.{WireVia, SpecialVia, ViaArray, Wire, SpecialWire, path_mask, path_virtual, path_rectangle, path_point, path_via}
 use Rattle.wire_rules.specs.Paths.{ViaUse, PathItem, to_point, jump_to, patch, use_via, WireRules, PathPlace, Piece, segment, diagonal, rectangle, via_shape, unknown_via, via_off_layer, one_via, array_of, off_layer, known_via, other_layer, pieces_at, pieces_from, place_after, segment_to, same_z}
+use Rattle.wire_rules.specs.Sizes.{is_array}
 use Rattle.wire_rules.specs.ViaShapes.{NamedShape}
 use Rattle.entry_rules.specs.References.{via_of_item}
-use Rattle.entry_rules.specs.WireItems.{net_via, special_via, via_in_array, items_after, point_after_item, items_of, start_of}
+use Rattle.entry_rules.specs.WireItems.{count_of, net_via, place_of, special_via, via_in_array, items_after, point_after_item, items_of, start_of}
 use Rattle.entry_rules.specs.OffLayer as lines
 use Rattle.entry_rules.specs.OffLayer.{off_layer_vias, named_if, off_layer_in_wire, off_layer_in_special_wire}
 
@@ -74,9 +75,15 @@ module _ (rules : WireRules) where
       ∙ rw (joined_notes (pieces_at rules p (use_via u)) (pieces_from rules (place_after rules p (use_via u)) items), notes_of_via p.layer p.at u (rules.via_layers u.name)) refl
 
 -- the vias of a path's items in numbers are those of the items
+name_of_either : (is_many : Bool) (v w : ViaUse) → w.name ≡ v.name → (if is_many then w else v).name ≡ v.name
+name_of_either true v w same = same
+name_of_either false v w same = refl
+
 named_in_an_array : (v : ViaUse) (array : Option ViaArray) → (via_in_array v array).name ≡ v.name
 named_in_an_array v None = refl
-named_in_an_array v (Some a) = refl
+named_in_an_array v (Some a) =
+    name_of_either (is_array (count_of a.columns) (count_of a.rows)) v
+    (record v { columns = count_of a.columns; rows = count_of a.rows; step = place_of a.step }) refl
 
 vias_of_items : (at : Point) (items : List (wiring.PathItem WireVia)) → filter_map via_used (items_after net_via at items) ≡ filter_map (via_of_item (λ (v : WireVia). v)) items
 unfolding items_after

@@ -13,6 +13,7 @@ use Rattle.def_grammar.specs.Wiring as wiring
 use Rattle.def_grammar.specs.Wiring.{Path, WirePoint, WireVia, SpecialVia, ViaArray}
 use Rattle.wire_rules.specs.Paths as paths
 use Rattle.wire_rules.specs.Paths.{PathItem, ViaUse}
+use Rattle.wire_rules.specs.Sizes.{as_size, is_array}
 
 -- a coordinate, after the one before
 abbrev pub number_after : ℤ → List ℕ → ℤ
@@ -39,14 +40,16 @@ net_via v = record { name = v.name; orient = turned_as v.orient; columns = 1; ro
 
 abbrev pub via_in_array : ViaUse → Option ViaArray → ViaUse
 via_in_array v None = v
-via_in_array v (Some a) = record v { columns = count_of a.columns; rows = count_of a.rows; step = place_of a.step }
+via_in_array v (Some a) =
+    if is_array (count_of a.columns) (count_of a.rows) then record v { columns = count_of a.columns; rows = count_of a.rows; step = place_of a.step }
+    else v
 
 -- one of SPECIALNETS stands once or in an array
 abbrev pub special_via : SpecialVia → ViaUse
 special_via v = via_in_array (net_via v.via) v.array
 
 abbrev pub extension_of : WirePoint → Option ℤ
-extension_of p = option_map int_of p.extension
+extension_of p = option_map (λ e. as_size (int_of e)) p.extension
 
 module _ {Via : Type 0} (use_of : Via → ViaUse) where
   -- what an item gives, after a point

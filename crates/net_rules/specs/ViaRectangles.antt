@@ -16,6 +16,7 @@ use Rattle.def_grammar.specs.Points.{Corners, corner_points}
 use Rattle.def_grammar.specs.DefVias as def
 use Rattle.def_grammar.specs.DefVias.{DefVia, ViaClause, ViaRectangle, ViaLayers, ByLayer, CutArray, via_has_rectangle, cut_size, cut_spacing, enclosure, row_col, via_origin, via_offset}
 use Rattle.def_grammar.specs.Records.{Record}
+use Rattle.wire_rules.specs.Sizes.{as_cuts, as_sizes}
 use Rattle.wire_rules.specs.ViaShapes.{NamedShape, GeneratedVia, generated_shapes}
 use Rattle.entry_rules.specs.References.{layers_of_clause}
 use Rattle.entry_rules.specs.ViaLayers.{by_rule, def_via_named, or_lef, rule_of_via}
@@ -80,10 +81,10 @@ generated_of (Some size) (Some layers) (Some space) (Some by) array at offset = 
   bottom = layers.0;
   cut = layers.1.0;
   top = layers.1.1;
-  cut_size = size;
-  cut_spacing = space;
-  rows = (or_else (pos 1, pos 1) array).0;
-  columns = (or_else (pos 1, pos 1) array).1;
+  cut_size = as_sizes size;
+  cut_spacing = as_sizes space;
+  rows = as_cuts (or_else (pos 1, pos 1) array).0;
+  columns = as_cuts (or_else (pos 1, pos 1) array).1;
   bottom_enclosure = by.0;
   top_enclosure = by.1;
   bottom_offset = (or_else (origin, origin) offset).0;

@@ -4,6 +4,7 @@ use Rattle.std.specs.Prelude.{ℕ, List, Option, Some, None, ℤ}
 use Rattle.std.specs.Option.{option_map}
 use Rattle.design_model.specs.Units.{nearest}
 use Rattle.form_meanings.specs.Words.{◌>>=◌}
+use Rattle.wire_rules.specs.Sizes.{as_size}
 use Rattle.lef_grammar.specs.Definitions as lef
 use Rattle.lef_grammar.specs.Firsts.{find_named}
 use Rattle.lef_grammar.specs.Library.{Library, layer_named, rule_named}
@@ -45,7 +46,7 @@ or_width width (Some other) = other
 
 -- the width by a rule, if there is one; a rule that isn't defined, or that has no such layer, leaves the layer's WIDTH
 abbrev pub wire_width : Library → List Record → ℕ → Option (List ℕ) → List ℕ → ℤ
-wire_width library design u rule layer = or_width (layer_width library u layer) (rule >>= rule_width library design u layer)
+wire_width library design u rule layer = as_size (or_width (layer_width library u layer) (rule >>= rule_width library design u layer))
 
 -- the rule of a wire: none where it is tapered, that of its TAPERRULE, or that of its net
 abbrev pub rule_of_wire : Option (List ℕ) → Taper → Option (List ℕ)

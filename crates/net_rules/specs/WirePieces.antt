@@ -11,6 +11,7 @@ use Rattle.def_grammar.specs.SpecialWires.{special_net_wires}
 use Rattle.def_grammar.specs.Wiring.{Path, Wire, SpecialWire}
 use Rattle.def_grammar.specs.Records.{Record}
 use Rattle.wire_rules.specs.Paths.{Piece, PathPlace, ViaUse, WireRules, pieces_from}
+use Rattle.wire_rules.specs.Sizes.{as_size}
 use Rattle.wire_rules.specs.ViaShapes.{half}
 use Rattle.entry_rules.specs.References.{rule_of_clause}
 use Rattle.entry_rules.specs.ViaLayers.{via_layers}
@@ -42,7 +43,7 @@ module _ (library : Library) (design : List Record) (u : ℕ) where
   special_wire_rules width = record { width = λ layer. width; past_end = λ w. pos 0; via_layers = via_layers library design; via_shapes = via_shapes library design u }
 
   abbrev pub special_wire_pieces : SpecialWire → List Piece
-  special_wire_pieces w = path_pieces special_via (special_wire_rules (int_of w.width)) w.layer w.path
+  special_wire_pieces w = path_pieces special_via (special_wire_rules (as_size (int_of w.width))) w.layer w.path
 
   -- an entry of SPECIALNETS
   abbrev pub special_net_pieces : SpecialNet → List Piece

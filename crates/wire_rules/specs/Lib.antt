@@ -1,4 +1,5 @@
 pub mod Paths
 pub mod Placed
 pub mod Ranges
+pub mod Sizes
 pub mod ViaShapes

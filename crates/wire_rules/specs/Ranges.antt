@@ -18,10 +18,10 @@ pub record IsBoxWithin (n : ℕ) (r : Rectangle) : Type 0 where
   pub x2 : IsWithin n r.x2
   pub y2 : IsWithin n r.y2
 
--- a width, or how far a wire goes past a point
+-- a length: a width, or how far a wire goes past a point; LEF has up to 1000000 microns of 100000 units each
 pub record IsSize (z : ℤ) : Type 0 where
   pub low : pos 0 ≤ℤ z
-  pub high : z ≤ℤ pos 2147483647
+  pub high : z ≤ℤ pos 100000000000
 
 -- columns and rows of vias, 1 or more of each and at most 1000000 vias in all
 pub record IsArray (columns rows : ℕ) : Type 0 where

@@ -24,7 +24,7 @@ generated_view v = record {
 abbrev pub IsCutCount : ℕ → Type 0
 IsCutCount n = (0 < n) × (n ≤ 1000000)
 
--- its numbers are as large as the grammar of DEF lets them be
+-- its numbers are as large as the grammar of DEF and LEF lets them be
 pub record IsGenerated (v : code.GeneratedVia) : Type 0 where
   pub rows : IsCutCount v.rows
   pub columns : IsCutCount v.columns
@@ -32,8 +32,8 @@ pub record IsGenerated (v : code.GeneratedVia) : Type 0 where
   pub cut_height : IsSize v.cut_size.y
   pub space_across : IsSize v.cut_spacing.x
   pub space_along : IsSize v.cut_spacing.y
-  pub bottom_enclosure : IsPointWithin 2147483647 v.bottom_enclosure
-  pub top_enclosure : IsPointWithin 2147483647 v.top_enclosure
-  pub bottom_offset : IsPointWithin 2147483647 v.bottom_offset
-  pub top_offset : IsPointWithin 2147483647 v.top_offset
-  pub origin : IsPointWithin 2147483647 v.origin
+  pub bottom_enclosure : IsPointWithin 100000000000 v.bottom_enclosure
+  pub top_enclosure : IsPointWithin 100000000000 v.top_enclosure
+  pub bottom_offset : IsPointWithin 100000000000 v.bottom_offset
+  pub top_offset : IsPointWithin 100000000000 v.top_offset
+  pub origin : IsPointWithin 100000000000 v.origin

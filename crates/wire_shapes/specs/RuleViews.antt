@@ -16,9 +16,9 @@ via_on_view Unknown = None
 via_on_view Stays = Some None
 via_on_view (Leads layer) = Some (Some layer.now)
 
--- how far a via's shapes reach: 10 ^ 16, more than 1000000 cuts of any size
+-- how far a via's shapes reach: 10 ^ 18, more than 1000000 cuts of any size
 abbrev pub shape_reach : ℕ
-shape_reach = 10000000000000000
+shape_reach = 1000000000000000000
 
 -- a call gave the first of the shapes that were left, and the others are left; or none was left
 abbrev pub GivesShape : List NamedShape → Option code.LayerShape → List NamedShape → Type 0

@@ -38,9 +38,9 @@ pub struct GeneratedVia<'t> {
 /// So many sizes together.
 fn times(count: u64, size: u64) -> u64
     requires count { count ≤ 1000000 }
-    requires size { size ≤ 2147483647 }
+    requires size { size ≤ 100000000000 }
     ensures is { result ≡ count * size }
-    ensures high { result ≤ 2147483647000000 }
+    ensures high { result ≤ 100000000000000000 }
 {
     count * size
 }
@@ -51,7 +51,7 @@ fn extent_of(count: u32, size: i64, space: i64) -> u64
     requires size { IsSize size }
     requires space { IsSize space }
     ensures is { pos result ≡ extent_of (pos count) size space }
-    ensures high { result ≤ 4294967294000000 }
+    ensures high { result ≤ 200000000000000000 }
 {
     let count = count as u64;
     let cuts = times(count, size.unsigned_abs());
@@ -61,11 +61,11 @@ fn extent_of(count: u32, size: i64, space: i64) -> u64
 
 /// A line of a length about 0.
 fn centred(length: u64) -> Span
-    requires { length ≤ 4294967294000000 }
+    requires { length ≤ 200000000000000000 }
     ensures low { result.low ≡ (centred (pos length)).0 }
     ensures high { result.high ≡ (centred (pos length)).1 }
-    ensures low_near { IsWithin 4294967294000000 result.low }
-    ensures high_near { IsWithin 4294967294000000 result.high }
+    ensures low_near { IsWithin 200000000000000000 result.low }
+    ensures high_near { IsWithin 200000000000000000 result.high }
 {
     let low = -((length / 2) as i64);
     Span {
@@ -78,7 +78,7 @@ fn centred(length: u64) -> Span
 fn cut_box(via: &GeneratedVia<'_>) -> Rect
     requires { IsGenerated via.now }
     ensures is { rectangle_of result ≡ cut_box (generated_view via.now) }
-    ensures near { IsBoxWithin 4294967294000000 (rectangle_of result) }
+    ensures near { IsBoxWithin 200000000000000000 (rectangle_of result) }
 {
     let across = extent_of(via.columns, via.cut_size.x, via.cut_spacing.x);
     let along = extent_of(via.rows, via.cut_size.y, via.cut_spacing.y);
@@ -87,8 +87,8 @@ fn cut_box(via: &GeneratedVia<'_>) -> Rect
 
 /// A point, moved back.
 fn back(at: Point, by: Point) -> Point
-    requires at { IsPointWithin 4294967294000000 at }
-    requires by { IsPointWithin 2147483647 by }
+    requires at { IsPointWithin 200000000000000000 at }
+    requires by { IsPointWithin 100000000000 by }
     ensures { result ≡ record { x = at.x -ℤ by.x; y = at.y -ℤ by.y } }
 {
     Point {
@@ -99,8 +99,8 @@ fn back(at: Point, by: Point) -> Point
 
 /// A point, moved.
 fn forth(at: Point, by: Point) -> Point
-    requires at { IsPointWithin 4294967294000000 at }
-    requires by { IsPointWithin 2147483647 by }
+    requires at { IsPointWithin 200000000000000000 at }
+    requires by { IsPointWithin 100000000000 by }
     ensures { result ≡ record { x = at.x +ℤ by.x; y = at.y +ℤ by.y } }
 {
     Point {
@@ -131,20 +131,20 @@ fn upper_right(rect: Rect) -> Point
 
 /// A rectangle with so much more at each side. Less than nothing may make corners cross, which are then put in order.
 fn grown(by: Point, rect: Rect) -> Rect
-    requires near { IsBoxWithin 4294967294000000 (rectangle_of rect) }
-    requires by { IsPointWithin 2147483647 by }
+    requires near { IsBoxWithin 200000000000000000 (rectangle_of rect) }
+    requires by { IsPointWithin 100000000000 by }
     ensures is { rectangle_of result ≡ grown by (rectangle_of rect) }
-    ensures near { IsBoxWithin 4294969441483647 (rectangle_of result) }
+    ensures near { IsBoxWithin 200000100000000000 (rectangle_of result) }
 {
     span(back(lower_left(rect), by), forth(upper_right(rect), by))
 }
 
 /// The shape of a metal about the cuts.
 fn metal(cuts: Rect, enclosure: Point, offset: Point, origin: Point) -> Rect
-    requires near { IsBoxWithin 4294967294000000 (rectangle_of cuts) }
-    requires enclosure { IsPointWithin 2147483647 enclosure }
-    requires offset { IsPointWithin 2147483647 offset }
-    requires origin { IsPointWithin 2147483647 origin }
+    requires near { IsBoxWithin 200000000000000000 (rectangle_of cuts) }
+    requires enclosure { IsPointWithin 100000000000 enclosure }
+    requires offset { IsPointWithin 100000000000 offset }
+    requires origin { IsPointWithin 100000000000 origin }
     ensures is { rectangle_of result ≡ moved_to origin (moved_to offset (grown enclosure (rectangle_of cuts))) }
     ensures near { IsBoxWithin shape_reach (rectangle_of result) }
 {

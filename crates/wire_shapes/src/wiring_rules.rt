@@ -32,7 +32,7 @@ pub trait LayerShapes<'l>: Sized + Copy + Drop {
 
     ghost shapes: { Self → List NamedShape };
 
-    /// The first shape that is left, which reaches at most 10^16 database units from the origin in x and in y; at the end
+    /// The first shape that is left, which reaches at most 10^18 database units from the origin in x and in y; at the end
     /// `None`.
     fn next(&mut self) -> Option<LayerShape<'l>>
         ensures { GivesShape (shapes self.old) result (shapes self.new) };

@@ -6,4 +6,4 @@ use Rattle.wire_shapes.proofs.generated.generated_shape.Goals as goal
 pub returns-in-1-clause-near : goal.returns-in-1-clause-near
 returns-in-1-clause-near c =
     box_wider _ _ (rectangle_of c.move_by.result) (omega arith)
-    (within_moved 4294967294000000 2147483647 c.args.via.now.origin (rectangle_of c.cut_box-cuts.result) (rectangle_of c.move_by.result) c.move_by.ensures c.cut_box-cuts.ensures.near c.requires.origin)
+    (within_moved 200000000000000000 100000000000 c.args.via.now.origin (rectangle_of c.cut_box-cuts.result) (rectangle_of c.move_by.result) c.move_by.ensures c.cut_box-cuts.ensures.near c.requires.origin)
