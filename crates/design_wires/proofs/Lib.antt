@@ -1,0 +1,5 @@
+pub mod FirstLemmas
+pub mod FoundLemmas
+pub mod LefWidths
+pub mod PlanLemmas
+pub mod WithinLemmas

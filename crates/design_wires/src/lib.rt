@@ -1,0 +1,28 @@
+//! What wires and vias of a design are made by, over statements that were read once and over its library.
+//!
+//! Begin with `rules_of_design::DesignRules`: with it `wire_reading::net_pieces` and `special_net_pieces` give the pieces of
+//! the wires of an entry. It makes `rules::NetRules` and `special_rules::SpecialRules`, the widths and the vias of one wire, as
+//! `wire_shapes` asks for them; `via_rects::ViaRects` has the rectangles of one via about its origin. What they say is
+//! defined in `net_rules/specs`: `Widths`, `ViaRectangles` and `WirePieces`; `specs/ViaRectsLeft` says which rectangles are
+//! left to be given.
+//!
+//! Names are lent from the text and from the library. Nothing takes memory, and nothing fails: a layer, a rule or a via that
+//! isn't defined has the width 0 and no shapes. Numbers that the grammar lets no text have are put in range
+//! (`wire_rules/specs/Sizes`).
+#![tactic(auto)]
+
+mod again;
+mod corners;
+mod layer_rects;
+mod rule_widths;
+pub mod rules;
+pub mod rules_of_design;
+pub mod scale;
+mod sizes;
+pub mod special_rules;
+mod via_clauses;
+mod via_plan;
+mod via_plans;
+pub mod via_rects;
+pub mod via_view;
+pub mod widths;

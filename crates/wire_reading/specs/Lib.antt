@@ -1,0 +1,5 @@
+pub mod EntryLeft
+pub mod FoundItems
+pub mod ItemsLeft
+pub mod PiecesBy
+pub mod WiresLeft

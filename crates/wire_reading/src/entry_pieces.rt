@@ -1,0 +1,123 @@
+//! The pieces of all wires of an entry, one after the other.
+
+ghost use Rattle.std.specs.Prelude.{◌≡◌, None};
+ghost use Rattle.wire_parts.specs.NetViews.{net_view};
+ghost use Rattle.wire_parts.specs.SpecialNetViews.{special_net_view};
+ghost use Rattle.wire_shapes.specs.PieceViews.{GivesPiece};
+ghost use Rattle.wire_reading.specs.EntryLeft.{entry_left, wire_left};
+ghost use Rattle.wire_reading.specs.ItemsLeft.{net_items_left, special_items_left};
+ghost use Rattle.wire_reading.specs.PiecesBy.{net_pieces_by, special_net_pieces_by};
+ghost use Rattle.wire_reading.specs.WiresLeft.{net_left, special_left};
+
+use crate::items::{NetItems, SpecialItems};
+use crate::ruled_wires::{NetWires, RuledWires, SpecialNetWires};
+use crate::rules_of::{NetRulesOf, SpecialRulesOf};
+use crate::wire_rule::first_rule;
+use wire_parts::nets::NetParts;
+use wire_parts::special_nets::SpecialNetParts;
+use wire_shapes::{LayerShapes, PathItems, PathPieces, Piece, WiringRules};
+
+/// Gives the pieces of the wires of an entry in their order, wire by wire. It takes no memory.
+#[derive(Drop)]
+pub struct EntryPieces<'t, W, I, R, S> {
+    wires: W,
+    present: Option<PathPieces<'t, I, R, S>>,
+}
+
+impl<'t, W, I, R, S> EntryPieces<'t, W, I, R, S> {
+    /// Before the first of these wires.
+    fn of(wires: W) -> EntryPieces<'t, W, I, R, S>
+        ensures wires { result.wires ≡ wires }
+        ensures first { result.present ≡ None }
+    {
+        EntryPieces {
+            wires,
+            present: None,
+        }
+    }
+}
+
+/// Those of an entry of NETS, made by `M`.
+pub type NetPieces<'t, M, R, S> = EntryPieces<'t, NetWires<'t, M>, NetItems<'t>, R, S>;
+
+/// Those of an entry of SPECIALNETS, made by `M`.
+pub type SpecialNetPieces<'t, M, R, S> = EntryPieces<
+    't,
+    SpecialNetWires<'t, M>,
+    SpecialItems<'t>,
+    R,
+    S,
+>;
+
+/// The pieces of the wires of a net.
+pub fn net_pieces<'t, M, R, S>(parts: NetParts<'t>, maker: M) -> NetPieces<'t, M, R, S>
+where
+    S: LayerShapes<'t>,
+    R: WiringRules<'t, Shapes = S>,
+    M: NetRulesOf<'t, Rules = R>,
+    ensures { entry_left (net_left M.rules_of) net_items_left R.rules S.shapes result ≡ net_pieces_by (M.rules_of maker) (net_view parts.entry) }
+{
+    let rule = first_rule(&parts.clauses);
+    let paths = parts.paths();
+    EntryPieces::of(NetWires { paths, rule, maker })
+}
+
+/// The pieces of the wires of a special net.
+pub fn special_net_pieces<'t, M, R, S>(
+    parts: SpecialNetParts<'t>,
+    maker: M,
+) -> SpecialNetPieces<'t, M, R, S>
+where
+    S: LayerShapes<'t>,
+    R: WiringRules<'t, Shapes = S>,
+    M: SpecialRulesOf<'t, Rules = R>,
+    ensures { entry_left (special_left M.rules_of) special_items_left R.rules S.shapes result ≡ special_net_pieces_by (M.rules_of maker) (special_net_view parts.entry) }
+{
+    let special_paths = parts.paths();
+    EntryPieces::of(SpecialNetWires {
+        paths: special_paths,
+        maker,
+    })
+}
+
+/// The next piece of the present wire.
+fn next_of_wire<'t, I, R, S>(present: &mut Option<PathPieces<'t, I, R, S>>) -> Option<Piece<'t>>
+where
+    I: PathItems<'t>,
+    S: LayerShapes<'t>,
+    R: WiringRules<'t, Shapes = S>,
+    ensures { GivesPiece (wire_left I.items R.rules S.shapes present.old) result (wire_left I.items R.rules S.shapes present.new) }
+{
+    match present {
+        Some(pieces) => pieces.next(),
+        None => None,
+    }
+}
+
+impl<
+    't,
+    I: PathItems<'t>,
+    S: LayerShapes<'t>,
+    R: WiringRules<'t, Shapes = S>,
+    W: RuledWires<'t, I, R, S>,
+> Iterator for EntryPieces<'t, W, I, R, S> {
+    ghost use Rattle.std.specs.Iterator.{item_count};
+    ghost use Rattle.wire_shapes.specs.PieceViews.{GivesPiece};
+    ghost use Rattle.wire_reading.specs.EntryLeft.{entry_left};
+
+    type Item = Piece<'t>;
+
+    ghost next_gives = { λ p found q. GivesPiece (entry_left W.pieces I.items R.rules S.shapes p) found (entry_left W.pieces I.items R.rules S.shapes q) };
+
+    ghost remaining = { item_count (entry_left W.pieces I.items R.rules S.shapes) };
+
+    fn next(&mut self) -> Option<Piece<'t>> {
+        let mut piece = next_of_wire(&mut self.present);
+        while piece.is_none() {
+            let wire = self.wires.next_wire()?;
+            self.present = Some(wire);
+            piece = next_of_wire(&mut self.present);
+        }
+        piece
+    }
+}

@@ -1,0 +1,90 @@
+//! The wires of an entry with their rules, one after the other.
+
+ghost use Rattle.std.specs.Prelude.{◌≡◌, ◌<◌, IfSome, List};
+ghost use Rattle.wire_rules.specs.Paths.{Piece};
+ghost use Rattle.wire_reading.specs.WiresLeft.{GivesWire, net_left, special_left};
+
+use crate::item_numbers::size_of;
+use crate::items::{NetItems, SpecialItems};
+use crate::pieces::{net_path_pieces, special_path_pieces};
+use crate::rules_of::{NetRulesOf, SpecialRulesOf};
+use crate::wire_rule::rule_of_wire;
+use wire_parts::net_wires::NetPaths;
+use wire_parts::special_wires::SpecialPaths;
+use wire_shapes::{LayerShapes, PathItems, PathPieces, WiringRules};
+
+/// The wires that are left of an entry, which are given by their pieces, in their order.
+pub trait RuledWires<
+    't,
+    I: PathItems<'t>,
+    R: WiringRules<'t, Shapes = S>,
+    S: LayerShapes<'t>,
+>: Sized
+    + Drop {
+    ghost use Rattle.std.specs.Prelude.{ℕ};
+
+    ghost pieces: { Self → List Piece };
+
+    ghost count: { Self → ℕ };
+
+    /// The pieces of the next wire; at the end `None`.
+    fn next_wire(&mut self) -> Option<PathPieces<'t, I, R, S>>
+        ensures gives { GivesWire I.items R.rules S.shapes (pieces self.old) result (pieces self.new) }
+        ensures fewer { IfSome result (λ p. count self.new < count self.old) };
+}
+
+/// The wires of an entry of NETS.
+#[derive(Drop)]
+pub struct NetWires<'t, M> {
+    pub(crate) paths: NetPaths<'t>,
+    /// That of the net.
+    pub(crate) rule: Option<&'t [u8]>,
+    pub(crate) maker: M,
+}
+
+impl<
+    't,
+    S: LayerShapes<'t>,
+    R: WiringRules<'t, Shapes = S>,
+    M: NetRulesOf<'t, Rules = R>,
+> RuledWires<'t, NetItems<'t>, R, S> for NetWires<'t, M> {
+    ghost use Rattle.std.specs.Prelude.{length};
+    ghost use Rattle.wire_parts.specs.NetWireViews.{paths_left};
+
+    ghost pieces = { net_left M.rules_of };
+
+    ghost count = { λ w. length (paths_left w.paths) };
+
+    fn next_wire(&mut self) -> Option<PathPieces<'t, NetItems<'t>, R, S>> {
+        let wire = self.paths.next()?;
+        let rules = self.maker.rules(rule_of_wire(self.rule, wire.taper));
+        Some(net_path_pieces(rules, wire.layer.bytes, &wire.path))
+    }
+}
+
+/// The wires of an entry of SPECIALNETS.
+#[derive(Drop)]
+pub struct SpecialNetWires<'t, M> {
+    pub(crate) paths: SpecialPaths<'t>,
+    pub(crate) maker: M,
+}
+
+impl<
+    't,
+    S: LayerShapes<'t>,
+    R: WiringRules<'t, Shapes = S>,
+    M: SpecialRulesOf<'t, Rules = R>,
+> RuledWires<'t, SpecialItems<'t>, R, S> for SpecialNetWires<'t, M> {
+    ghost use Rattle.std.specs.Prelude.{length};
+    ghost use Rattle.wire_parts.specs.SpecialWireViews.{special_paths_left};
+
+    ghost pieces = { special_left M.rules_of };
+
+    ghost count = { λ w. length (special_paths_left w.paths) };
+
+    fn next_wire(&mut self) -> Option<PathPieces<'t, SpecialItems<'t>, R, S>> {
+        let wire = self.paths.next()?;
+        let rules = self.maker.rules(size_of(wire.width.bytes));
+        Some(special_path_pieces(rules, wire.layer.bytes, &wire.path))
+    }
+}

@@ -1,0 +1,37 @@
+//! What wires are made by, wire by wire.
+
+ghost use Rattle.std.specs.Prelude.{◌≡◌};
+ghost use Rattle.std.specs.Option.{option_map};
+ghost use Rattle.def_reader.specs.EntryViews.{bytes_of};
+ghost use Rattle.wire_rules.specs.Ranges.{IsSize};
+
+use wire_shapes::WiringRules;
+
+/// What wires of NETS are made by.
+pub trait NetRulesOf<'t>: Sized + Drop {
+    ghost use Rattle.std.specs.Prelude.{ℕ, List, Option};
+    ghost use Rattle.wire_rules.specs.Paths.{WireRules};
+
+    type Rules: WiringRules<'t>;
+
+    ghost rules_of: { Self → Option (List ℕ) → WireRules };
+
+    /// The rules of a wire that has this nondefault rule, if any.
+    fn rules(&self, rule: Option<&'t [u8]>) -> Self::Rules
+        ensures { Self.Rules.rules result ≡ rules_of self.now (option_map bytes_of rule.entry) };
+}
+
+/// What wires of SPECIALNETS are made by.
+pub trait SpecialRulesOf<'t>: Sized + Drop {
+    ghost use Rattle.std.specs.Prelude.{ℤ};
+    ghost use Rattle.wire_rules.specs.Paths.{WireRules};
+
+    type Rules: WiringRules<'t>;
+
+    ghost rules_of: { Self → ℤ → WireRules };
+
+    /// The rules of a wire of a width.
+    fn rules(&self, width: i64) -> Self::Rules
+        requires { IsSize width }
+        ensures { Self.Rules.rules result ≡ rules_of self.now width };
+}
