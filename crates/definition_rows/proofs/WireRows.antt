@@ -1,10 +1,10 @@
 -- Worked rows of wires and vias, by computing.
-use Rattle.std.proofs.Common.{◌≡◌, ℕ, List, [], ◌∷◌, ◌++◌, Option, Some, None, ℤ, pos, refl, codes, if◌then◌else◌, ap, ◌∙◌, sym, append_assoc}
+use Rattle.std.proofs.Common.{◌≡◌, ℕ, List, [], ◌∷◌, Option, Some, None, ℤ, pos, refl, codes, if◌then◌else◌}
 use Rattle.std.specs.Prelude.{neg_ℤ}
 use Rattle.std.specs.Str.{bytes_eq}
 use Rattle.design_model.specs.declared.geometry.Orient.TheVariants.{N, W}
 use Rattle.design_model.specs.declared.geometry.Point.{Point}
-use Rattle.wire_rules.specs.Paths.{PathItem, to_point, jump_to, patch, use_via, WireRules, PathPlace, Piece, segment, diagonal, rectangle, via_shape, unknown_via, via_off_layer, line_of, pieces_from, place_after, place_after_all, pieces_at, PiecesJoin}
+use Rattle.wire_rules.specs.Paths.{PathItem, to_point, jump_to, patch, use_via, WireRules, PathPlace, segment, diagonal, rectangle, via_shape, unknown_via, via_off_layer, line_of, pieces_from}
 use Rattle.wire_rules.specs.ViaShapes.{NamedShape, generated_shapes, half}
 
 abbrev on : List ℕ → ℤ → ℤ → ℤ → ℤ → NamedShape
@@ -123,9 +123,3 @@ rows_of_vias = refl
 rectangle_about_the_last_point : pieces_from net_rules (from (codes "met1") (pos 10) (pos 20)) (patch (record { x1 = neg_ℤ (pos 5); y1 = pos 0; x2 = pos 5; y2 = pos 1 }) ∷ []) ≡ rectangle (on (codes "met1") (pos 5) (pos 20) (pos 15) (pos 21)) ∷ []
 unfolding pieces_from
 rectangle_about_the_last_point = refl
-
--- pieces go on from the place that a path's front reaches
-pieces_join : (rules : WireRules) → PiecesJoin rules
-unfolding pieces_from place_after_all
-pieces_join rules p [] rest = refl
-pieces_join rules p (i ∷ is) rest = ap (λ (z : List Piece). pieces_at rules p i ++ z) (pieces_join rules (place_after rules p i) is rest) ∙ sym (append_assoc (pieces_at rules p i) (pieces_from rules (place_after rules p i) is) (pieces_from rules (place_after_all rules (place_after rules p i) is) rest))

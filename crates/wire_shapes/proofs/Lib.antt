@@ -1,6 +1,7 @@
 pub mod Bits
 pub mod Cuts
 pub mod Holding
+pub mod Joining
 pub mod Lines
 pub mod PathSteps
 pub mod Places

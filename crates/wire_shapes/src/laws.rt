@@ -1,5 +1,6 @@
 //! Laws of the definitions.
 
+ghost use Rattle.wire_rules.specs.Paths.{PiecesJoin, WireRules};
 ghost use Rattle.wire_shapes.specs.Laws.{LinesOfPlaces, SegmentHoldsItsEnds, TurningViasBack};
 
 /// The rectangle of a wire between two points holds both.
@@ -15,4 +16,9 @@ pub fn turning_vias_back()
 /// A place of a line of vias is as many steps from the first as there are places before it.
 pub fn lines_of_places()
     ensures { LinesOfPlaces }
+{}
+
+/// The pieces of a path are those of its front, and then, from the place and the layer that this reaches, those of the rest.
+pub fn pieces_join()
+    ensures { (rules : WireRules) → PiecesJoin rules }
 {}

@@ -4,7 +4,7 @@
 //! `wire_rules/specs/Paths`, `pieces_from`, over the numbers of the path's items (`PathItems`), and over the widths and the
 //! vias of the design (`WiringRules`, with a via's shapes as `LayerShapes`): who reads a text says what these are.
 //! `GeneratedShapes` has the shapes of a via that a VIARULE generates (`wire_rules/specs/ViaShapes`, `generated_shapes`).
-//! The laws `segment_holds_its_ends`, `turning_vias_back` and `lines_of_places` say what the definitions mean.
+//! The laws `segment_holds_its_ends`, `turning_vias_back`, `lines_of_places` and `pieces_join` say what the definitions mean.
 //!
 //! The names in pieces are those of the path and of the rules, and live as long as they do. Nothing takes memory and
 //! nothing fails: a diagonal wire, a via that isn't known and one off its layer are pieces. The calls ask that numbers are no
@@ -25,7 +25,7 @@ mod via_walk;
 mod wiring_rules;
 
 pub use generated::{GeneratedShapes, GeneratedVia};
-pub use laws::{lines_of_places, segment_holds_its_ends, turning_vias_back};
+pub use laws::{lines_of_places, pieces_join, segment_holds_its_ends, turning_vias_back};
 pub use path_items::{PathItem, PathItems, ViaUse};
 pub use piece::Piece;
 pub use pieces::PathPieces;
