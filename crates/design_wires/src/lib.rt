@@ -11,7 +11,6 @@
 //! (`wire_rules/specs/Sizes`).
 #![tactic(auto)]
 
-mod again;
 mod corners;
 mod layer_rects;
 mod rule_widths;

@@ -10,7 +10,6 @@ ghost use Rattle.wire_rules.specs.Ranges.{IsWithin};
 ghost use Rattle.design_wires.specs.RuleLayers.{first_width};
 ghost use Rattle.design_wires.specs.Scales.{units_of};
 
-use crate::again::again;
 use crate::scale::Scale;
 use cell_library::numbers::in_units;
 use cell_library::rule::Rule;
@@ -41,7 +40,7 @@ pub(crate) fn def_rule_width(rule: &RuleParts<'_>, layer: &[u8]) -> Option<i64>
     ensures is { result ≡ def_rule_width layer.now (rule_view rule.now) }
     ensures near { IfSome result (IsWithin 100000000000) }
 {
-    first_width(again(&rule.clauses), layer)
+    first_width(rule.clauses.again(), layer)
 }
 
 /// The width that a rule of LEF gives on a layer.

@@ -24,11 +24,11 @@ use wire_shapes::{ViaOn, WiringRules};
 
 /// Widths and vias of a wire of NETS with a rule, or with none.
 #[derive(Drop)]
-pub struct NetRules<'a, 'l, 'r, 't, A: Allocator = Global> {
+pub struct NetRules<'n, 'a, 'l, 'r, 't, A: Allocator = Global> {
     library: &'a Library<'l, A>,
     names: &'a Names<'r, 't, A>,
     scale: Scale,
-    rule: Option<&'a [u8]>,
+    rule: Option<&'n [u8]>,
 }
 
 /// The shapes of the via of a name; none where it isn't known.
@@ -66,14 +66,14 @@ impl<'a, 'l, 'r, 't, A: Allocator + Copy> SpecialRules<'a, 'l, 'r, 't, A> {
     }
 }
 
-impl<'a, 'l, 'r, 't, A: Allocator + Copy> NetRules<'a, 'l, 'r, 't, A> {
+impl<'n, 'a, 'l, 'r, 't, A: Allocator + Copy> NetRules<'n, 'a, 'l, 'r, 't, A> {
     /// Those of wires with this rule, or with none.
     pub fn new(
         library: &'a Library<'l, A>,
         names: &'a Names<'r, 't, A>,
         scale: Scale,
-        rule: Option<&'a [u8]>,
-    ) -> NetRules<'a, 'l, 'r, 't, A>
+        rule: Option<&'n [u8]>,
+    ) -> NetRules<'n, 'a, 'l, 'r, 't, A>
         ensures { net_rules_of result ≡ net_wire_rules library.entry.now names.entry.now (units_of scale) (option_map bytes_of rule.entry) }
     {
         NetRules {
@@ -85,8 +85,8 @@ impl<'a, 'l, 'r, 't, A: Allocator + Copy> NetRules<'a, 'l, 'r, 't, A> {
     }
 }
 
-impl<'a, 'l: 'a, 'r: 'a, 't: 'a, A: Allocator + Copy> WiringRules<'a>
-    for NetRules<'a, 'l, 'r, 't, A> {
+impl<'n, 'a: 'n, 'l: 'a, 'r: 'a, 't: 'a, A: Allocator + Copy> WiringRules<'n>
+    for NetRules<'n, 'a, 'l, 'r, 't, A> {
     ghost use Rattle.design_wires.specs.RulesOf.{net_rules_of};
 
     type Shapes = ViaRects<'a, 'l, 't, A>;
@@ -101,7 +101,7 @@ impl<'a, 'l: 'a, 'r: 'a, 't: 'a, A: Allocator + Copy> WiringRules<'a>
         width / 2
     }
 
-    fn via_on(&self, via: &[u8], layer: &[u8]) -> ViaOn<'a> {
+    fn via_on(&self, via: &[u8], layer: &[u8]) -> ViaOn<'n> {
         via_layers::via_on(self.library, self.names, via, layer)
     }
 
@@ -110,7 +110,7 @@ impl<'a, 'l: 'a, 'r: 'a, 't: 'a, A: Allocator + Copy> WiringRules<'a>
     }
 }
 
-impl<'a, 'l: 'a, 'r: 'a, 't: 'a, A: Allocator + Copy> WiringRules<'a>
+impl<'n, 'a: 'n, 'l: 'a, 'r: 'a, 't: 'a, A: Allocator + Copy> WiringRules<'n>
     for SpecialRules<'a, 'l, 'r, 't, A> {
     ghost use Rattle.design_wires.specs.RulesOf.{special_rules_of};
 
@@ -126,7 +126,7 @@ impl<'a, 'l: 'a, 'r: 'a, 't: 'a, A: Allocator + Copy> WiringRules<'a>
         0
     }
 
-    fn via_on(&self, via: &[u8], layer: &[u8]) -> ViaOn<'a> {
+    fn via_on(&self, via: &[u8], layer: &[u8]) -> ViaOn<'n> {
         via_layers::via_on(self.library, self.names, via, layer)
     }
 

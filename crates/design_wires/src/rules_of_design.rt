@@ -19,21 +19,21 @@ pub struct DesignRules<'a, 'l, 'r, 't, A: Allocator = Global> {
     pub scale: Scale,
 }
 
-impl<'a, 'l: 'a, 'r: 'a, 't: 'a, A: Allocator + Copy> NetRulesOf<'a>
+impl<'n, 'a: 'n, 'l: 'a, 'r: 'a, 't: 'a, A: Allocator + Copy> NetRulesOf<'n>
     for DesignRules<'a, 'l, 'r, 't, A> {
     ghost use Rattle.net_rules.specs.WirePieces.{net_wire_rules};
     ghost use Rattle.design_wires.specs.Scales.{units_of};
 
-    type Rules = NetRules<'a, 'l, 'r, 't, A>;
+    type Rules = NetRules<'n, 'a, 'l, 'r, 't, A>;
 
     ghost rules_of = { λ d rule. net_wire_rules d.library.now d.names.now (units_of d.scale) rule };
 
-    fn rules(&self, rule: Option<&'a [u8]>) -> NetRules<'a, 'l, 'r, 't, A> {
+    fn rules(&self, rule: Option<&'n [u8]>) -> NetRules<'n, 'a, 'l, 'r, 't, A> {
         NetRules::new(self.library, self.names, self.scale, rule)
     }
 }
 
-impl<'a, 'l: 'a, 'r: 'a, 't: 'a, A: Allocator + Copy> SpecialRulesOf<'a>
+impl<'n, 'a: 'n, 'l: 'a, 'r: 'a, 't: 'a, A: Allocator + Copy> SpecialRulesOf<'n>
     for DesignRules<'a, 'l, 'r, 't, A> {
     ghost use Rattle.net_rules.specs.WirePieces.{special_wire_rules};
     ghost use Rattle.design_wires.specs.Scales.{units_of};

@@ -11,7 +11,6 @@ ghost use Rattle.wire_rules.specs.Ranges.{IsPointWithin};
 ghost use Rattle.design_wires.specs.PlanViews.{AreNear, IsPlan, metals_view, plan_view};
 ghost use Rattle.design_wires.specs.Scales.{units_of};
 
-use crate::again::again;
 use crate::scale::Scale;
 use crate::via_clauses::{
     first_array, first_enclosure, first_layers, first_offset, first_origin, first_size,
@@ -29,13 +28,13 @@ pub(crate) fn plan_in_def<'a, 't: 'a>(via: &'a ViaParts<'t>) -> ViaPlan<'a>
     ensures in_range { IsPlan result }
 {
     ViaPlan {
-        cut_size: first_size(again(&via.clauses)),
-        layers: first_layers(again(&via.clauses)),
-        cut_spacing: first_spacing(again(&via.clauses)),
-        enclosure: first_enclosure(again(&via.clauses)),
-        array: first_array(again(&via.clauses)),
-        origin: first_origin(again(&via.clauses)),
-        offset: first_offset(again(&via.clauses)),
+        cut_size: first_size(via.clauses.again()),
+        layers: first_layers(via.clauses.again()),
+        cut_spacing: first_spacing(via.clauses.again()),
+        enclosure: first_enclosure(via.clauses.again()),
+        array: first_array(via.clauses.again()),
+        origin: first_origin(via.clauses.again()),
+        offset: first_offset(via.clauses.again()),
     }
 }
 

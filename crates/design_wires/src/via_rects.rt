@@ -14,7 +14,6 @@ ghost use Rattle.design_wires.specs.PlanViews.{IsPlan, plan_view};
 ghost use Rattle.design_wires.specs.Scales.{units_of};
 ghost use Rattle.design_wires.specs.ViaRectsLeft.{clauses_left, generated_if_left, rects_left};
 
-use crate::again::again;
 use crate::corners::corner_rectangle;
 use crate::layer_rects::LayerRects;
 use crate::scale::Scale;
@@ -93,10 +92,10 @@ impl<'a, 'l: 'a, 't: 'a, A: Allocator + Copy> ViaRects<'a, 'l, 't, A> {
     fn in_def(via: &'a ViaParts<'t>) -> Self
         ensures { rects_left result ≡ def_via_shapes (via_view via.entry.now) }
     {
-        let left = if is_generated(again(&via.clauses)) {
+        let left = if is_generated(via.clauses.again()) {
             RectsLeft::Generated(generated_rects(plan_in_def(via)))
         } else {
-            RectsLeft::Clauses(again(&via.clauses))
+            RectsLeft::Clauses(via.clauses.again())
         };
         ViaRects { left }
     }
@@ -140,12 +139,12 @@ impl<'a, 'l: 'a, 't: 'a, A: Allocator + Copy> ViaRects<'a, 'l, 't, A> {
     }
 }
 
-impl<'a, 'l: 'a, 't: 'a, A: Allocator + Copy> LayerShapes<'a> for ViaRects<'a, 'l, 't, A> {
+impl<'n, 'a: 'n, 'l: 'a, 't: 'a, A: Allocator + Copy> LayerShapes<'n> for ViaRects<'a, 'l, 't, A> {
     ghost use Rattle.design_wires.specs.ViaRectsLeft.{rects_left};
 
     ghost shapes = { rects_left };
 
-    fn next(&mut self) -> Option<LayerShape<'a>>
+    fn next(&mut self) -> Option<LayerShape<'n>>
         ensures { GivesShape (rects_left self.old) result (rects_left self.new) }
     {
         match &mut self.left {

@@ -6,7 +6,6 @@ ghost use Rattle.wire_parts.specs.PathViews.{net_path_view, special_path_view};
 ghost use Rattle.entry_rules.specs.Unchecked.{diagonals_of, is_diagonal};
 ghost use Rattle.entry_rules.specs.WireItems.{net_via, number_after, place_after, place_of, special_via};
 
-use crate::again::again;
 use def_parts::number::int_of;
 use def_parts::point::Coordinates;
 use design_model::geometry::Point;
@@ -57,7 +56,7 @@ pub(crate) fn net_diagonals<'t>(path: &Path<'t, WireVia<'t>>) -> usize
     ensures { result ≡ diagonals_of net_via (net_path_view path.now) }
 {
     let mut at = place_of(path.start.at);
-    let mut left = again(&path.items);
+    let mut left = path.items.again();
     let mut count = 0;
     while let Some(item) = left.next() {
         match item {
@@ -81,7 +80,7 @@ pub(crate) fn special_diagonals<'t>(path: &Path<'t, SpecialVia<'t>>) -> usize
     ensures { result ≡ diagonals_of special_via (special_path_view path.now) }
 {
     let mut at = place_of(path.start.at);
-    let mut left = again(&path.items);
+    let mut left = path.items.again();
     let mut count = 0;
     while let Some(item) = left.next() {
         match item {

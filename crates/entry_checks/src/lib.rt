@@ -11,7 +11,6 @@
 //! Reports lend their names from the text of the statements and from the library. The one error is `AllocError`.
 #![tactic(auto)]
 
-mod again;
 mod diagonals;
 mod joined_layers;
 mod known;

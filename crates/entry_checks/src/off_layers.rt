@@ -17,7 +17,6 @@ ghost use Rattle.entry_rules.specs.ViaLayers.{via_layers};
 ghost use Rattle.entry_checks.specs.OffLayerViews.{off_layer_text};
 ghost use Rattle.entry_checks.specs.Views.{diag_texts};
 
-use crate::again::again;
 use crate::reports::name_or_dash;
 use crate::via_layers::via_on;
 use cell_library::library::Library;
@@ -197,18 +196,10 @@ fn push_entry<'a, 't: 'a, A: Allocator + Copy>(
     };
     match entry {
         Entry::Net(NetEntry::Net(parts)) => {
-            let wires = NetPaths {
-                wires: None,
-                clauses: again(&parts.clauses),
-            };
-            push_wires(reports, library, names, owner, wires)
+            push_wires(reports, library, names, owner, parts.paths())
         }
         Entry::SpecialNet(parts) => {
-            let wires = SpecialPaths {
-                wires: None,
-                clauses: again(&parts.clauses),
-            };
-            push_special_wires(reports, library, names, owner, wires)
+            push_special_wires(reports, library, names, owner, parts.paths())
         }
         _ => Ok(()),
     }

@@ -9,7 +9,6 @@ ghost use Rattle.wire_parts.specs.ViaViews.{via_clauses_of};
 ghost use Rattle.def_reader.specs.EntryViews.{entry_view};
 ghost use Rattle.entry_rules.specs.Unchecked.{is_blocked_polygon, is_more, is_polygon_of_pin, is_polygon_of_via, one_if, unchecked_in};
 
-use crate::again::again;
 use crate::token_count::few_tokens;
 use crate::unchecked_nets::in_net;
 use crate::unchecked_special_nets::in_special_net;
@@ -83,7 +82,7 @@ fn in_blockage(entry: &BlockageEntry<'_>) -> usize
     match entry {
         BlockageEntry::Kept(_) => 1,
         BlockageEntry::Blocks(parts) => {
-            let polygons = blocked_polygons(again(&parts.others));
+            let polygons = blocked_polygons(parts.others.again());
             if is_polygon(&parts.first) {
                 polygons + 1
             } else {
@@ -99,9 +98,9 @@ pub(crate) fn unchecked_in(entry: &Entry<'_>) -> usize
     ensures few { result < 2 ^ 63 }
 {
     match entry {
-        Entry::Pin(parts) => polygons_of_pin(again(&parts.clauses)),
+        Entry::Pin(parts) => polygons_of_pin(parts.clauses.again()),
         Entry::Blockage(blockage) => in_blockage(blockage),
-        Entry::Via(parts) => polygons_of_via(again(&parts.clauses)),
+        Entry::Via(parts) => polygons_of_via(parts.clauses.again()),
         Entry::Net(net) => in_net(net),
         Entry::SpecialNet(parts) => in_special_net(parts),
         Entry::Component(_)
@@ -117,7 +116,7 @@ pub(crate) fn unchecked_in_die(area: &DieAreaParts<'_>) -> usize
     ensures count { result ≡ one_if (is_more (die_area_view area.now).others) }
     ensures few { result ≤ 1 }
 {
-    match again(&area.others).peek() {
+    match area.others.again().peek() {
         Some(_) => 1,
         None => 0,
     }

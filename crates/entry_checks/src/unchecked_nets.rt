@@ -8,7 +8,6 @@ ghost use Rattle.def_grammar.specs.Nets.{net_wiring};
 ghost use Rattle.def_grammar.specs.Records.{net};
 ghost use Rattle.entry_rules.specs.Unchecked.{is_listed, net_words, unchecked_in, unchecked_in_clause, unchecked_in_wire};
 
-use crate::again::again;
 use crate::diagonals::net_diagonals;
 use crate::token_count::few_tokens;
 use def_parts::clauses::KeptClause;
@@ -98,7 +97,7 @@ pub(crate) fn in_net(entry: &NetEntry<'_>) -> usize
         NetEntry::MustJoin(_) => 0,
         NetEntry::Net(parts) => {
             few_tokens(&parts.clauses.cursor);
-            in_clauses(again(&parts.clauses))
+            in_clauses(parts.clauses.again())
         }
     }
 }

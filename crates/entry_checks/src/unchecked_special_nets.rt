@@ -9,7 +9,6 @@ ghost use Rattle.def_grammar.specs.SpecialNets.{special_has_wiring};
 ghost use Rattle.def_grammar.specs.Records.{special_net};
 ghost use Rattle.entry_rules.specs.Unchecked.{is_listed, is_style, special_words, unchecked_in, unchecked_in_special, unchecked_in_special_wire};
 
-use crate::again::again;
 use crate::diagonals::special_diagonals;
 use crate::token_count::few_tokens;
 use def_parts::clauses::KeptClause;
@@ -121,5 +120,5 @@ pub(crate) fn in_special_net(parts: &SpecialNetParts<'_>) -> usize
     ensures few { result < 2 ^ 63 }
 {
     few_tokens(&parts.clauses.cursor);
-    in_clauses(again(&parts.clauses))
+    in_clauses(parts.clauses.again())
 }

@@ -14,7 +14,6 @@ ghost use Rattle.entry_rules.specs.References.{layer_of_shape, layers_of_clause}
 ghost use Rattle.entry_rules.specs.ViaLayers.{body_layers, def_via_layers, rule_of_via, via_layers};
 ghost use Rattle.entry_checks.specs.JoinedLayers.{Joins, layer_of};
 
-use crate::again::again;
 use crate::joined_layers::JoinedLayers;
 use cell_library::library::Library;
 use cell_library::shapes::LayerShapes;
@@ -115,10 +114,10 @@ fn joined_in_def<'t, A: Allocator + Copy>(
 ) -> JoinedLayers<'t>
     ensures { Joins library.now result [] (def_via_layers (via_view via.now)) }
 {
-    if !is_generated(again(&via.clauses)) {
-        return by_shapes(library, again(&via.clauses));
+    if !is_generated(via.clauses.again()) {
+        return by_shapes(library, via.clauses.again());
     }
-    match first_layers(again(&via.clauses)) {
+    match first_layers(via.clauses.again()) {
         Some(layers) => by_names(
             library,
             layers.bottom.bytes,

@@ -9,7 +9,6 @@
 //! of a list of the caller. The one error is `AllocError`; then the list isn't to be used.
 #![tactic(auto)]
 
-mod again;
 pub mod entries;
 mod nets;
 pub mod places;

@@ -11,7 +11,6 @@ ghost use Rattle.wire_parts.specs.WiringViews.{taper_view, wire_view};
 ghost use Rattle.entry_rules.specs.References.{net_references, rule_of_clause, taper_references, wire_references};
 ghost use Rattle.entry_references.specs.ReferenceViews.{net_item_references, references_view};
 
-use crate::again::again;
 use crate::reference::{Reference, push};
 use crate::terminals::push_terminals;
 use lefdef_tokens::Token;
@@ -97,13 +96,13 @@ fn push_parts<'t, A: Allocator>(
 ) -> Result<(), AllocError>
     ensures { OnOk result (references_view found.new.items ≡ references_view found.old.items ++ net_references (is_net (net_view parts.now))) }
 {
-    push_terminals(again(&parts.terminals), found)?;
-    if let Some(rule) = first_rule(again(&parts.clauses)) {
+    push_terminals(parts.terminals.again(), found)?;
+    if let Some(rule) = first_rule(parts.clauses.again()) {
         push(found, Reference::Rule(rule.bytes))?;
     }
     let paths = NetPaths {
         wires: None,
-        clauses: again(&parts.clauses),
+        clauses: parts.clauses.again(),
     };
     push_wires(paths, found)
 }

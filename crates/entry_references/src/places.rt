@@ -12,7 +12,6 @@ ghost use Rattle.place_parts.specs.PinViews.{pin_clause_view, pin_clauses_of, pi
 ghost use Rattle.entry_rules.specs.References.{blockage_references, component_references, group_references, net_of_clause, pin_references, region_of_clause, shape_references};
 ghost use Rattle.entry_references.specs.ReferenceViews.{references_view};
 
-use crate::again::again;
 use crate::reference::{Reference, push};
 use lefdef_tokens::Token;
 use place_parts::blockages::{BlockageEntry, BlockageKind};
@@ -43,7 +42,7 @@ pub(crate) fn push_component<'t, A: Allocator>(
     ensures { OnOk result (references_view found.new.items ≡ references_view found.old.items ++ component_references (component_view parts.now)) }
 {
     push(found, Reference::Macro(parts.cell.bytes))?;
-    if let Some(region) = first_region(again(&parts.clauses)) {
+    if let Some(region) = first_region(parts.clauses.again()) {
         push(found, Reference::Region(region.bytes))?;
     }
     Ok(())
@@ -98,10 +97,10 @@ pub(crate) fn push_pin<'t, A: Allocator>(
 ) -> Result<(), AllocError>
     ensures { OnOk result (references_view found.new.items ≡ references_view found.old.items ++ pin_references (pin_view parts.now)) }
 {
-    if let Some(net) = first_net(again(&parts.clauses)) {
+    if let Some(net) = first_net(parts.clauses.again()) {
         push(found, Reference::Net(net.bytes))?;
     }
-    push_shapes(again(&parts.clauses), found)
+    push_shapes(parts.clauses.again(), found)
 }
 
 /// The first region of one name that clauses of a group name.
@@ -124,7 +123,7 @@ pub(crate) fn push_group<'t, A: Allocator>(
 ) -> Result<(), AllocError>
     ensures { OnOk result (references_view found.new.items ≡ references_view found.old.items ++ group_references (group_view parts.now)) }
 {
-    match first_group_region(again(&parts.clauses)) {
+    match first_group_region(parts.clauses.again()) {
         Some(region) => push(found, Reference::Region(region.bytes)),
         None => Ok(()),
     }

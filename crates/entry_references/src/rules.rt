@@ -6,7 +6,6 @@ ghost use Rattle.wire_parts.specs.RuleViews.{rule_view};
 ghost use Rattle.entry_rules.specs.References.{rule_references};
 ghost use Rattle.entry_references.specs.ReferenceViews.{is_to_layer, references_view};
 
-use crate::again::again;
 use crate::reference::{Reference, push};
 use std::alloc::{AllocError, Allocator};
 use wire_parts::rules::{RuleClause, RuleParts};
@@ -33,7 +32,7 @@ pub(crate) fn push_rule<'t, A: Allocator>(
     ensures { OnOk result (references_view found.new.items ≡ references_view found.old.items ++ rule_references (rule_view parts.now)) }
 {
     let start = found.len();
-    let mut left = again(&parts.clauses);
+    let mut left = parts.clauses.again();
     while let Some(clause) = left.next() {
         let RuleClause::Layer(layer) = clause else {
             continue;

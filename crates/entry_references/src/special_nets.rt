@@ -6,7 +6,6 @@ ghost use Rattle.wire_parts.specs.WiringViews.{special_kind_view, special_wire_v
 ghost use Rattle.entry_rules.specs.References.{shield_references, special_clause_references, special_net_references, special_wire_references, special_wiring_references};
 ghost use Rattle.entry_references.specs.ReferenceViews.{references_view, special_item_references};
 
-use crate::again::again;
 use crate::reference::{Reference, push};
 use crate::terminals::push_terminals;
 use statement_reader::parts::Parts;
@@ -39,7 +38,7 @@ fn push_wire<'t, A: Allocator>(
     ensures { OnOk result (references_view found.new.items ≡ references_view found.old.items ++ special_wire_references (special_wire_view wire.now)) }
 {
     push(found, Reference::Layer(wire.layer.bytes))?;
-    push_items(again(&wire.path.items), found)
+    push_items(wire.path.items.again(), found)
 }
 
 /// Adds what wires name that come after the first of a clause.
@@ -67,7 +66,7 @@ fn push_wires<'t, A: Allocator>(
         return Ok(());
     };
     push_wire(&wires.first, found)?;
-    push_later_wires(again(&wires.others), found)
+    push_later_wires(wires.others.again(), found)
 }
 
 /// Adds the net that wiring shields, and what its wires name.
@@ -124,6 +123,6 @@ pub(crate) fn push_special_net<'t, A: Allocator>(
 ) -> Result<(), AllocError>
     ensures { OnOk result (references_view found.new.items ≡ references_view found.old.items ++ special_net_references (special_net_view parts.now)) }
 {
-    push_terminals(again(&parts.terminals), found)?;
-    push_clauses(again(&parts.clauses), found)
+    push_terminals(parts.terminals.again(), found)?;
+    push_clauses(parts.clauses.again(), found)
 }

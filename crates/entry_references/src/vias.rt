@@ -8,7 +8,6 @@ ghost use Rattle.wire_parts.specs.ViaViews.{via_clauses_of, via_layers_view, via
 ghost use Rattle.entry_rules.specs.References.{layer_of_shape, layers_of_clause, to_layer, via_references};
 ghost use Rattle.entry_references.specs.ReferenceViews.{references_view};
 
-use crate::again::again;
 use crate::reference::{Reference, push};
 use statement_reader::parts::Parts;
 use std::alloc::{AllocError, Allocator};
@@ -55,8 +54,8 @@ pub(crate) fn push_via<'t, A: Allocator>(
 ) -> Result<(), AllocError>
     ensures { OnOk result (references_view found.new.items ≡ references_view found.old.items ++ via_references (via_view parts.now)) }
 {
-    push_shape_layers(again(&parts.clauses), found)?;
-    if let Some(layers) = first_layers(again(&parts.clauses)) {
+    push_shape_layers(parts.clauses.again(), found)?;
+    if let Some(layers) = first_layers(parts.clauses.again()) {
         push(found, Reference::Layer(layers.bottom.bytes))?;
         push(found, Reference::Layer(layers.cut.bytes))?;
         push(found, Reference::Layer(layers.top.bytes))?;

@@ -1,3 +1,6 @@
-pub mod Turning
+pub mod CoverLaws
 pub mod Overlapping
 pub mod Placing
+pub mod Squares
+pub mod Strips
+pub mod Turning

@@ -1,5 +1,6 @@
 //! Laws of the definitions.
 
+ghost use Rattle.orient_geom.specs.Covering.{CoveredByOne, CoveredBySquares, CoveredWithoutArea};
 ghost use Rattle.orient_geom.specs.Laws.{TurningBack, OverlapIsSymmetric, OverlapIsSharedArea};
 
 /// Turning by an orientation and then by its inverse gives the rectangle back.
@@ -15,4 +16,19 @@ pub fn overlap_is_symmetric()
 /// Two rectangles overlap exactly where some unit square lies in both.
 pub fn overlap_is_shared_area()
     ensures { OverlapIsSharedArea }
+{}
+
+/// Rectangles cover a box exactly where each of its unit squares lies in one of them.
+pub fn covered_by_squares()
+    ensures { CoveredBySquares }
+{}
+
+/// A rectangle that a box lies in covers it, whatever stands beside it.
+pub fn covered_by_one()
+    ensures { CoveredByOne }
+{}
+
+/// Any rectangles cover a box without area.
+pub fn covered_without_area()
+    ensures { CoveredWithoutArea }
 {}

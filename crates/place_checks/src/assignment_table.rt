@@ -12,7 +12,6 @@ ghost use Rattle.place_checks.specs.Patterns.{assigned_view, by_pattern, has_sta
 ghost use Rattle.place_checks.specs.PlaceViews.{assignment_view};
 
 use crate::assigned::{Assigned, Starred};
-use crate::copied::copied;
 use crate::groups::Assignment;
 use crate::placed_box::PlacedBox;
 use place_kernels::patterns::StarredPattern;
@@ -43,7 +42,7 @@ fn push_patterns<'t, A: Allocator>(
     ensures named { OnOk result (map assigned_view named.new.items ≡ map assigned_view named.old.items ++ without_star (by_pattern (assignment_view assignment.now))) }
     ensures starred { OnOk result (map starred_view starred.new.items ≡ map starred_view starred.old.items ++ with_star (by_pattern (assignment_view assignment.now))) }
 {
-    let mut left = copied(&assignment.patterns);
+    let mut left = assignment.patterns.again();
     while let Some(pattern) = left.next() {
         let pattern = pattern.word.bytes;
         let region = assignment.region;

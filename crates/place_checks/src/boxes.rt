@@ -5,24 +5,23 @@ ghost use Rattle.std.specs.Option.{option_map};
 ghost use Rattle.design_model.specs.Geometry.{IsNearRectangle};
 ghost use Rattle.design_model.specs.Views.{rectangle_of};
 ghost use Rattle.lef_grammar.specs.Firsts.{first_of};
-ghost use Rattle.def_grammar.specs.Placing.{placing};
 ghost use Rattle.entry_rules.specs.References.{region_of_clause};
-ghost use Rattle.design_rules.specs.Boxes.{boundary_of, box_at, box_of, boxes, is_cover, scale};
+ghost use Rattle.design_rules.specs.Boxes.{boundary_of, box_at, box_of, boxes, component_box, is_cover, scale};
 ghost use Rattle.def_parts.specs.PointViews.{point_view};
 ghost use Rattle.def_reader.specs.StatementViews.{record_view};
-ghost use Rattle.place_parts.specs.ComponentViews.{clause_view, component_view};
+ghost use Rattle.place_parts.specs.ComponentViews.{component_view};
 ghost use Rattle.cell_library.specs.CellViews.{cell_view};
 ghost use Rattle.cell_library.specs.Numbers.{IsWithin};
 ghost use Rattle.cell_library.specs.Records.{word_view};
 ghost use Rattle.place_checks.specs.Corners.{corner, in_order};
 ghost use Rattle.place_checks.specs.Views.{boxed_view, records_view};
 
-use crate::copied::copied;
 use crate::corners::place_of;
 use crate::placed_box::PlacedBox;
 use crate::scale::scale_of;
 use cell_library::library::Library;
 use cell_library::macro_view::MacroView;
+use def_reader::entry::Entry;
 use def_reader::read_statement::Read;
 use def_reader::statement::Statement;
 use design_model::geometry::{Rect, Status};
@@ -74,15 +73,8 @@ fn is_cover<A: Allocator + Copy>(cell: MacroView<'_, '_, A>) -> bool
 fn region_of<'t>(parts: &ComponentParts<'t>) -> Option<&'t [u8]>
     ensures { option_map word_view result ≡ first_of region_of_clause (component_view parts.now).clauses }
 {
-    let name = first_region(copied(&parts.clauses))?;
+    let name = first_region(parts.clauses.again())?;
     Some(name.bytes)
-}
-
-/// The clause that places a component.
-fn placing_of<'t>(parts: &ComponentParts<'t>) -> Option<Clause<'t>>
-    ensures { option_map clause_view result ≡ placing (component_view parts.now).clauses }
-{
-    copied(parts).placing()
 }
 
 /// The box of a component that is placed so, where its macro is no cover.
@@ -115,27 +107,40 @@ fn box_at<'t, A: Allocator + Copy>(
 }
 
 /// The box of a component that takes part: one that is placed or fixed, of a known macro that is no cover.
-fn box_of<'t, A: Allocator + Copy>(
+fn component_box<'t, A: Allocator + Copy>(
     library: &'t Library<'_, A>,
     scale: u32,
-    statement: Statement<'t>,
+    parts: &ComponentParts<'t>,
 ) -> Option<PlacedBox<'t>>
     requires some { 0 < scale }
     requires few { scale ≤ 100000 }
-    ensures { option_map boxed_view result ≡ box_of library.now scale (record_view statement.entry) }
+    ensures { option_map boxed_view result ≡ component_box library.now scale (component_view parts.now) }
 {
-    let Some(parts) = statement.component() else {
-        return None;
-    };
-    let Some(Clause::Placed(placement)) = placing_of(&parts) else {
+    let Some(Clause::Placed(placement)) = parts.placing() else {
         return None;
     };
     match placement.status {
         Status::Placed | Status::Fixed => {
             let cell = library.macro_of(parts.cell.bytes)?;
-            box_at(cell, scale, &parts, placement)
+            box_at(cell, scale, parts, placement)
         }
         Status::Cover => None,
+    }
+}
+
+/// The box of a statement that is a component that takes part.
+fn box_of<'t, A: Allocator + Copy>(
+    library: &'t Library<'_, A>,
+    scale: u32,
+    statement: &Statement<'t>,
+) -> Option<PlacedBox<'t>>
+    requires some { 0 < scale }
+    requires few { scale ≤ 100000 }
+    ensures { option_map boxed_view result ≡ box_of library.now scale (record_view statement.now) }
+{
+    match statement {
+        Statement::Entry(Entry::Component(parts)) => component_box(library, scale, parts),
+        _ => None,
     }
 }
 
@@ -151,9 +156,8 @@ pub fn boxes_of<'t, A: Allocator + Copy>(
 {
     let scale = scale_of(records);
     let mut boxes = Vec::new(alloc);
-    // The clauses of a component are read from a copy of them, so statements are taken by value.
-    for read in records.iter().copied() {
-        let Some(placed) = box_of(library, scale, read.statement) else {
+    for read in records {
+        let Some(placed) = box_of(library, scale, &read.statement) else {
             continue;
         };
         boxes.push(placed)?;

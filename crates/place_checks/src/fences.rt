@@ -19,8 +19,7 @@ use crate::report::push_report;
 use crate::surroundings::Surroundings;
 use design_model::diagnostic::{Diag, DiagKind};
 use design_model::geometry::Rect;
-use orient_geom::overlaps;
-use place_kernels::covering::covered;
+use orient_geom::{covered, overlaps};
 use std::alloc::{AllocError, Allocator};
 
 /// Whether a region is one of these.

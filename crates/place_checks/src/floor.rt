@@ -14,7 +14,6 @@ ghost use Rattle.place_checks.specs.PlaceViews.{placed_row_view};
 ghost use Rattle.place_checks.specs.RowSizes.{IsSmallPoint, step_in};
 ghost use Rattle.place_checks.specs.Views.{records_view};
 
-use crate::copied::copied;
 use crate::corners::{place_of, point_after, rectangle_between};
 use crate::placed_row::PlacedRow;
 use crate::scale::scale_of;
@@ -149,7 +148,7 @@ pub fn rows_of<'t, A: Allocator + Copy>(
 fn two_points(area: &DieAreaParts<'_>) -> Option<Rect>
     ensures { option_map rectangle_of result ≡ two_points (die_area_view area.now) }
 {
-    if copied(&area.others).peek().is_some() {
+    if area.others.again().peek().is_some() {
         return None;
     }
     Some(rectangle_between(area.first, point_after(area.first, area.second)))

@@ -5,7 +5,6 @@ ghost use Rattle.design_rules.specs.Surroundings.{assignments};
 ghost use Rattle.place_checks.specs.PlaceViews.{assignment_view};
 ghost use Rattle.place_checks.specs.Views.{records_view};
 
-use crate::copied::copied;
 use def_reader::entry::Entry;
 use def_reader::read_statement::Read;
 use def_reader::statement::Statement;
@@ -34,10 +33,10 @@ pub fn assignments_of<'t, A: Allocator + Copy>(
         let Statement::Entry(Entry::Group(group)) = &read.statement else {
             continue;
         };
-        if let Some(region) = first_group_region(copied(&group.clauses)) {
+        if let Some(region) = first_group_region(group.clauses.again()) {
             assignments.push(Assignment {
                 region: region.bytes,
-                patterns: copied(&group.patterns),
+                patterns: group.patterns.again(),
             })?;
         }
     }

@@ -8,7 +8,6 @@ ghost use Rattle.place_parts.specs.BlockageViews.{blockage_clause_view, blockage
 ghost use Rattle.design_rules.specs.Surroundings.{is_sparing, keep_outs, kept_out, rectangle_of_shape};
 ghost use Rattle.place_checks.specs.Views.{records_view};
 
-use crate::copied::copied;
 use crate::corners::corner_rectangle;
 use def_reader::entry::Entry;
 use def_reader::read_statement::Read;
@@ -81,9 +80,9 @@ fn push_kept_out<A: Allocator>(
     ensures { OnOk result (map rectangle_of found.new.items ≡ map rectangle_of found.old.items ++ kept_out (blockage_view blockage.now)) }
 {
     match blockage.kind {
-        BlockageKind::Placement if !has_sparing(copied(&blockage.clauses)) => {
+        BlockageKind::Placement if !has_sparing(blockage.clauses.again()) => {
             push_shape(&blockage.first, found)?;
-            push_shapes(copied(&blockage.others), found)
+            push_shapes(blockage.others.again(), found)
         }
         BlockageKind::Placement | BlockageKind::Layer(_) => Ok(()),
     }

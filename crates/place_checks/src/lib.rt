@@ -19,7 +19,6 @@ pub mod assigned;
 pub mod assignment_table;
 pub mod blocked;
 pub mod boxes;
-mod copied;
 mod corners;
 pub mod count;
 pub mod fences;

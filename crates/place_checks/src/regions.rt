@@ -10,7 +10,6 @@ ghost use Rattle.design_rules.specs.Surroundings.{fences, rectangles_of, type_of
 ghost use Rattle.place_checks.specs.PlaceViews.{fence_view};
 ghost use Rattle.place_checks.specs.Views.{records_view};
 
-use crate::copied::copied;
 use crate::corners::{point_after, rectangle_between};
 use def_reader::entry::Entry;
 use def_reader::read_statement::Read;
@@ -52,7 +51,7 @@ fn rectangles_of<A: Allocator + Copy>(
     let mut last = point_after(first, region.first.second);
     let mut rectangles = Sequence::new(alloc);
     rectangles.push(rectangle_between(first, last))?;
-    let mut left = copied(&region.others);
+    let mut left = region.others.again();
     while let Some(later) = left.next() {
         let first = point_after(last, later.corners.first);
         last = point_after(first, later.corners.second);
@@ -73,7 +72,7 @@ pub fn fences_of<'t, A: Allocator + Copy>(
         let Statement::Entry(Entry::Region(region)) = &read.statement else {
             continue;
         };
-        if let Some(RegionKind::Fence) = kind_of(copied(&region.clauses)) {
+        if let Some(RegionKind::Fence) = kind_of(region.clauses.again()) {
             fences.push(Fence {
                 name: region.name.bytes,
                 rectangles: rectangles_of(alloc, region)?,

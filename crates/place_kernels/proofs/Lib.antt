@@ -1,9 +1,6 @@
-pub mod CoverLaws
 pub mod Near
 pub mod Parts
 pub mod PatternLaws
 pub mod SiteLaws
-pub mod Squares
 pub mod Stars
 pub mod Steps
-pub mod Strips

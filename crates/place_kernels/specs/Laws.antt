@@ -1,26 +1,13 @@
--- What covering, rows of sites and patterns mean.
-use Rattle.std.specs.Prelude.{◌≡◌, ℕ, suc, ◌<◌, IsTrue, ◌&&◌, ◌↔◌, ◌⊎◌, List, ◌∷◌, ◌++◌, Contains, pos, neg_ℤ, ◌+ℤ◌, ◌-ℤ◌, ◌*ℤ◌, ◌≤ℤ◌, codes}
+-- What rows of sites and patterns mean.
+use Rattle.std.specs.Prelude.{◌≡◌, ℕ, suc, ◌<◌, IsTrue, ◌&&◌, ◌↔◌, ◌⊎◌, List, ◌∷◌, ◌++◌, pos, neg_ℤ, ◌+ℤ◌, ◌-ℤ◌, ◌*ℤ◌, ◌≤ℤ◌, codes}
 use Rattle.std.specs.Int.{int_min, int_max}
 use Rattle.std.specs.Int.Signed.{le_z}
 use Rattle.design_model.specs.declared.geometry.Orient.{Orient}
 use Rattle.design_model.specs.declared.geometry.Point.{Point}
 use Rattle.design_model.specs.Geometry.{Rectangle, turned, turned_point}
-use Rattle.place_rules.specs.Covering.{Covered, is_covered}
 use Rattle.place_rules.specs.Patterns.{star, matches}
 use Rattle.place_rules.specs.Sites.{SiteRow, spans, holds, is_on_sites, site_box, is_row_orient, turned_size}
 use Rattle.place_kernels.specs.Stars.{Starless}
-
--- Rectangles cover a box exactly where each of its unit squares lies in one of them.
-abbrev pub CoveredBySquares : Type 0
-CoveredBySquares = (box : Rectangle) (list : List Rectangle) → IsTrue (is_covered box list) ↔ Covered box list
-
--- A rectangle that a box lies in covers it, whatever stands beside it.
-abbrev pub CoveredByOne : Type 0
-CoveredByOne = (box r : Rectangle) (list : List Rectangle) → Contains list r → r.x1 ≤ℤ box.x1 → r.y1 ≤ℤ box.y1 → box.x2 ≤ℤ r.x2 → box.y2 ≤ℤ r.y2 → IsTrue (is_covered box list)
-
--- Any rectangles cover a box without area.
-abbrev pub CoveredWithoutArea : Type 0
-CoveredWithoutArea = (box : Rectangle) (list : List Rectangle) → (box.x2 ≤ℤ box.x1) ⊎ (box.y2 ≤ℤ box.y1) → IsTrue (is_covered box list)
 
 -- A row holds the box of each of its sites, and that box is on its sites.
 abbrev pub SitesAreHeld : Type 0

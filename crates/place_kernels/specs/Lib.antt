@@ -1,4 +1,3 @@
 pub mod Laws
 pub mod Stars
-pub mod Strips
 pub mod Views

@@ -1,21 +1,6 @@
 //! Laws of the definitions.
 
-ghost use Rattle.place_kernels.specs.Laws.{CoveredBySquares, CoveredByOne, CoveredWithoutArea, SitesAreHeld, SpansBetweenEnds, RowOrients, TurnedSizes, StarlessMatchesItself, StarMatchesAnyBytes, StarMatchesAll};
-
-/// Rectangles cover a box exactly where each of its unit squares lies in one of them.
-pub fn covered_by_squares()
-    ensures { CoveredBySquares }
-{}
-
-/// A rectangle that a box lies in covers it, whatever stands beside it.
-pub fn covered_by_one()
-    ensures { CoveredByOne }
-{}
-
-/// Any rectangles cover a box without area.
-pub fn covered_without_area()
-    ensures { CoveredWithoutArea }
-{}
+ghost use Rattle.place_kernels.specs.Laws.{SitesAreHeld, SpansBetweenEnds, RowOrients, TurnedSizes, StarlessMatchesItself, StarMatchesAnyBytes, StarMatchesAll};
 
 /// A row holds the box of each of its sites, and that box is on its sites.
 pub fn sites_are_held()

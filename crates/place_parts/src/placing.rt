@@ -48,11 +48,11 @@ fn placing_clause<'t>(clauses: Parts<'t, Clause<'t>>) -> Option<PlacingClause<'t
 
 impl<'t> ComponentParts<'t> {
     /// The clause that places the component.
-    pub fn placing(self) -> Option<Clause<'t>>
-        ensures gives { option_map clause_view result ≡ placing (component_view self.entry).clauses }
-        ensures lent { IfSome result (λ c. ClauseIn self.entry.clauses.cursor.tokens.text.now c) }
+    pub fn placing(&self) -> Option<Clause<'t>>
+        ensures gives { option_map clause_view result ≡ placing (component_view self.now).clauses }
+        ensures lent { IfSome result (λ c. ClauseIn self.now.clauses.cursor.tokens.text.now c) }
     {
-        let found = placing_clause(self.clauses)?;
+        let found = placing_clause(self.clauses.again())?;
         Some(found.clause)
     }
 

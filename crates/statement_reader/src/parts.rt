@@ -166,6 +166,14 @@ pub fn skip_parts<'t, P: UsualPart<'t>>(cursor: Cursor<'t>) -> Option<Cursor<'t>
 }
 
 impl<'t, P: Part<'t>> Parts<'t, P> {
+    /// These parts, to be read from the first of them on.
+    #[inline(always)]
+    pub fn again(&self) -> Parts<'t, P>
+        ensures { result ≡ self.now }
+    {
+        *self
+    }
+
     /// The next part; at the end `None`, and nothing changes.
     pub fn next(&mut self) -> Option<P>
         ensures step { IsStep P.view P.test P.reads self.old.most (rest_of self.old.cursor) result self.new.most (rest_of self.new.cursor) }

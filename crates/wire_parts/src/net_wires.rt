@@ -22,13 +22,13 @@ pub struct NetPaths<'t> {
 
 impl<'t> NetParts<'t> {
     /// The wires of all its wiring clauses, in the order of the text.
-    pub fn paths(self) -> NetPaths<'t>
-        ensures gives { paths_left result ≡ net_wires (net_view self.entry) }
-        ensures lent { (text : List ℕ) → NetIn text self.entry → PathsIn text result }
+    pub fn paths(&self) -> NetPaths<'t>
+        ensures gives { paths_left result ≡ net_wires (net_view self.now) }
+        ensures lent { (text : List ℕ) → NetIn text self.now → PathsIn text result }
     {
         NetPaths {
             wires: None,
-            clauses: self.clauses,
+            clauses: self.clauses.again(),
         }
     }
 }

@@ -22,13 +22,13 @@ pub struct SpecialPaths<'t> {
 
 impl<'t> SpecialNetParts<'t> {
     /// The wires of all its wiring clauses, in the order of the text. Its other shapes are no wires.
-    pub fn paths(self) -> SpecialPaths<'t>
-        ensures gives { special_paths_left result ≡ special_net_wires (special_net_view self.entry) }
-        ensures lent { (text : List ℕ) → SpecialNetIn text self.entry → SpecialPathsIn text result }
+    pub fn paths(&self) -> SpecialPaths<'t>
+        ensures gives { special_paths_left result ≡ special_net_wires (special_net_view self.now) }
+        ensures lent { (text : List ℕ) → SpecialNetIn text self.now → SpecialPathsIn text result }
     {
         SpecialPaths {
             wires: None,
-            clauses: self.clauses,
+            clauses: self.clauses.again(),
         }
     }
 }

@@ -19,14 +19,14 @@ use wire_shapes::{LayerShapes, PathItems, PathPieces, Piece, WiringRules};
 
 /// Gives the pieces of the wires of an entry in their order, wire by wire. It takes no memory.
 #[derive(Drop)]
-pub struct EntryPieces<'t, W, I, R, S> {
+pub struct EntryPieces<'a, W, I, R, S> {
     wires: W,
-    present: Option<PathPieces<'t, I, R, S>>,
+    present: Option<PathPieces<'a, I, R, S>>,
 }
 
-impl<'t, W, I, R, S> EntryPieces<'t, W, I, R, S> {
+impl<'a, W, I, R, S> EntryPieces<'a, W, I, R, S> {
     /// Before the first of these wires.
-    fn of(wires: W) -> EntryPieces<'t, W, I, R, S>
+    fn of(wires: W) -> EntryPieces<'a, W, I, R, S>
         ensures wires { result.wires ≡ wires }
         ensures first { result.present ≡ None }
     {
@@ -38,11 +38,11 @@ impl<'t, W, I, R, S> EntryPieces<'t, W, I, R, S> {
 }
 
 /// Those of an entry of NETS, made by `M`.
-pub type NetPieces<'t, M, R, S> = EntryPieces<'t, NetWires<'t, M>, NetItems<'t>, R, S>;
+pub type NetPieces<'a, 't, M, R, S> = EntryPieces<'a, NetWires<'t, M>, NetItems<'t>, R, S>;
 
 /// Those of an entry of SPECIALNETS, made by `M`.
-pub type SpecialNetPieces<'t, M, R, S> = EntryPieces<
-    't,
+pub type SpecialNetPieces<'a, 't, M, R, S> = EntryPieces<
+    'a,
     SpecialNetWires<'t, M>,
     SpecialItems<'t>,
     R,
@@ -50,28 +50,28 @@ pub type SpecialNetPieces<'t, M, R, S> = EntryPieces<
 >;
 
 /// The pieces of the wires of a net.
-pub fn net_pieces<'t, M, R, S>(parts: NetParts<'t>, maker: M) -> NetPieces<'t, M, R, S>
+pub fn net_pieces<'a, 't: 'a, M, R, S>(parts: &NetParts<'t>, maker: M) -> NetPieces<'a, 't, M, R, S>
 where
-    S: LayerShapes<'t>,
-    R: WiringRules<'t, Shapes = S>,
-    M: NetRulesOf<'t, Rules = R>,
-    ensures { entry_left (net_left M.rules_of) net_items_left R.rules S.shapes result ≡ net_pieces_by (M.rules_of maker) (net_view parts.entry) }
+    S: LayerShapes<'a>,
+    R: WiringRules<'a, Shapes = S>,
+    M: NetRulesOf<'a, Rules = R>,
+    ensures { entry_left (net_left M.rules_of) net_items_left R.rules S.shapes result ≡ net_pieces_by (M.rules_of maker) (net_view parts.now) }
 {
-    let rule = first_rule(&parts.clauses);
     let paths = parts.paths();
+    let rule = first_rule(&parts.clauses);
     EntryPieces::of(NetWires { paths, rule, maker })
 }
 
 /// The pieces of the wires of a special net.
-pub fn special_net_pieces<'t, M, R, S>(
-    parts: SpecialNetParts<'t>,
+pub fn special_net_pieces<'a, 't: 'a, M, R, S>(
+    parts: &SpecialNetParts<'t>,
     maker: M,
-) -> SpecialNetPieces<'t, M, R, S>
+) -> SpecialNetPieces<'a, 't, M, R, S>
 where
-    S: LayerShapes<'t>,
-    R: WiringRules<'t, Shapes = S>,
-    M: SpecialRulesOf<'t, Rules = R>,
-    ensures { entry_left (special_left M.rules_of) special_items_left R.rules S.shapes result ≡ special_net_pieces_by (M.rules_of maker) (special_net_view parts.entry) }
+    S: LayerShapes<'a>,
+    R: WiringRules<'a, Shapes = S>,
+    M: SpecialRulesOf<'a, Rules = R>,
+    ensures { entry_left (special_left M.rules_of) special_items_left R.rules S.shapes result ≡ special_net_pieces_by (M.rules_of maker) (special_net_view parts.now) }
 {
     let special_paths = parts.paths();
     EntryPieces::of(SpecialNetWires {
@@ -81,11 +81,11 @@ where
 }
 
 /// The next piece of the present wire.
-fn next_of_wire<'t, I, R, S>(present: &mut Option<PathPieces<'t, I, R, S>>) -> Option<Piece<'t>>
+fn next_of_wire<'a, I, R, S>(present: &mut Option<PathPieces<'a, I, R, S>>) -> Option<Piece<'a>>
 where
-    I: PathItems<'t>,
-    S: LayerShapes<'t>,
-    R: WiringRules<'t, Shapes = S>,
+    I: PathItems<'a>,
+    S: LayerShapes<'a>,
+    R: WiringRules<'a, Shapes = S>,
     ensures { GivesPiece (wire_left I.items R.rules S.shapes present.old) result (wire_left I.items R.rules S.shapes present.new) }
 {
     match present {
@@ -95,23 +95,23 @@ where
 }
 
 impl<
-    't,
-    I: PathItems<'t>,
-    S: LayerShapes<'t>,
-    R: WiringRules<'t, Shapes = S>,
-    W: RuledWires<'t, I, R, S>,
-> Iterator for EntryPieces<'t, W, I, R, S> {
+    'a,
+    I: PathItems<'a>,
+    S: LayerShapes<'a>,
+    R: WiringRules<'a, Shapes = S>,
+    W: RuledWires<'a, I, R, S>,
+> Iterator for EntryPieces<'a, W, I, R, S> {
     ghost use Rattle.std.specs.Iterator.{item_count};
     ghost use Rattle.wire_shapes.specs.PieceViews.{GivesPiece};
     ghost use Rattle.wire_reading.specs.EntryLeft.{entry_left};
 
-    type Item = Piece<'t>;
+    type Item = Piece<'a>;
 
     ghost next_gives = { λ p found q. GivesPiece (entry_left W.pieces I.items R.rules S.shapes p) found (entry_left W.pieces I.items R.rules S.shapes q) };
 
     ghost remaining = { item_count (entry_left W.pieces I.items R.rules S.shapes) };
 
-    fn next(&mut self) -> Option<Piece<'t>> {
+    fn next(&mut self) -> Option<Piece<'a>> {
         let mut piece = next_of_wire(&mut self.present);
         while piece.is_none() {
             let wire = self.wires.next_wire()?;

@@ -16,7 +16,7 @@ use wire_parts::paths::{self, SpecialVia, WireVia};
 use wire_shapes::{PathItem, PathItems};
 
 /// The items that are left of a path, by the section of its net.
-pub trait ItemParts<'t>: Sized + Drop {
+pub trait ItemParts<'a>: Sized + Drop {
     ghost use Rattle.std.specs.Prelude.{ℕ, List};
     ghost use Rattle.design_model.specs.declared.geometry.Point.{Point as ThePoint};
     ghost use Rattle.wire_rules.specs.Paths.{PathItem as TheItem};
@@ -26,7 +26,7 @@ pub trait ItemParts<'t>: Sized + Drop {
     ghost most: { Self → ℕ };
 
     /// Goes on from a point with the next item, and gives its numbers. A mask has none.
-    fn enter(&mut self, at: &mut Point) -> Option<Option<PathItem<'t>>>
+    fn enter(&mut self, at: &mut Point) -> Option<Option<PathItem<'a>>>
         requires { IsPlace at.old }
         ensures gives { EntersItem (after at.old self.old) result (after at.new self.new) }
         ensures fewer { IfSome result (λ i. most self.new < most self.old) }
@@ -62,32 +62,32 @@ fn numbers_of<'t, V: UsedVia<'t>>(
     }
 }
 
-impl<'t> ItemParts<'t> for Parts<'t, paths::PathItem<'t, WireVia<'t>>> {
+impl<'a, 't: 'a> ItemParts<'a> for Parts<'t, paths::PathItem<'t, WireVia<'t>>> {
     ghost after = { λ at parts. items_after net_via at (items_of net_form parts) };
 
     ghost most = { λ parts. parts.most };
 
     #[tactic(auto, unfolding(entry_rules::specs::WireItems::items_after))]
-    fn enter(&mut self, at: &mut Point) -> Option<Option<PathItem<'t>>> {
+    fn enter(&mut self, at: &mut Point) -> Option<Option<PathItem<'a>>> {
         let item = self.next()?;
         Some(numbers_of(at, item))
     }
 }
 
-impl<'t> ItemParts<'t> for Parts<'t, paths::PathItem<'t, SpecialVia<'t>>> {
+impl<'a, 't: 'a> ItemParts<'a> for Parts<'t, paths::PathItem<'t, SpecialVia<'t>>> {
     ghost after = { λ at parts. items_after special_via at (items_of special_form parts) };
 
     ghost most = { λ parts. parts.most };
 
     #[tactic(auto, unfolding(entry_rules::specs::WireItems::items_after))]
-    fn enter(&mut self, at: &mut Point) -> Option<Option<PathItem<'t>>> {
+    fn enter(&mut self, at: &mut Point) -> Option<Option<PathItem<'a>>> {
         let special = self.next()?;
         Some(numbers_of(at, special))
     }
 }
 
 /// The next item after a point that has numbers. Masks are passed over.
-fn next_item<'t, P: ItemParts<'t>>(at: &mut Point, left: &mut P) -> Option<PathItem<'t>>
+fn next_item<'a, P: ItemParts<'a>>(at: &mut Point, left: &mut P) -> Option<PathItem<'a>>
     requires { IsPlace at.old }
     ensures gives { GivesItem (P.after at.old left.old) result (P.after at.new left.new) }
     ensures place { IsPlace at.new }
@@ -125,12 +125,12 @@ impl<P> WireItems<P> {
     }
 }
 
-impl<'t, P: ItemParts<'t>> PathItems<'t> for WireItems<P> {
+impl<'a, P: ItemParts<'a>> PathItems<'a> for WireItems<P> {
     ghost use Rattle.wire_reading.specs.ItemsLeft.{items_left};
 
     ghost items = { items_left P.after };
 
-    fn next(&mut self) -> Option<PathItem<'t>>
+    fn next(&mut self) -> Option<PathItem<'a>>
         ensures { GivesItem (items_left P.after self.old) result (items_left P.after self.new) }
     {
         next_item(&mut self.at, &mut self.left)

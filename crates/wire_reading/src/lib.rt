@@ -11,7 +11,6 @@
 //! Names in pieces are those of the text and of the rules. Nothing takes memory and nothing fails.
 #![tactic(auto)]
 
-mod again;
 mod entry_pieces;
 mod item_numbers;
 mod items;

@@ -7,36 +7,35 @@ ghost use Rattle.wire_parts.specs.PathViews.{net_path_view, special_path_view};
 ghost use Rattle.wire_shapes.specs.PiecesLeft.{pieces_left};
 ghost use Rattle.wire_reading.specs.ItemsLeft.{net_items_left, special_items_left};
 
-use crate::again::again;
 use crate::item_numbers::{extension_of, place_of};
 use crate::items::{NetItems, SpecialItems, WireItems};
 use wire_parts::paths::{Path, SpecialVia, WireVia};
 use wire_shapes::{LayerShapes, PathPieces, WiringRules};
 
 /// The pieces of a path of NETS, which begins on a layer.
-pub fn net_path_pieces<'t, S: LayerShapes<'t>, R: WiringRules<'t, Shapes = S>>(
+pub fn net_path_pieces<'a, 't: 'a, S: LayerShapes<'a>, R: WiringRules<'a, Shapes = S>>(
     rules: R,
-    layer: &'t [u8],
+    layer: &'a [u8],
     path: &Path<'t, WireVia<'t>>,
-) -> PathPieces<'t, NetItems<'t>, R, S>
+) -> PathPieces<'a, NetItems<'t>, R, S>
     ensures { pieces_left net_items_left R.rules S.shapes result ≡ path_pieces net_via (R.rules rules) layer.entry.now (net_path_view path.now) }
 {
     let at = place_of(path.start.at);
     let extension = extension_of(&path.start);
-    let items = WireItems::after(at, again(&path.items));
+    let items = WireItems::after(at, path.items.again());
     PathPieces::new(rules, layer, at, extension, items)
 }
 
 /// The pieces of a path of SPECIALNETS, which begins on a layer.
-pub fn special_path_pieces<'t, S: LayerShapes<'t>, R: WiringRules<'t, Shapes = S>>(
+pub fn special_path_pieces<'a, 't: 'a, S: LayerShapes<'a>, R: WiringRules<'a, Shapes = S>>(
     rules: R,
-    layer: &'t [u8],
+    layer: &'a [u8],
     path: &Path<'t, SpecialVia<'t>>,
-) -> PathPieces<'t, SpecialItems<'t>, R, S>
+) -> PathPieces<'a, SpecialItems<'t>, R, S>
     ensures { pieces_left special_items_left R.rules S.shapes result ≡ path_pieces special_via (R.rules rules) layer.entry.now (special_path_view path.now) }
 {
     let at = place_of(path.start.at);
     let past_start = extension_of(&path.start);
-    let items = WireItems::after(at, again(&path.items));
+    let items = WireItems::after(at, path.items.again());
     PathPieces::new(rules, layer, at, past_start, items)
 }

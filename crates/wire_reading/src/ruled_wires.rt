@@ -15,10 +15,10 @@ use wire_shapes::{LayerShapes, PathItems, PathPieces, WiringRules};
 
 /// The wires that are left of an entry, which are given by their pieces, in their order.
 pub trait RuledWires<
-    't,
-    I: PathItems<'t>,
-    R: WiringRules<'t, Shapes = S>,
-    S: LayerShapes<'t>,
+    'a,
+    I: PathItems<'a>,
+    R: WiringRules<'a, Shapes = S>,
+    S: LayerShapes<'a>,
 >: Sized
     + Drop {
     ghost use Rattle.std.specs.Prelude.{ℕ};
@@ -28,7 +28,7 @@ pub trait RuledWires<
     ghost count: { Self → ℕ };
 
     /// The pieces of the next wire; at the end `None`.
-    fn next_wire(&mut self) -> Option<PathPieces<'t, I, R, S>>
+    fn next_wire(&mut self) -> Option<PathPieces<'a, I, R, S>>
         ensures gives { GivesWire I.items R.rules S.shapes (pieces self.old) result (pieces self.new) }
         ensures fewer { IfSome result (λ p. count self.new < count self.old) };
 }
@@ -43,11 +43,12 @@ pub struct NetWires<'t, M> {
 }
 
 impl<
-    't,
-    S: LayerShapes<'t>,
-    R: WiringRules<'t, Shapes = S>,
-    M: NetRulesOf<'t, Rules = R>,
-> RuledWires<'t, NetItems<'t>, R, S> for NetWires<'t, M> {
+    'a,
+    't: 'a,
+    S: LayerShapes<'a>,
+    R: WiringRules<'a, Shapes = S>,
+    M: NetRulesOf<'a, Rules = R>,
+> RuledWires<'a, NetItems<'t>, R, S> for NetWires<'t, M> {
     ghost use Rattle.std.specs.Prelude.{length};
     ghost use Rattle.wire_parts.specs.NetWireViews.{paths_left};
 
@@ -55,7 +56,7 @@ impl<
 
     ghost count = { λ w. length (paths_left w.paths) };
 
-    fn next_wire(&mut self) -> Option<PathPieces<'t, NetItems<'t>, R, S>> {
+    fn next_wire(&mut self) -> Option<PathPieces<'a, NetItems<'t>, R, S>> {
         let wire = self.paths.next()?;
         let rules = self.maker.rules(rule_of_wire(self.rule, wire.taper));
         Some(net_path_pieces(rules, wire.layer.bytes, &wire.path))
@@ -70,11 +71,12 @@ pub struct SpecialNetWires<'t, M> {
 }
 
 impl<
-    't,
-    S: LayerShapes<'t>,
-    R: WiringRules<'t, Shapes = S>,
-    M: SpecialRulesOf<'t, Rules = R>,
-> RuledWires<'t, SpecialItems<'t>, R, S> for SpecialNetWires<'t, M> {
+    'a,
+    't: 'a,
+    S: LayerShapes<'a>,
+    R: WiringRules<'a, Shapes = S>,
+    M: SpecialRulesOf<'a, Rules = R>,
+> RuledWires<'a, SpecialItems<'t>, R, S> for SpecialNetWires<'t, M> {
     ghost use Rattle.std.specs.Prelude.{length};
     ghost use Rattle.wire_parts.specs.SpecialWireViews.{special_paths_left};
 
@@ -82,7 +84,7 @@ impl<
 
     ghost count = { λ w. length (special_paths_left w.paths) };
 
-    fn next_wire(&mut self) -> Option<PathPieces<'t, SpecialItems<'t>, R, S>> {
+    fn next_wire(&mut self) -> Option<PathPieces<'a, SpecialItems<'t>, R, S>> {
         let wire = self.paths.next()?;
         let rules = self.maker.rules(size_of(wire.width.bytes));
         Some(special_path_pieces(rules, wire.layer.bytes, &wire.path))

@@ -9,7 +9,6 @@ ghost use Rattle.net_rules.specs.Widths.{rule_of_wire};
 ghost use Rattle.wire_parts.specs.NetViews.{net_clauses_of};
 ghost use Rattle.wire_parts.specs.WiringViews.{taper_view};
 
-use crate::again::again;
 use statement_reader::parts::Parts;
 use wire_parts::nets::NetClause;
 use wire_parts::wiring::Taper;
@@ -18,7 +17,7 @@ use wire_parts::wiring::Taper;
 pub(crate) fn first_rule<'t>(clauses: &Parts<'t, NetClause<'t>>) -> Option<&'t [u8]>
     ensures { option_map bytes_of result ≡ first_of rule_of_clause (net_clauses_of clauses.now) }
 {
-    let mut left = again(clauses);
+    let mut left = clauses.again();
     while let Some(clause) = left.next() {
         if let NetClause::Rule(name) = clause {
             return Some(name.bytes);

@@ -1,8 +1,9 @@
-use Rattle.std.proofs.Common.{◌≡◌, map}
+use Rattle.std.proofs.Common.{◌≡◌, ◌++◌, drop, map}
 use Rattle.std.specs.List.{filter_map}
 use Rattle.design_rules.specs.Boxes.{box_of}
 use Rattle.place_checks.specs.Views.{boxed_view, records_view}
 use Rattle.place_checks.proofs.boxes.boxes_of.Given as goal
 
 abbrev pub invariant-loop-read : goal.invariant-loop-read
-invariant-loop-read g l = map boxed_view l.boxes.items ≡ filter_map (box_of l.library l.scale) (records_view l.yielded)
+invariant-loop-read g l =
+    map boxed_view l.boxes.items ++ filter_map (box_of l.library l.scale) (records_view (drop l.read-index l.records)) ≡ filter_map (box_of l.library l.scale) (records_view l.records)

@@ -1,8 +1,8 @@
 use Rattle.std.proofs.Common.{map, arith, sym}
 use Rattle.std.proofs.lemmas.Int.{ints, to_z-of_z}
 use Rattle.design_model.specs.Views.{rectangle_of}
-use Rattle.place_kernels.proofs.Strips.{box_more, box_end}
-use Rattle.place_kernels.proofs.covering.covered.Goals as goal
+use Rattle.orient_geom.proofs.Strips.{box_more, box_end}
+use Rattle.orient_geom.proofs.covering.covered.Goals as goal
 
 pub loop-y-preserved : goal.loop-y-preserved
 loop-y-preserved c =

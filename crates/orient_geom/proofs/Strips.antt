@@ -10,8 +10,8 @@ use Rattle.design_model.specs.declared.geometry.Rect.{Rect}
 use Rattle.design_model.specs.Geometry.{Rectangle}
 use Rattle.design_model.specs.Views.{rectangle_of}
 use Rattle.place_rules.specs.Covering.{HasSquare, has_square, Covered, is_covered}
-use Rattle.place_kernels.specs.Strips.{HasSquareOf, NoneHasSquare, strip, IsCoveredTo}
-use Rattle.place_kernels.proofs.Squares.{covered_says, covered_from, has_square_from, has_square_says}
+use Rattle.orient_geom.specs.Strips.{HasSquareOf, NoneHasSquare, strip, IsCoveredTo}
+use Rattle.orient_geom.proofs.Squares.{covered_says, covered_from, has_square_from, has_square_says}
 
 -- the strip from y up to a top, which lies in the box, is covered from the box's left edge up to x
 pub record IsCoveredUpTo (box : Rectangle) (list : List Rectangle) (x y top : ℤ) : Type 0 where

@@ -3,7 +3,7 @@
 ghost use Rattle.std.specs.Prelude.{◌≡◌, ◌<ℤ◌, ◌≤ℤ◌, map, false, MatchOption};
 ghost use Rattle.design_model.specs.Views.{rectangle_of};
 ghost use Rattle.place_rules.specs.Covering.{has_square, is_covered, is_from_to};
-ghost use Rattle.place_kernels.specs.Strips.{HasSquareOf, IsCoveredTo, NoneHasSquare};
+ghost use Rattle.orient_geom.specs.Strips.{HasSquareOf, IsCoveredTo, NoneHasSquare};
 
 use design_model::geometry::Rect;
 

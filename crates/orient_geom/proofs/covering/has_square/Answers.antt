@@ -1,8 +1,8 @@
 use Rattle.std.proofs.Common.{w64, rules}
 use Rattle.std.specs.Int.RustNames.{FitsSigned}
 use Rattle.std.proofs.lemmas.Int.{to_z-of_z}
-use Rattle.place_kernels.proofs.Steps.{after_true}
-use Rattle.place_kernels.proofs.covering.has_square.Goals as goal
+use Rattle.orient_geom.proofs.Squares.{after_true}
+use Rattle.orient_geom.proofs.covering.has_square.Goals as goal
 
 pub returns-then-is_from_to : goal.returns-then-is_from_to
 returns-then-is_from_to c =

@@ -2,10 +2,10 @@ use Rattle.std.proofs.Common.{◌<ℤ◌, ◌≤ℤ◌, map, arith, to_z, w64}
 use Rattle.std.proofs.lemmas.Int.{ints, to_z-of_z}
 use Rattle.design_model.specs.Views.{rectangle_of}
 use Rattle.place_rules.specs.Covering.{HasSquare}
-use Rattle.place_kernels.specs.Strips.{NoneHasSquare}
-use Rattle.place_kernels.proofs.Squares.{gap_shrinks}
-use Rattle.place_kernels.proofs.Strips.{strip_more, strip_end, strip_none}
-use Rattle.place_kernels.proofs.covering.covered_to.Goals as goal
+use Rattle.orient_geom.specs.Strips.{NoneHasSquare}
+use Rattle.orient_geom.proofs.Squares.{gap_shrinks}
+use Rattle.orient_geom.proofs.Strips.{strip_more, strip_end, strip_none}
+use Rattle.orient_geom.proofs.covering.covered_to.Goals as goal
 
 pub returns-in_err-rect : goal.returns-in_err-rect
 returns-in_err-rect c =

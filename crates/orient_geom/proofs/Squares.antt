@@ -1,6 +1,6 @@
 -- Covering, by unit squares and by strips.
-use Rattle.std.proofs.Common.{◌≡◌, ℕ, ◌<◌, List, Bool, true, get_or, ℤ, pos, negsuc, ◌+ℤ◌, ◌≤ℤ◌, ◌<ℤ◌, arith, refl, sym, ◌∙◌, ap, ⊎_elim}
-use Rattle.std.specs.Prelude.{All, ◌⊎◌}
+use Rattle.std.proofs.Common.{◌≡◌, ℕ, ◌<◌, List, Bool, false, true, get_or, ℤ, pos, negsuc, ◌+ℤ◌, ◌≤ℤ◌, ◌<ℤ◌, arith, refl, sym, ◌∙◌, ap, ⊎_elim}
+use Rattle.std.specs.Prelude.{All, ◌⊎◌, ◌&&◌}
 use Rattle.std.specs.Int.{int_gap}
 use Rattle.std.specs.List.{list_any, list_all, range_with_len}
 use Rattle.std.proofs.lemmas.Int.{ints}
@@ -94,3 +94,8 @@ covered_from box list covered =
     all_integers_from (λ y. list_any (has_square x y) list) box.y1 box.y2 (λ y below above.
     let found = covered x y (record { left = left; right = right; below = below; above = above }) in
     list_any-from_Any (has_square x y) list (found.1.0, found.0, found.1.1, found.1.2, has_square_from x y found.0 found.2)))
+
+-- the parts of a test
+pub after_true : (a b r : Bool) → true ≡ a → r ≡ b → r ≡ (a && b)
+after_true true b r h k = k
+after_true false b r h k = cc

@@ -1,8 +1,8 @@
 -- The laws of covering.
 use Rattle.std.proofs.Common.{◌≤ℤ◌, ◌<ℤ◌, arith, ⊎_elim}
 use Rattle.std.proofs.lemmas.Int.{ints}
-use Rattle.place_kernels.specs.Laws.{CoveredBySquares, CoveredByOne, CoveredWithoutArea}
-use Rattle.place_kernels.proofs.Squares.{covered_says, covered_from}
+use Rattle.orient_geom.specs.Covering.{CoveredBySquares, CoveredByOne, CoveredWithoutArea}
+use Rattle.orient_geom.proofs.Squares.{covered_says, covered_from}
 
 pub covered_by_squares : CoveredBySquares
 covered_by_squares box list = (covered_says box list, covered_from box list)
