@@ -1,3 +1,4 @@
+pub mod ClauseLemmas
 pub mod FirstLemmas
 pub mod FoundLemmas
 pub mod LefWidths

@@ -1,4 +1,5 @@
 pub mod FoundVias
+pub mod PlanClauses
 pub mod PlanViews
 pub mod RuleLayers
 pub mod RuleWidths

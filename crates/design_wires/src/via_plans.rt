@@ -12,10 +12,7 @@ ghost use Rattle.design_wires.specs.PlanViews.{AreNear, IsPlan, metals_view, pla
 ghost use Rattle.design_wires.specs.Scales.{units_of};
 
 use crate::scale::Scale;
-use crate::via_clauses::{
-    first_array, first_enclosure, first_layers, first_offset, first_origin, first_size,
-    first_spacing,
-};
+use crate::via_clauses::plan_of;
 use crate::via_plan::{Metals, ViaPlan};
 use cell_library::numbers::MicronPoint;
 use cell_library::via::{GeneratedVia, MetalPoints};
@@ -27,15 +24,7 @@ pub(crate) fn plan_in_def<'a, 't: 'a>(via: &'a ViaParts<'t>) -> ViaPlan<'a>
     ensures is { plan_view result ≡ def_generated (via_view via.entry.now) }
     ensures in_range { IsPlan result }
 {
-    ViaPlan {
-        cut_size: first_size(via.clauses.again()),
-        layers: first_layers(via.clauses.again()),
-        cut_spacing: first_spacing(via.clauses.again()),
-        enclosure: first_enclosure(via.clauses.again()),
-        array: first_array(via.clauses.again()),
-        origin: first_origin(via.clauses.again()),
-        offset: first_offset(via.clauses.again()),
-    }
+    plan_of(via.clauses.again())
 }
 
 /// A point in database units, if there is one.
