@@ -191,8 +191,8 @@ fn add_line(list: &mut Vec<u8>, alloc: Global, piece: Piece<'_>) -> Result<(), A
 }
 
 /// The first piece of a net, by what `net_pieces` and its iterator say.
-fn first_piece<'t, A>(parts: NetParts<'t>, maker: ByRule<'t, A>) -> Option<Piece<'t>>
-    ensures { MatchOption result (net_pieces_by by_rule (net_view parts.entry) ≡ []) (λ p. ((later : List ThePiece) × (net_pieces_by by_rule (net_view parts.entry) ≡ piece_view p ∷ later))) }
+fn first_piece<'t, A>(parts: &NetParts<'t>, maker: ByRule<'t, A>) -> Option<Piece<'t>>
+    ensures { MatchOption result (net_pieces_by by_rule (net_view parts.now) ≡ []) (λ p. ((later : List ThePiece) × (net_pieces_by by_rule (net_view parts.now) ≡ piece_view p ∷ later))) }
 {
     let mut pieces = net_pieces(parts, maker);
     pieces.next()
@@ -206,7 +206,7 @@ fn pieces_of_a_net(rt: HostRuntime) -> Result<(), Fail> {
         return Err("no net")?;
     };
     let mut list = Vec::new(rt.alloc());
-    for piece in net_pieces(parts, ByRule { rules: NAMES }) {
+    for piece in net_pieces(&parts, ByRule { rules: NAMES }) {
         add_line(&mut list, rt.alloc(), piece)?;
     }
     assert_eq!(rt; list.as_slice(), NET_LINES);
@@ -220,7 +220,7 @@ fn first_piece_of_a_net(rt: HostRuntime) -> Result<(), Fail> {
     let NetEntry::Net(parts) = entry else {
         return Err("no net")?;
     };
-    let piece = first_piece(parts, ByRule { rules: NAMES }).ok_or("no piece")?;
+    let piece = first_piece(&parts, ByRule { rules: NAMES }).ok_or("no piece")?;
     let mut list = Vec::new(rt.alloc());
     add_line(&mut list, rt.alloc(), piece)?;
     let expected = b"segment met1 -200 -200 1200 200 1000\n";
@@ -233,7 +233,7 @@ fn pieces_of_a_special_net(rt: HostRuntime) -> Result<(), Fail> {
     let run = TokenRun::of_text(SPECIAL_NET).ok().ok_or("no tokens")?;
     let (parts, _) = special_net_at(Cursor::start(run)).ok_or("no entry")?;
     let mut list = Vec::new(rt.alloc());
-    for piece in special_net_pieces(parts, AsWritten {}) {
+    for piece in special_net_pieces(&parts, AsWritten {}) {
         add_line(&mut list, rt.alloc(), piece)?;
     }
     assert_eq!(rt; list.as_slice(), SPECIAL_LINES);
