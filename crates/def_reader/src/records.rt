@@ -20,6 +20,7 @@ use crate::read_statement::Read;
 use crate::statement::Statement;
 use design_model::mode::{Mode, Section};
 use lefdef_tokens::{TokenRun, is_word};
+use memchr::memchr_iter;
 use place_parts::components::ComponentParts;
 use statement_reader::laws::records_are_read;
 use statement_reader::text;
@@ -39,7 +40,8 @@ pub fn statements_of<'t, A: Allocator>(
     ensures lent { IfOk result (λ v. All (ReadIn text.now) v.items) }
 {
     records_are_read::<Statement<'t>>();
-    let mut found = Vec::new(alloc);
+    // Nearly each statement has one semicolon, so the list isn't moved while it grows.
+    let mut found = Vec::with_capacity(alloc, memchr_iter(b';', text).count())?;
     let mut statements: Statements<'t> = text::Statements::new(Mode::Top, text);
     while let Some(read) = statements.next() {
         found.push(read)?;
