@@ -1,2 +1,3 @@
+pub mod BeginningSteps
 pub mod EntrySteps
 pub mod NumberRanges

@@ -9,10 +9,10 @@ ghost use Rattle.wire_reading.specs.ItemsLeft.{net_items_left, special_items_lef
 ghost use Rattle.wire_reading.specs.PiecesBy.{net_pieces_by, special_net_pieces_by};
 ghost use Rattle.wire_reading.specs.WiresLeft.{net_left, special_left};
 
+use crate::beginning::{Begun, begin};
 use crate::items::{NetItems, SpecialItems};
-use crate::ruled_wires::{NetWires, RuledWires, SpecialNetWires};
+use crate::ruled_wires::{NetWires, RuledWires, SpecialNetWires, net_wire_pieces};
 use crate::rules_of::{NetRulesOf, SpecialRulesOf};
-use crate::wire_rule::first_rule;
 use wire_parts::nets::NetParts;
 use wire_parts::special_nets::SpecialNetParts;
 use wire_shapes::{LayerShapes, PathItems, PathPieces, Piece, WiringRules};
@@ -57,9 +57,15 @@ where
     M: NetRulesOf<'a, Rules = R>,
     ensures { entry_left (net_left M.rules_of) net_items_left R.rules S.shapes result ≡ net_pieces_by (M.rules_of maker) (net_view parts.now) }
 {
-    let paths = parts.paths();
-    let rule = first_rule(&parts.clauses);
-    EntryPieces::of(NetWires { paths, rule, maker })
+    let Begun { rule, first, paths } = begin(&parts.clauses);
+    let present = match first {
+        Some(wire) => Some(net_wire_pieces(&maker, rule, &wire)),
+        None => None,
+    };
+    EntryPieces {
+        wires: NetWires { paths, rule, maker },
+        present,
+    }
 }
 
 /// The pieces of the wires of a special net.

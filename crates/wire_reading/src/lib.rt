@@ -11,6 +11,7 @@
 //! Names in pieces are those of the text and of the rules. Nothing takes memory and nothing fails.
 #![tactic(auto)]
 
+mod beginning;
 mod entry_pieces;
 mod item_numbers;
 mod items;

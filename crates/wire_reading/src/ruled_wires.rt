@@ -1,7 +1,13 @@
 //! The wires of an entry with their rules, one after the other.
 
 ghost use Rattle.std.specs.Prelude.{◌≡◌, ◌<◌, IfSome, List};
+ghost use Rattle.std.specs.Option.{option_map};
+ghost use Rattle.def_reader.specs.EntryViews.{bytes_of};
+ghost use Rattle.wire_parts.specs.WiringViews.{wire_view};
 ghost use Rattle.wire_rules.specs.Paths.{Piece};
+ghost use Rattle.wire_shapes.specs.PiecesLeft.{pieces_left};
+ghost use Rattle.wire_reading.specs.ItemsLeft.{net_items_left};
+ghost use Rattle.wire_reading.specs.PiecesBy.{wire_pieces_by};
 ghost use Rattle.wire_reading.specs.WiresLeft.{GivesWire, net_left, special_left};
 
 use crate::item_numbers::size_of;
@@ -11,6 +17,7 @@ use crate::rules_of::{NetRulesOf, SpecialRulesOf};
 use crate::wire_rule::rule_of_wire;
 use wire_parts::net_wires::NetPaths;
 use wire_parts::special_wires::SpecialPaths;
+use wire_parts::wiring::Wire;
 use wire_shapes::{LayerShapes, PathItems, PathPieces, WiringRules};
 
 /// The wires that are left of an entry, which are given by their pieces, in their order.
@@ -31,6 +38,21 @@ pub trait RuledWires<
     fn next_wire(&mut self) -> Option<PathPieces<'a, I, R, S>>
         ensures gives { GivesWire I.items R.rules S.shapes (pieces self.old) result (pieces self.new) }
         ensures fewer { IfSome result (λ p. count self.new < count self.old) };
+}
+
+/// The pieces of a wire of a net that has this rule, if any.
+#[inline(always)]
+pub(crate) fn net_wire_pieces<
+    'a,
+    't: 'a,
+    S: LayerShapes<'a>,
+    R: WiringRules<'a, Shapes = S>,
+    M: NetRulesOf<'a, Rules = R>,
+>(maker: &M, rule: Option<&'t [u8]>, wire: &Wire<'t>) -> PathPieces<'a, NetItems<'t>, R, S>
+    ensures { pieces_left net_items_left R.rules S.shapes result ≡ wire_pieces_by (M.rules_of maker.now) (option_map bytes_of rule.entry) (wire_view wire.now) }
+{
+    let rules = maker.rules(rule_of_wire(rule, wire.taper));
+    net_path_pieces(rules, wire.layer.bytes, &wire.path)
 }
 
 /// The wires of an entry of NETS.
@@ -58,8 +80,7 @@ impl<
 
     fn next_wire(&mut self) -> Option<PathPieces<'a, NetItems<'t>, R, S>> {
         let wire = self.paths.next()?;
-        let rules = self.maker.rules(rule_of_wire(self.rule, wire.taper));
-        Some(net_path_pieces(rules, wire.layer.bytes, &wire.path))
+        Some(net_wire_pieces(&self.maker, self.rule, &wire))
     }
 }
 
