@@ -2,6 +2,7 @@ pub mod BoxLemmas
 pub mod CountLemmas
 pub mod FitLemmas
 pub mod HeightLemmas
+pub mod HullLemmas
 pub mod PatternLemmas
 pub mod Ranges
 pub mod SkipLemmas

@@ -35,6 +35,9 @@ fails_second false b e = refl
 pub apart_right : (a b : Rectangle) → a.x2 ≤ℤ b.x1 → overlap a b ≡ false
 apart_right a b h = fails_first _ _ (not_below_test (int_max a.x1 b.x1) (int_min a.x2 b.x2) (omega (arith, ints, clamps)))
 
+pub apart_left : (a b : Rectangle) → a.x2 ≤ℤ b.x1 → overlap b a ≡ false
+apart_left a b h = fails_first _ _ (not_below_test (int_max b.x1 a.x1) (int_min b.x2 a.x2) (omega (arith, ints, clamps)))
+
 pub apart_above : (a b : Rectangle) → a.y2 ≤ℤ b.y1 → overlap a b ≡ false
 apart_above a b h = fails_second _ _ (not_below_test (int_max a.y1 b.y1) (int_min a.y2 b.y2) (omega (arith, ints, clamps)))
 

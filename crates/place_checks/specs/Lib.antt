@@ -1,6 +1,7 @@
 pub mod Corners
 pub mod FenceLines
 pub mod Heights
+pub mod Hulls
 pub mod IndexViews
 pub mod Patterns
 pub mod PlaceViews

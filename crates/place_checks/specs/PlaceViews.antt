@@ -6,7 +6,7 @@ use Rattle.place_parts.specs.GroupViews.{patterns_of}
 use Rattle.place_kernels.specs.Views.{site_row_of}
 use Rattle.place_checks.specs.declared.groups.Assignment as code_assignment
 use Rattle.place_checks.specs.declared.placed_row.PlacedRow as code_row
-use Rattle.place_checks.specs.declared.regions.Fence as code_fence
+use Rattle.place_checks.specs.declared.fence.Fence as code_fence
 
 abbrev pub placed_row_view : code_row.PlacedRow → PlacedRow
 placed_row_view r = record { site = r.site.now; orient = r.orient; sites = site_row_of r.sites }

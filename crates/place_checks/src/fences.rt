@@ -13,8 +13,9 @@ ghost use Rattle.place_checks.specs.Patterns.{is_one_of};
 ghost use Rattle.place_checks.specs.PlaceViews.{fence_view};
 ghost use Rattle.place_checks.specs.Views.{boxed_view, diag_texts};
 
+use crate::fence::Fence;
+use crate::hull::is_apart;
 use crate::placed_box::PlacedBox;
-use crate::regions::Fence;
 use crate::report::push_report;
 use crate::surroundings::Surroundings;
 use design_model::diagnostic::{Diag, DiagKind};
@@ -97,6 +98,10 @@ fn push_fences<'t, A: Allocator + Copy>(
     ensures { OnOk result (diag_texts reports.new.items ≡ diag_texts reports.old.items ++ fence_lines_in (map word_view regions.now) (boxed_view component.now) (map fence_view fences.now)) }
 {
     for fence in fences {
+        // most components are far from most fences
+        if is_apart(&component.rect, &fence.hull) && !is_one_of(regions, fence.name) {
+            continue;
+        }
         push_fence(fence, is_one_of(regions, fence.name), component, reports)?;
     }
     Ok(())

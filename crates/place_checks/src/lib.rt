@@ -5,7 +5,8 @@
 //! from below. Then `overlap::overlaps_of` has a report for each pair of them that share area, `blocked::blocked_of` one for
 //! each that lies on a rectangle of `keep_outs::keep_outs_of`, and `place_lines::lines_of` those on rows, the die and fences:
 //! `rows::of_rows` looks rows up by their lower edge (`row_index`), and `fences::of_component` the groups of a component by its
-//! name (`assignment_table`). `count::counts_of` has a report for each section whose header says another number.
+//! name (`assignment_table`), passing over fences whose hull is apart from its box (`hull`). `count::counts_of` has a report for
+//! each section whose header says another number.
 //! What they say is defined in `design_rules/specs`: `Boxes`, `Surroundings`, `OverlapLines`, `PlaceLines` and `CountLines`;
 //! `specs/Views` and `specs/PlaceViews` say how statements, components, surroundings and reports are seen there. No text is read
 //! here: statements come from `def_reader`.
@@ -21,9 +22,11 @@ pub mod blocked;
 pub mod boxes;
 mod corners;
 pub mod count;
+pub mod fence;
 pub mod fences;
 pub mod floor;
 pub mod groups;
+mod hull;
 pub mod keep_outs;
 pub mod overlap;
 pub mod place_lines;

@@ -11,6 +11,8 @@ ghost use Rattle.place_checks.specs.PlaceViews.{fence_view};
 ghost use Rattle.place_checks.specs.Views.{records_view};
 
 use crate::corners::{point_after, rectangle_between};
+use crate::fence::Fence;
+use crate::hull::hull_of;
 use def_reader::entry::Entry;
 use def_reader::read_statement::Read;
 use def_reader::statement::Statement;
@@ -18,14 +20,7 @@ use design_model::geometry::Rect;
 use design_model::sequence::Sequence;
 use place_parts::regions::{RegionClause, RegionKind, RegionParts};
 use statement_reader::parts::Parts;
-use std::alloc::{AllocError, Allocator, Global};
-
-/// A fence: its name, and its rectangles in database units.
-#[derive(Drop)]
-pub struct Fence<'t, A: Allocator = Global> {
-    pub name: &'t [u8],
-    pub rectangles: Sequence<Rect, A>,
-}
+use std::alloc::{AllocError, Allocator};
 
 /// The first TYPE of a region.
 fn kind_of<'t>(clauses: Parts<'t, RegionClause<'t>>) -> Option<RegionKind>
@@ -73,9 +68,11 @@ pub fn fences_of<'t, A: Allocator + Copy>(
             continue;
         };
         if let Some(RegionKind::Fence) = kind_of(region.clauses.again()) {
+            let rectangles = rectangles_of(alloc, region)?;
             fences.push(Fence {
                 name: region.name.bytes,
-                rectangles: rectangles_of(alloc, region)?,
+                hull: hull_of(rectangles.as_slice()),
+                rectangles,
             })?;
         }
     }

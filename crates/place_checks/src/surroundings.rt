@@ -8,9 +8,10 @@ ghost use Rattle.place_checks.specs.IndexViews.{surroundings_view};
 ghost use Rattle.place_checks.specs.Views.{records_view};
 
 use crate::assignment_table::AssignmentTable;
+use crate::fence::Fence;
 use crate::floor::{die_of, rows_of};
 use crate::groups::assignments_of;
-use crate::regions::{Fence, fences_of};
+use crate::regions::fences_of;
 use crate::row_index::RowIndex;
 use cell_library::library::Library;
 use def_reader::read_statement::Read;
