@@ -98,7 +98,7 @@ fn push_fences<'t, A: Allocator + Copy>(
     ensures { OnOk result (diag_texts reports.new.items ≡ diag_texts reports.old.items ++ fence_lines_in (map word_view regions.now) (boxed_view component.now) (map fence_view fences.now)) }
 {
     for fence in fences {
-        // most components are far from most fences
+        // Most components are far from most fences.
         if is_apart(&component.rect, &fence.hull) && !is_one_of(regions, fence.name) {
             continue;
         }
