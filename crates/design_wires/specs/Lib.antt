@@ -1,4 +1,7 @@
+pub mod Defined
 pub mod FoundVias
+pub mod KnownShapes
+pub mod KnownVias
 pub mod PlanClauses
 pub mod PlanViews
 pub mod RuleLayers

@@ -1,18 +1,24 @@
 //! What wires and vias of a design are made by, over statements that were read once and over its library.
 //!
-//! Begin with `rules_of_design::DesignRules`: with it `wire_reading::net_pieces` and `special_net_pieces` give the pieces of
-//! the wires of an entry. It makes `rules::NetRules` and `special_rules::SpecialRules`, the widths and the vias of one wire, as
-//! `wire_shapes` asks for them; `via_rects::ViaRects` has the rectangles of one via about its origin. What they say is
-//! defined in `net_rules/specs`: `Widths`, `ViaRectangles` and `WirePieces`; `specs/ViaRectsLeft` says which rectangles are
-//! left to be given.
+//! Begin with `design_wires::DesignWires`, which finds all vias of a design and of its library once. With it, as
+//! `rules_of_design::DesignRules`, `wire_reading::net_pieces` and `special_net_pieces` give the pieces of the wires of an
+//! entry. It makes `rules::NetRules` and `special_rules::SpecialRules`, the widths and the vias of one wire, as `wire_shapes`
+//! asks for them; `via_rects::ViaRects` has the rectangles of one via about its origin. What they say is defined in
+//! `net_rules/specs`: `Widths`, `ViaRectangles` and `WirePieces`; `specs/KnownVias` says what the table of vias holds, and
+//! `specs/ViaRectsLeft` which rectangles are left to be given.
 //!
-//! Names are lent from the text and from the library. Nothing takes memory, and nothing fails: a layer, a rule or a via that
-//! isn't defined has the width 0 and no shapes. Numbers that the grammar lets no text have are put in range
+//! Names are lent from the text and from the library. Only the table takes memory, and only making it can fail: a layer, a
+//! rule or a via that isn't defined has the width 0 and no shapes. Numbers that the grammar lets no text have are put in range
 //! (`wire_rules/specs/Sizes`).
 #![tactic(auto)]
 
 mod corners;
+pub mod definitions;
+pub mod design_wires;
+pub mod known_shapes;
+mod known_via;
 mod layer_rects;
+mod near_shape;
 mod rule_widths;
 pub mod rules;
 pub mod rules_of_design;
@@ -23,5 +29,6 @@ mod via_clauses;
 mod via_plan;
 mod via_plans;
 pub mod via_rects;
+mod via_table;
 pub mod via_view;
 pub mod widths;

@@ -2,17 +2,13 @@
 
 ghost use Rattle.wire_rules.specs.Ranges.{IsSize};
 
-use crate::scale::Scale;
-use cell_library::library::Library;
-use design_names::names::Names;
+use crate::design_wires::DesignWires;
 use std::alloc::{Allocator, Global};
 
 /// Vias of a wire of SPECIALNETS, and its width, which it has on every layer.
 #[derive(Drop)]
-pub struct SpecialRules<'a, 'l, 'r, 't, A: Allocator = Global> {
-    pub(crate) library: &'a Library<'l, A>,
-    pub(crate) names: &'a Names<'r, 't, A>,
-    pub(crate) scale: Scale,
+pub struct SpecialRules<'v, 'a, 'l, 'r, 't, A: Allocator = Global> {
+    pub(crate) wires: &'v DesignWires<'a, 'l, 'r, 't, A>,
     pub(crate) width: i64,
     ghost size: { IsSize width },
 }

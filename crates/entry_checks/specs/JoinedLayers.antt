@@ -1,5 +1,5 @@
 -- The layers that a via joins, as they are noted one after the other.
-use Rattle.std.specs.Prelude.{◌≡◌, ◌<◌, ℕ, List, [], ◌∷◌, filter, length}
+use Rattle.std.specs.Prelude.{◌≡◌, ◌<◌, ℕ, List, [], ◌∷◌, filter, length, Option, Some}
 use Rattle.lef_grammar.specs.Definitions.{LayerShapes}
 use Rattle.lef_grammar.specs.Firsts.{with_all}
 use Rattle.lef_grammar.specs.Library.{Library, layer_named}
@@ -22,3 +22,9 @@ pub record Joins (library : Library) (noted : JoinedLayers) (left all : List (Li
   pub layers : List (List ℕ)
   pub so_far : AreNoted noted layers
   pub same : with_all (λ name. name) layers (filter (λ name. has_routing (layer_named library name)) left) ≡ routing_layers library all
+
+-- the layers of a via that is known are noted
+pub record JoinsThose (library : Library) (noted : JoinedLayers) (named : Option (List (List ℕ))) : Type 0 where
+  pub names : List (List ℕ)
+  pub are : named ≡ Some names
+  pub joins : Joins library noted [] names

@@ -16,7 +16,7 @@ use wire_shapes::ViaOn;
 
 /// The layers that were noted. More than two join no layer to another, so they needn't be told apart.
 #[derive(Clone, Copy)]
-pub(crate) enum JoinedLayers<'a> {
+pub enum JoinedLayers<'a> {
     Nothing,
     One(&'a [u8]),
     Two(&'a [u8], &'a [u8]),
@@ -74,7 +74,7 @@ impl<'a> JoinedLayers<'a> {
     }
 
     /// What a via of these layers does where a path is on a layer.
-    pub(crate) fn via_on(self, layer: &[u8]) -> ViaOn<'a>
+    pub fn via_on(self, layer: &[u8]) -> ViaOn<'a>
         ensures { (library : TheLibrary) (all : List (List ℕ)) → Joins library self.entry [] all → via_on_view result ≡ Some (other_layer layer.now (routing_layers library all)) }
     {
         let JoinedLayers::Two(a, b) = self else {

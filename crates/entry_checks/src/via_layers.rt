@@ -1,6 +1,6 @@
 //! What a via of a design does in a path on a layer (LEF/DEF 5.8 Language Reference, "Vias").
 
-ghost use Rattle.std.specs.Prelude.{◌≡◌, ◌∷◌, [], is_some, map};
+ghost use Rattle.std.specs.Prelude.{◌≡◌, ◌∷◌, [], is_some, map, None, MatchOption};
 ghost use Rattle.std.specs.List.{filter_map};
 ghost use Rattle.std.specs.Option.{option_map};
 ghost use Rattle.lef_grammar.specs.Firsts.{first_of};
@@ -11,8 +11,8 @@ ghost use Rattle.cell_library.specs.ViaViews.{body_view};
 ghost use Rattle.def_reader.specs.EntryViews.{bytes_of};
 ghost use Rattle.wire_shapes.specs.RuleViews.{via_on_view};
 ghost use Rattle.entry_rules.specs.References.{layer_of_shape, layers_of_clause};
-ghost use Rattle.entry_rules.specs.ViaLayers.{body_layers, def_via_layers, rule_of_via, via_layers};
-ghost use Rattle.entry_checks.specs.JoinedLayers.{Joins, layer_of};
+ghost use Rattle.entry_rules.specs.ViaLayers.{body_layers, def_via_layers, layers_named, rule_of_via, via_layers};
+ghost use Rattle.entry_checks.specs.JoinedLayers.{Joins, JoinsThose, layer_of};
 
 use crate::joined_layers::JoinedLayers;
 use cell_library::library::Library;
@@ -144,7 +144,22 @@ fn joined_in_lef<'l, A: Allocator + Copy>(
     }
 }
 
-/// What a via does where a path is on a layer. Vias of DEF come before those of LEF. It takes no memory.
+/// The layers that the via of a name joins, if there is one. Vias of DEF come before those of LEF. It takes no memory.
+pub fn joined_layers<'a, A: Allocator + Copy>(
+    library: &'a Library<'_, A>,
+    names: &'a Names<'_, '_, A>,
+    via: &[u8],
+) -> Option<JoinedLayers<'a>>
+    ensures { MatchOption result (layers_named library.now names.now via.now ≡ None) (λ joined. JoinsThose library.now joined (layers_named library.now names.now via.now)) }
+{
+    if let Some(parts) = names.via(via) {
+        return Some(joined_in_def(library, parts));
+    }
+    let found = library.via(via)?;
+    Some(joined_in_lef(library, found))
+}
+
+/// What a via does where a path is on a layer. It takes no memory.
 pub fn via_on<'a, A: Allocator + Copy>(
     library: &'a Library<'_, A>,
     names: &'a Names<'_, '_, A>,
@@ -153,11 +168,8 @@ pub fn via_on<'a, A: Allocator + Copy>(
 ) -> ViaOn<'a>
     ensures { via_on_view result ≡ option_map (other_layer layer.now) (via_layers library.now names.now via.now) }
 {
-    if let Some(parts) = names.via(via) {
-        return joined_in_def(library, parts).via_on(layer);
-    }
-    match library.via(via) {
-        Some(found) => joined_in_lef(library, found).via_on(layer),
+    match joined_layers(library, names, via) {
+        Some(joined) => joined.via_on(layer),
         None => ViaOn::Unknown,
     }
 }

@@ -1,0 +1,77 @@
+//! The vias that paths of a design name.
+
+ghost use Rattle.std.specs.Prelude.{◌≡◌, IfOk};
+ghost use Rattle.std.specs.Option.{option_map};
+ghost use Rattle.entry_rules.specs.ViaLayers.{via_layers};
+ghost use Rattle.net_rules.specs.ViaRectangles.{via_shapes};
+ghost use Rattle.wire_rules.specs.Paths.{other_layer};
+ghost use Rattle.wire_shapes.specs.RuleViews.{via_on_view};
+ghost use Rattle.design_wires.specs.Defined.{defined};
+ghost use Rattle.design_wires.specs.KnownShapes.{known_left};
+
+use crate::definitions::Definitions;
+use crate::known_shapes::KnownShapes;
+use crate::via_table::{Table, vias_of};
+use std::alloc::{AllocError, Allocator, Global};
+use std::marker::Model;
+use wire_shapes::ViaOn;
+
+/// What the wires of a design are made by. Its vias are found once, with the layers that they join and with their shapes.
+#[derive(Drop)]
+pub struct DesignWires<'a, 'l, 'r, 't, A: Allocator = Global> {
+    definitions: Definitions<'a, 'l, 'r, 't, A>,
+    vias: Table<'a, A>,
+}
+
+impl<'a, 'l, 'r, 't, A: Allocator> Model for DesignWires<'a, 'l, 'r, 't, A> {
+    ghost use Rattle.design_wires.specs.Defined.{Defined, defined};
+    ghost use Rattle.design_wires.specs.KnownVias.{HasVias};
+
+    ghost Value = { Defined };
+
+    ghost view = { λ w. defined w.definitions };
+
+    ghost invariant = { λ w. HasVias (defined w.definitions) w.vias };
+}
+
+impl<'a, 'l: 'a, 'r: 'a, 't: 'a, A: Allocator + Copy> DesignWires<'a, 'l, 'r, 't, A> {
+    /// Finds the vias of a design and of its library. The one error is `AllocError`.
+    pub fn new(
+        alloc: A,
+        definitions: Definitions<'a, 'l, 'r, 't, A>,
+    ) -> Result<DesignWires<'a, 'l, 'r, 't, A>, AllocError>
+        ensures { IfOk result (λ wires. wires ≡ defined definitions.entry) }
+    {
+        let vias = vias_of(alloc, definitions)?;
+        Ok(DesignWires { definitions, vias })
+    }
+
+    /// Where layers, rules and vias are defined.
+    pub fn definitions(&self) -> Definitions<'a, 'l, 'r, 't, A>
+        ensures { defined result ≡ self.now }
+    {
+        self.definitions
+    }
+
+    /// What a via does where a path is on a layer.
+    pub fn via_on(&self, via: &[u8], layer: &[u8]) -> ViaOn<'a>
+        ensures { via_on_view result ≡ option_map (other_layer layer.now) (via_layers self.now.library self.now.design via.now) }
+    {
+        match self.vias.get(via) {
+            Some(known) => known.joined.via_on(layer),
+            None => ViaOn::Unknown,
+        }
+    }
+
+    /// The shapes of a via about its origin; none where it isn't known.
+    pub fn via_shapes(&self, via: &[u8]) -> KnownShapes<'_, 'a>
+        ensures { known_left result ≡ via_shapes self.now.library self.now.design self.now.units via.now }
+    {
+        let Some(known) = self.vias.get(via) else {
+            return KnownShapes::none();
+        };
+        KnownShapes {
+            left: known.shapes.as_slice(),
+        }
+    }
+}
