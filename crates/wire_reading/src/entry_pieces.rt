@@ -87,6 +87,7 @@ where
 }
 
 /// The next piece of the present wire.
+#[inline(always)]
 fn next_of_wire<'a, I, R, S>(present: &mut Option<PathPieces<'a, I, R, S>>) -> Option<Piece<'a>>
 where
     I: PathItems<'a>,

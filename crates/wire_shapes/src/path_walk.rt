@@ -35,6 +35,7 @@ pub(crate) struct PathWalk<'t, I, R, S> {
 }
 
 /// How far a wire goes past a point.
+#[inline(always)]
 fn past_of(default: i64, past: Option<i64>) -> i64
     requires default { IsSize default }
     requires past { IsPast past }
@@ -54,6 +55,7 @@ impl<'t, I: PathItems<'t>, S: LayerShapes<'t>, R: WiringRules<'t, Shapes = S>> P
     S,
 > {
     /// The first piece that is left of the via that the path uses at its place.
+    #[inline(always)]
     fn next_of_via(&mut self) -> Option<Piece<'t>>
         requires { IsWalkInReach self.old }
         ensures gives { GivesPiece (via_part S.shapes self.old.via) result (via_part S.shapes self.new.via) }
@@ -69,6 +71,7 @@ impl<'t, I: PathItems<'t>, S: LayerShapes<'t>, R: WiringRules<'t, Shapes = S>> P
     }
 
     /// The wire to a point.
+    #[inline(always)]
     fn segment_to(&self, to: Point, past: Option<i64>) -> Piece<'t>
         requires reach { IsWalkInReach self.now }
         requires to { IsPlace to }
@@ -85,6 +88,7 @@ impl<'t, I: PathItems<'t>, S: LayerShapes<'t>, R: WiringRules<'t, Shapes = S>> P
     }
 
     /// Goes on to a point, with a wire.
+    #[inline(always)]
     fn enter_point(&mut self, to: Point, past: Option<i64>) -> Piece<'t>
         requires reach { IsWalkInReach self.old }
         requires done { via_part S.shapes self.old.via ≡ [] }
@@ -102,6 +106,7 @@ impl<'t, I: PathItems<'t>, S: LayerShapes<'t>, R: WiringRules<'t, Shapes = S>> P
     }
 
     /// A rectangle about the last point.
+    #[inline(always)]
     fn patch(&self, rect: Rect) -> Piece<'t>
         requires reach { IsWalkInReach self.now }
         requires near { IsBoxWithin 2147483647 (rectangle_of rect) }
@@ -116,6 +121,7 @@ impl<'t, I: PathItems<'t>, S: LayerShapes<'t>, R: WiringRules<'t, Shapes = S>> P
     }
 
     /// Begins a via at the last point, and gives its first piece, if it has any.
+    #[inline(always)]
     fn begin_via(&mut self, via: ViaUse<'t>, off_layer: bool) -> Option<Piece<'t>>
         requires reach { IsWalkInReach self.old }
         requires step { IsPlace via.step }
@@ -134,6 +140,7 @@ impl<'t, I: PathItems<'t>, S: LayerShapes<'t>, R: WiringRules<'t, Shapes = S>> P
     }
 
     /// Goes on with a via: where it joins the layer to another, the path is on that from there on.
+    #[inline(always)]
     fn enter_via(&mut self, via: ViaUse<'t>) -> Option<Piece<'t>>
         requires reach { IsWalkInReach self.old }
         requires done { via_part S.shapes self.old.via ≡ [] }
@@ -157,6 +164,7 @@ impl<'t, I: PathItems<'t>, S: LayerShapes<'t>, R: WiringRules<'t, Shapes = S>> P
     }
 
     /// Goes on with an item, and gives the item's first piece, if it has any.
+    #[inline(always)]
     fn enter(&mut self, item: PathItem<'t>) -> Option<Piece<'t>>
         requires reach { IsWalkInReach self.old }
         requires done { via_part S.shapes self.old.via ≡ [] }
@@ -180,6 +188,7 @@ impl<'t, I: PathItems<'t>, S: LayerShapes<'t>, R: WiringRules<'t, Shapes = S>> P
     }
 
     /// The first piece that is left; at the end `None`.
+    #[inline(always)]
     pub(crate) fn next(&mut self) -> Option<Piece<'t>>
         requires { IsWalkInReach self.old }
         ensures gives { GivesPiece (left_of I.items R.rules S.shapes self.old) result (left_of I.items R.rules S.shapes self.new) }

@@ -63,6 +63,7 @@ impl<'t, I: PathItems<'t>, S: LayerShapes<'t>, R: WiringRules<'t, Shapes = S>> I
 
     ghost remaining = { item_count (pieces_left I.items R.rules S.shapes) };
 
+    #[inline(always)]
     fn next(&mut self) -> Option<Piece<'t>> {
         self.walk.next()
     }

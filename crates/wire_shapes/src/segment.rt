@@ -16,6 +16,7 @@ use crate::wiring_rules::LayerShape;
 use design_model::geometry::{Point, Rect};
 
 /// What a wire covers between two ends, and past each.
+#[inline(always)]
 fn ends(low: i64, past_low: i64, high: i64, past_high: i64) -> Span
     requires low { IsCoordinate low }
     requires past_low { IsSize past_low }
@@ -31,6 +32,7 @@ fn ends(low: i64, past_low: i64, high: i64, past_high: i64) -> Span
 }
 
 /// What a wire covers along its axis, from `a` to `b` and past each.
+#[inline(always)]
 fn stretch(a: i64, past_a: i64, b: i64, past_b: i64) -> Span
     requires a { IsCoordinate a }
     requires past_a { IsSize past_a }
@@ -46,6 +48,7 @@ fn stretch(a: i64, past_a: i64, b: i64, past_b: i64) -> Span
 }
 
 /// The half of a width, to the next lower number.
+#[inline(always)]
 fn half(width: i64) -> i64
     requires { IsSize width }
     ensures value { result ≡ half width }
@@ -56,6 +59,7 @@ fn half(width: i64) -> i64
 }
 
 /// What a wire of a width covers across its axis.
+#[inline(always)]
 fn across(centre: i64, width: i64) -> Span
     requires centre { IsCoordinate centre }
     requires width { IsSize width }
@@ -69,6 +73,7 @@ fn across(centre: i64, width: i64) -> Span
 }
 
 /// The wire from `a` to `b`, which have one y, and past each.
+#[inline(always)]
 fn along_x(a: Point, past_a: i64, b: Point, past_b: i64, width: i64) -> Rect
     requires a { IsPlace a }
     requires past_a { IsSize past_a }
@@ -82,6 +87,7 @@ fn along_x(a: Point, past_a: i64, b: Point, past_b: i64, width: i64) -> Rect
 }
 
 /// The wire from `a` to `b`, which have one x, and past each.
+#[inline(always)]
 fn along_y(a: Point, past_a: i64, b: Point, past_b: i64, width: i64) -> Rect
     requires a { IsPlace a }
     requires past_a { IsSize past_a }
@@ -95,6 +101,7 @@ fn along_y(a: Point, past_a: i64, b: Point, past_b: i64, width: i64) -> Rect
 }
 
 /// A wire of a width on a layer, from `a` to `b` and past each.
+#[inline(always)]
 pub(crate) fn segment_between<'t>(
     layer: &'t [u8],
     width: i64,

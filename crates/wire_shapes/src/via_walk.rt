@@ -49,6 +49,7 @@ impl<'t, S: LayerShapes<'t>> ViaWalk<'t, S> {
     }
 
     /// A shape of the via at its present place.
+    #[inline(always)]
     fn piece_of(&self, shape: LayerShape<'t>) -> Piece<'t>
         requires at { IsPointWithin (reach 0) self.now.at }
         requires near { IsBoxWithin shape_reach (rectangle_of shape.rect) }
@@ -67,6 +68,7 @@ impl<'t, S: LayerShapes<'t>> ViaWalk<'t, S> {
     }
 
     /// The first shape that is left; at the end `None`.
+    #[inline(always)]
     fn next_shape(&mut self) -> Option<Piece<'t>>
         requires { IsViaInReach self.old }
         ensures gives { GivesPiece (shapes_left S.shapes self.old) result (shapes_left S.shapes self.new) }
@@ -83,6 +85,7 @@ impl<'t, S: LayerShapes<'t>> ViaWalk<'t, S> {
     }
 
     /// The first piece that is left; at the end `None`.
+    #[inline(always)]
     pub(crate) fn next(&mut self) -> Option<Piece<'t>>
         requires { IsViaInReach self.old }
         ensures gives { GivesPiece (via_left S.shapes self.old) result (via_left S.shapes self.new) }
