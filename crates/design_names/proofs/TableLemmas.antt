@@ -43,6 +43,9 @@ and_false : (b : Bool) → (b && false) ≡ false
 and_false true = refl
 and_false false = refl
 
+same_some : {A : Type 0} (a b : A) → Some a ≡ Some b → a ≡ b
+same_some a b h = cc
+
 module _ {E : Type 0} (view : E → Entry) where
   seen_or : (b : Bool) (x : E) (r q : Option E) → option_map view r ≡ option_map view q → option_map view (cond b (Some x) r) ≡ option_map view (cond b (Some x) q)
   seen_or true x r q h = refl
@@ -90,6 +93,35 @@ module _ {E : Type 0} (view : E → Entry) where
         put_last : (es : List (Key × E)) → is_some (lookup (is_key key.0.now key.1.now) es) ≡ false → insert_entry (λ (a b : Key). is_key a.0.now a.1.now b) es key x ≡ es ++ (key, x) ∷ []
         put_last [] h = refl
         put_last (k ∷ es) h = put_step (is_key key.0.now key.1.now k.0) k es (insert_entry (λ (a b : Key). is_key a.0.now a.1.now b) es key x) (lookup (is_key key.0.now key.1.now) es) h (put_last es)
+
+        -- one that is put in the place of another, which is then put back
+        put_over : (c : Bool) (k : Key × E) (es more : List (Key × E)) (first : E)
+            → insert_entry (λ (a b : Key). is_key a.0.now a.1.now b) (if c then (k.0, x) ∷ es else k ∷ more) key first
+            ≡ (if c then (if is_key key.0.now key.1.now k.0 then (k.0, first) ∷ es else (k.0, x) ∷ insert_entry (λ (a b : Key). is_key a.0.now a.1.now b) es key first)
+            else (if is_key key.0.now key.1.now k.0 then (k.0, first) ∷ more else k ∷ insert_entry (λ (a b : Key). is_key a.0.now a.1.now b) more key first))
+        put_over true k es more first = refl
+        put_over false k es more first = refl
+
+        back_step : (b : Bool) (k : Key × E) (es more other back : List (Key × E)) (first : E) (r : Option E) → cond b (Some k.1) r ≡ Some first → (r ≡ Some first → back ≡ es)
+            → (if b then (if b then (k.0, first) ∷ es else other) else (if b then (k.0, first) ∷ more else k ∷ back)) ≡ k ∷ es
+        back_step true k es more other back first r h i = ap (λ v. (k.0, v) ∷ es) (sym (same_some k.1 first h))
+        back_step false k es more other back first r h i = ap (λ z. k ∷ z) (i h)
+
+        put_back : (es : List (Key × E)) (first : E) → lookup (is_key key.0.now key.1.now) es ≡ Some first
+            → insert_entry (λ (a b : Key). is_key a.0.now a.1.now b) (insert_entry (λ (a b : Key). is_key a.0.now a.1.now b) es key x) key first ≡ es
+        put_back [] first h = cc
+        put_back (k ∷ es) first h =
+            put_over (is_key key.0.now key.1.now k.0) k es (insert_entry (λ (a b : Key). is_key a.0.now a.1.now b) es key x) first
+            ∙ back_step (is_key key.0.now key.1.now k.0) k es (insert_entry (λ (a b : Key). is_key a.0.now a.1.now b) es key x) ((k.0, x) ∷ insert_entry (λ (a b : Key). is_key a.0.now a.1.now b) es key first)
+            (insert_entry (λ (a b : Key). is_key a.0.now a.1.now b) (insert_entry (λ (a b : Key). is_key a.0.now a.1.now b) es key x) key first) first
+            (lookup (is_key key.0.now key.1.now) es) h (put_back es first)
+
+        -- its name is taken, and the first entry stays
+        pub adds_back : (between new : List (Key × E)) (first : E) → lookup (is_key key.0.now key.1.now) old ≡ Some first
+            → between ≡ insert_entry (λ (a b : Key). is_key a.0.now a.1.now b) old key x → new ≡ insert_entry (λ (a b : Key). is_key a.0.now a.1.now b) between key first → Adds view old new e
+        adds_back between new first there put back =
+            let same : new ≡ old = back ∙ ap (λ (z : List (Key × E)). insert_entry (λ (a b : Key). is_key a.0.now a.1.now b) z key first) put ∙ put_back old first there in
+            rw (same) (adds_none (ap (λ (z : List ℕ). is_some (lookup (is_key z name) old)) (sym word_is) ∙ ap (λ (z : List ℕ). is_some (lookup (is_key key.0.now z) old)) (sym name_is) ∙ ap (λ (o : Option E). is_some o) there))
 
         same_test : (s : Section) (other : List ℕ) → is_key (section_word s) other key ≡ is_in s other e
         same_test s other = rw (test_is s other, word_is, name_is, bytes_eq_sym (section_word s) (section_word (section_of e)), bytes_eq_sym other name) refl

@@ -59,10 +59,10 @@ fn add<'r, 't, A: Allocator + Copy>(
         return Ok(());
     };
     let key = (entry.section().word(), name);
-    if table.contains_key(&key) {
-        return Ok(());
+    // A name is nearly always new: one look-up puts it there, and a second one puts back the entry that came first.
+    if let Some(first) = table.insert(key, entry)? {
+        table.insert(key, first)?;
     }
-    table.insert(key, entry)?;
     Ok(())
 }
 

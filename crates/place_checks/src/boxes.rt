@@ -19,13 +19,13 @@ ghost use Rattle.place_checks.specs.Views.{boxed_view, records_view};
 use crate::corners::place_of;
 use crate::placed_box::PlacedBox;
 use crate::scale::scale_of;
+use crate::standing::{Standing, standing_of};
 use cell_library::library::Library;
 use cell_library::macro_view::MacroView;
 use def_reader::entry::Entry;
 use def_reader::read_statement::Read;
 use def_reader::statement::Statement;
 use design_model::geometry::{Rect, Status};
-use entry_references::places::first_region;
 use lefdef_tokens::is_word;
 use orient_geom::place_box;
 use place_parts::components::{Clause, ComponentParts, Placement};
@@ -69,23 +69,17 @@ fn is_cover<A: Allocator + Copy>(cell: MacroView<'_, '_, A>) -> bool
     }
 }
 
-/// The first region that a component names.
-fn region_of<'t>(parts: &ComponentParts<'t>) -> Option<&'t [u8]>
-    ensures { option_map word_view result ≡ first_of region_of_clause (component_view parts.now).clauses }
-{
-    let name = first_region(parts.clauses.again())?;
-    Some(name.bytes)
-}
-
 /// The box of a component that is placed so, where its macro is no cover.
 fn box_at<'t, A: Allocator + Copy>(
     cell: MacroView<'t, '_, A>,
     scale: u32,
     parts: &ComponentParts<'t>,
     placement: Placement<'t>,
+    region: Option<&'t [u8]>,
 ) -> Option<PlacedBox<'t>>
     requires some { 0 < scale }
     requires few { scale ≤ 100000 }
+    requires region { option_map word_view region ≡ first_of region_of_clause (component_view parts.now).clauses }
     ensures { let placed = placement.entry in
         option_map boxed_view result ≡ box_at scale (component_view parts.now) (point_view placed.at) placed.orient (cell_view cell.entry).cell }
 {
@@ -102,7 +96,7 @@ fn box_at<'t, A: Allocator + Copy>(
         orient: placement.orient,
         class: cell.cell_class(),
         sites: cell.sites(),
-        region: region_of(parts),
+        region,
     })
 }
 
@@ -116,13 +110,17 @@ fn component_box<'t, A: Allocator + Copy>(
     requires few { scale ≤ 100000 }
     ensures { option_map boxed_view result ≡ component_box library.now scale (component_view parts.now) }
 {
-    let Some(Clause::Placed(placement)) = parts.placing() else {
+    let Standing { placing, region } = standing_of(parts.clauses.again());
+    let Some(clause) = placing else {
+        return None;
+    };
+    let Clause::Placed(placement) = clause else {
         return None;
     };
     match placement.status {
         Status::Placed | Status::Fixed => {
             let cell = library.macro_of(parts.cell.bytes)?;
-            box_at(cell, scale, parts, placement)
+            box_at(cell, scale, parts, placement, region)
         }
         Status::Cover => None,
     }
@@ -155,7 +153,7 @@ pub fn boxes_of<'t, A: Allocator + Copy>(
     ensures { IfOk result (λ v. map boxed_view v.items ≡ boxes library.now (records_view records.now)) }
 {
     let scale = scale_of(records);
-    let mut boxes = Vec::new(alloc);
+    let mut boxes = Vec::with_capacity(alloc, records.len())?;
     for read in records {
         let Some(placed) = box_of(library, scale, &read.statement) else {
             continue;

@@ -18,4 +18,4 @@ returns g c =
     let m = (cell_view c.args.cell).cell in
     let box = box_in_order p.orient (boundary_of c.args.scale m.size) (rectangle_of c.boundary_of.result) (rectangle_of c.place_box.result) _ _
     c.place_box.ensures c.boundary_of.ensures.spans c.place_of.ensures.is in
-    boxed_so c.args.scale (component_view c.args.parts.now) (point_view p.at) p.orient m _ _ _ _ c.if-is_cover.ensures box c.cell_class.ensures c.sites.ensures c.region_of.ensures
+    boxed_so c.args.scale (component_view c.args.parts.now) (point_view p.at) p.orient m _ _ _ _ c.if-is_cover.ensures box c.cell_class.ensures c.sites.ensures c.requires.region
