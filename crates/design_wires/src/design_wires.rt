@@ -47,14 +47,14 @@ impl<'a, 'l: 'a, 'r: 'a, 't: 'a, A: Allocator + Copy> DesignWires<'a, 'l, 'r, 't
     }
 
     /// Where layers, rules and vias are defined.
-    pub fn definitions(&self) -> Definitions<'a, 'l, 'r, 't, A>
+    pub(crate) fn definitions(&self) -> Definitions<'a, 'l, 'r, 't, A>
         ensures { defined result ≡ self.now }
     {
         self.definitions
     }
 
     /// What a via does where a path is on a layer.
-    pub fn via_on(&self, via: &[u8], layer: &[u8]) -> ViaOn<'a>
+    pub(crate) fn via_on(&self, via: &[u8], layer: &[u8]) -> ViaOn<'a>
         ensures { via_on_view result ≡ option_map (other_layer layer.now) (via_layers self.now.library self.now.design via.now) }
     {
         match self.vias.get(via) {
@@ -64,7 +64,7 @@ impl<'a, 'l: 'a, 'r: 'a, 't: 'a, A: Allocator + Copy> DesignWires<'a, 'l, 'r, 't
     }
 
     /// The shapes of a via about its origin; none where it isn't known.
-    pub fn via_shapes(&self, via: &[u8]) -> KnownShapes<'_, 'a>
+    pub(crate) fn via_shapes(&self, via: &[u8]) -> KnownShapes<'_, 'a>
         ensures { known_left result ≡ via_shapes self.now.library self.now.design self.now.units via.now }
     {
         let Some(known) = self.vias.get(via) else {
