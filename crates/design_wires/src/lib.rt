@@ -1,6 +1,6 @@
 //! What wires and vias of a design are made by, over statements that were read once and over its library.
 //!
-//! Begin with `design_wires::DesignWires`, which finds all vias of a design and of its library once. With it, as
+//! Begin with `wires::DesignWires`, which finds all vias of a design and of its library once. With it, as
 //! `rules_of_design::DesignRules`, `wire_reading::net_pieces` and `special_net_pieces` give the pieces of the wires of an
 //! entry. It makes `rules::NetRules` and `special_rules::SpecialRules`, the widths and the vias of one wire, as `wire_shapes`
 //! asks for them; `via_rects::ViaRects` has the rectangles of one via about its origin. What they say is defined in
@@ -14,7 +14,6 @@
 
 mod corners;
 pub mod definitions;
-pub mod design_wires;
 pub mod known_shapes;
 mod known_via;
 mod layer_rects;
@@ -32,3 +31,4 @@ pub mod via_rects;
 mod via_table;
 pub mod via_view;
 pub mod widths;
+pub mod wires;

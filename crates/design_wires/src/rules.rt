@@ -8,10 +8,10 @@ ghost use Rattle.net_rules.specs.WirePieces.{net_wire_rules, special_wire_rules}
 ghost use Rattle.wire_rules.specs.Ranges.{IsSize};
 ghost use Rattle.design_wires.specs.RulesOf.{net_rules_of, special_rules_of};
 
-use crate::design_wires::DesignWires;
 use crate::known_shapes::KnownShapes;
 use crate::special_rules::SpecialRules;
 use crate::widths::wire_width;
+use crate::wires::DesignWires;
 use std::alloc::{Allocator, Global};
 use wire_shapes::{ViaOn, WiringRules};
 

@@ -3,9 +3,9 @@
 ghost use Rattle.std.specs.Prelude.{◌≡◌};
 ghost use Rattle.wire_rules.specs.Ranges.{IsSize};
 
-use crate::design_wires::DesignWires;
 use crate::rules::NetRules;
 use crate::special_rules::SpecialRules;
+use crate::wires::DesignWires;
 use std::alloc::{Allocator, Global};
 use wire_reading::{NetRulesOf, SpecialRulesOf};
 

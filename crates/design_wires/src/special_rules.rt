@@ -2,7 +2,7 @@
 
 ghost use Rattle.wire_rules.specs.Ranges.{IsSize};
 
-use crate::design_wires::DesignWires;
+use crate::wires::DesignWires;
 use std::alloc::{Allocator, Global};
 
 /// Vias of a wire of SPECIALNETS, and its width, which it has on every layer.
