@@ -22,10 +22,15 @@ use Rattle.def_grammar.specs.Components.{Component, component_form}
 use Rattle.def_grammar.specs.Records.{def, def_ending, Record, entry, entry_of, component, component_of, statement, entries_form, read_def}
 use Rattle.design_rules.specs.Edits.{located, component_at, component_if}
 use Rattle.design_rules.specs.Entries.{entry_at, is_entry}
-use Rattle.def_reader.specs.Lent.{ReadIn}
-use Rattle.def_reader.specs.RecordViews.{record_of, located_view}
+use Rattle.def_reader.specs.Lent.{StatementIn}
+use Rattle.def_reader.specs.RecordViews.{located_view}
+use Rattle.def_reader.specs.StatementViews.{record_view}
 use Rattle.def_reader.specs.declared.statement.Statement.{Statement}
 use Rattle.def_reader.proofs.SectionSteps.{form_whole, read_whole, StandsIn, stands}
+
+-- what statements say
+abbrev pub records_in : List (List Piece × Record) → List Record
+records_in = map (λ (x : List Piece × Record). x.1)
 
 -- the statements of a text, each with its record
 front_zip : (s : List Piece) (later : List (List Piece)) (r : Result (Record × Mode) Fault) (rest : Mode → List (List Piece × Record)) → ((m : Mode) → zip later (map (λ x. x.1) (rest m)) ≡ rest m)
@@ -49,36 +54,30 @@ module _ (law : RecordsAreLocated def) (text : List ℕ) where
   ok_records (Ok recs) h = (recs, refl)
   ok_records (Err f) h = absurd (cc)
 
-  all_records : (items : List (Read Statement Mode)) → map (λ (x : List Piece × Record). x.1) (map located_view items) ≡ map record_of items
-  all_records [] = refl
-  all_records (x ∷ xs) = ap (λ (z : List Record). record_of x ∷ z) (all_records xs)
-
   -- all statements of a text that reads
-  module _ (items : List (Read Statement Mode)) (reads : IsOk (read_def text)) (later : List (List Piece × Record)) (front : located_at def Top text 0 ≡ map located_view items ++ later) (none : later ≡ []) where
-    all : located_at def Top text 0 ≡ map located_view items
-    all = front ∙ ap (λ (z : List (List Piece × Record)). map located_view items ++ z) none ∙ append-nil (map located_view items)
+  module _ (items : List Statement) (reads : IsOk (read_def text)) (later : List (List Piece × Record)) (front : records_in (located_at def Top text 0) ≡ map record_view items ++ records_in later) (none : later ≡ []) where
+    all : records_in (located_at def Top text 0) ≡ map record_view items
+    all = front ∙ ap (λ (z : List (List Piece × Record)). map record_view items ++ records_in z) none ∙ append-nil (map record_view items)
 
-    pub records_are : read_def text ≡ Ok (map record_of items)
+    pub records_are : read_def text ≡ Ok (map record_view items)
     records_are =
         let r = ok_records (read_def text) reads in
-        let same : map record_of items ≡ r.0 = sym (all_records items) ∙ ap (map (λ (x : List Piece × Record). x.1)) (sym all) ∙ law Top text r.0 r.1 in
+        let same : map record_view items ≡ r.0 = sym all ∙ law Top text r.0 r.1 in
         r.1 ∙ ap (λ (z : List Record). Ok z) (sym same)
 
-    pub located_are : located text (map record_of items) ≡ map located_view items
-    located_are = located_is (map record_of items) records_are ∙ all
-
 -- one more statement
-pub one_more : (front now : List (List Piece × Record)) (items new : List (Read Statement Mode)) (x : Read Statement Mode) (m : Mode) (old text : List ℕ) (pos : ℕ) → new ≡ items ++ x ∷ [] → text ≡ old
-    → front ≡ map located_view items ++ now → now ≡ located_view x ∷ located_at def m old pos → front ≡ map located_view new ++ located_at def m text pos
+pub one_more : (front : List Record) (now : List (List Piece × Record)) (items new : List Statement) (x : Read Statement Mode) (m : Mode) (old text : List ℕ) (pos : ℕ) → new ≡ items ++ x.statement ∷ [] → text ≡ old
+    → front ≡ map record_view items ++ records_in now → now ≡ located_view x ∷ located_at def m old pos → front ≡ map record_view new ++ records_in (located_at def m text pos)
 one_more front now items new x m old text pos e same is first =
-    let later = located_at def m old pos in
+    let later = records_in (located_at def m old pos) in
+    let one : List Record = record_view x.statement ∷ [] in
     rw (e, same) (
-    is ∙ ap (λ (z : List (List Piece × Record)). map located_view items ++ z) first ∙ sym (append_assoc (map located_view items) (located_view x ∷ []) later)
-    ∙ ap (λ (z : List (List Piece × Record)). z ++ later) (sym (map-append located_view items (x ∷ [])))
+    is ∙ ap (λ (z : List (List Piece × Record)). map record_view items ++ records_in z) first ∙ sym (append_assoc (map record_view items) one later)
+    ∙ ap (λ (z : List Record). z ++ later) (sym (map-append record_view items (x.statement ∷ [])))
     )
 
-pub one_more_lent : (items new : List (Read Statement Mode)) (x : Read Statement Mode) (old text : List ℕ) → new ≡ items ++ x ∷ [] → old ≡ text → All (ReadIn text) items → ReadIn old x → All (ReadIn text) new
-one_more_lent items new x old text e same lent last = rw e (All-push (ReadIn text) items x lent (subst (λ (t : List ℕ). ReadIn t x) same last))
+pub one_more_lent : (items new : List Statement) (x : Statement) (old text : List ℕ) → new ≡ items ++ x ∷ [] → old ≡ text → All (StatementIn text) items → StatementIn old x → All (StatementIn text) new
+one_more_lent items new x old text e same lent last = rw e (All-push (StatementIn text) items x lent (subst (λ (t : List ℕ). StatementIn t x) same last))
 
 -- the form of a statement that comes first
 front_form : (m : Mode) (s : List Piece) (r : Result (Record × Mode) Fault) (rest : Mode → List (List Piece × Record)) (x : List Piece × Record) (later : List (List Piece × Record)) → read_form def m s ≡ r → in_front def s r rest ≡ x ∷ later

@@ -5,11 +5,10 @@ use Rattle.design_model.specs.declared.mode.Section.{Section}
 use Rattle.design_model.specs.declared.mode.Section.TheVariants.{Components, Pins, Regions, Groups, Blockages}
 use Rattle.def_grammar.specs.Records.{Entry, component, pin, region, group, blockage, net, special_net, via, rule, skipped}
 use Rattle.lefdef_tokens.specs.Views.{words_of}
-use Rattle.place_parts.specs.BlockageViews.{BlockageEntryIn, blockage_entry_view}
+use Rattle.place_parts.specs.AgainViews.{BlockageAtIn, RegionAtIn, blockage_at_view, region_at_view}
 use Rattle.place_parts.specs.ComponentViews.{ComponentIn, component_view}
 use Rattle.place_parts.specs.GroupViews.{GroupIn, group_view}
 use Rattle.place_parts.specs.PinViews.{PinIn, pin_view}
-use Rattle.place_parts.specs.RegionViews.{RegionIn, region_view}
 use Rattle.wire_parts.specs.NetViews.{NetEntryIn, net_entry_view}
 use Rattle.wire_parts.specs.RuleViews.{RuleIn, rule_view}
 use Rattle.wire_parts.specs.SpecialNetViews.{SpecialNetIn, special_net_view}
@@ -31,9 +30,9 @@ is_place_section _ = false
 abbrev pub entry_view : code.Entry → Entry
 entry_view (variants.Component parts) = component (component_view parts)
 entry_view (variants.Pin parts) = pin (pin_view parts)
-entry_view (variants.Region parts) = region (region_view parts)
+entry_view (variants.Region at) = region (region_at_view at)
 entry_view (variants.Group parts) = group (group_view parts)
-entry_view (variants.Blockage entry) = blockage (blockage_entry_view entry)
+entry_view (variants.Blockage at) = blockage (blockage_at_view at)
 entry_view (variants.Net entry) = net (net_entry_view entry)
 entry_view (variants.SpecialNet parts) = special_net (special_net_view parts)
 entry_view (variants.Via parts) = via (via_view parts)
@@ -43,9 +42,9 @@ entry_view (variants.Skipped s tokens) = skipped s (words_of tokens)
 abbrev pub EntryIn : List ℕ → code.Entry → Type 0
 EntryIn text (variants.Component parts) = ComponentIn text parts
 EntryIn text (variants.Pin parts) = PinIn text parts
-EntryIn text (variants.Region parts) = RegionIn text parts
+EntryIn text (variants.Region at) = RegionAtIn text at
 EntryIn text (variants.Group parts) = GroupIn text parts
-EntryIn text (variants.Blockage entry) = BlockageEntryIn text entry
+EntryIn text (variants.Blockage at) = BlockageAtIn text at
 EntryIn text (variants.Net entry) = NetEntryIn text entry
 EntryIn text (variants.SpecialNet parts) = SpecialNetIn text parts
 EntryIn text (variants.Via parts) = ViaIn text parts

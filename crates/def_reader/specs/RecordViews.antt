@@ -9,11 +9,8 @@ use Rattle.lefdef_tokens.specs.declared.token_run.TokenRun.{TokenRun}
 use Rattle.statement_reader.specs.declared.grammar.Read.{Read}
 use Rattle.place_parts.specs.ComponentViews.{component_view}
 use Rattle.def_reader.specs.StatementViews.{record_view}
-use Rattle.place_parts.specs.declared.components.ComponentParts.{ComponentParts}
+use Rattle.place_parts.specs.declared.component_parts.ComponentParts.{ComponentParts}
 use Rattle.def_reader.specs.declared.statement.Statement.{Statement}
-
-abbrev pub record_of : Read Statement Mode → Record
-record_of x = record_view x.statement
 
 abbrev pub located_view : Read Statement Mode → List Piece × Record
 located_view x = (pieces_of x.tokens, record_view x.statement)

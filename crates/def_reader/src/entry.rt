@@ -13,11 +13,10 @@ ghost use Rattle.def_reader.specs.SeenViews.{key_view};
 use crate::seen::Key;
 use design_model::mode::Section;
 use lefdef_tokens::{Cursor, TokenRun};
-use place_parts::blockages::{BlockageEntry, blockage_entry_at};
-use place_parts::components::{ComponentParts, component_at};
+use place_parts::component_parts::ComponentParts;
 use place_parts::groups::{GroupParts, group_at};
 use place_parts::pins::{PinParts, pin_at};
-use place_parts::regions::{RegionParts, region_at};
+use place_parts::read_again::{BlockageAt, RegionAt};
 use wire_parts::nets::{NetEntry, net_entry_at};
 use wire_parts::rules::{RuleParts, rule_at};
 use wire_parts::special_nets::{SpecialNetParts, special_net_at};
@@ -28,9 +27,9 @@ use wire_parts::vias::{ViaParts, via_at};
 pub enum Entry<'t> {
     Component(ComponentParts<'t>),
     Pin(PinParts<'t>),
-    Region(RegionParts<'t>),
+    Region(RegionAt<'t>),
     Group(GroupParts<'t>),
-    Blockage(BlockageEntry<'t>),
+    Blockage(BlockageAt<'t>),
     Net(NetEntry<'t>),
     SpecialNet(SpecialNetParts<'t>),
     Via(ViaParts<'t>),
@@ -65,7 +64,7 @@ impl<'t> Entry<'t> {
         match self {
             Entry::Component(parts) => Some(parts.name.bytes),
             Entry::Pin(parts) => Some(parts.name.bytes),
-            Entry::Region(parts) => Some(parts.name.bytes),
+            Entry::Region(region) => Some(region.parts().name.bytes),
             Entry::Group(parts) => Some(parts.name.bytes),
             Entry::Net(net) => Some(net.name()?.bytes),
             Entry::SpecialNet(parts) => Some(parts.name.bytes),
@@ -136,7 +135,7 @@ pub fn entry_at<'t>(section: Section, cursor: Cursor<'t>) -> Option<(Entry<'t>, 
 {
     match section {
         Section::Components => {
-            let (parts, cursor) = component_at(cursor)?;
+            let (parts, cursor) = ComponentParts::read(cursor)?;
             Some((Entry::Component(parts), cursor))
         }
         Section::Pins => {
@@ -144,16 +143,16 @@ pub fn entry_at<'t>(section: Section, cursor: Cursor<'t>) -> Option<(Entry<'t>, 
             Some((Entry::Pin(parts), cursor))
         }
         Section::Regions => {
-            let (parts, cursor) = region_at(cursor)?;
-            Some((Entry::Region(parts), cursor))
+            let (region, cursor) = RegionAt::read(cursor)?;
+            Some((Entry::Region(region), cursor))
         }
         Section::Groups => {
             let (parts, cursor) = group_at(cursor)?;
             Some((Entry::Group(parts), cursor))
         }
         Section::Blockages => {
-            let (entry, cursor) = blockage_entry_at(cursor)?;
-            Some((Entry::Blockage(entry), cursor))
+            let (blockage, cursor) = BlockageAt::read(cursor)?;
+            Some((Entry::Blockage(blockage), cursor))
         }
         _ => wire_entry_at(section, cursor),
     }

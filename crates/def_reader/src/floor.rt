@@ -12,13 +12,13 @@ ghost use Rattle.def_reader.specs.FloorViews.{FloorIn, floor_view};
 use lefdef_tokens::{Cursor, is_word};
 use place_parts::die_area::{DieAreaParts, die_area_at};
 use place_parts::grids::{GcellGridParts, TracksParts, gcell_grid_at, tracks_at};
-use place_parts::rows::{RowParts, row_at};
+use place_parts::read_again::RowAt;
 
 /// A statement about the floor of a design.
 #[derive(Clone, Copy, Drop)]
 pub enum Floor<'t> {
     DieArea(DieAreaParts<'t>),
-    Row(RowParts<'t>),
+    Row(RowAt<'t>),
     Tracks(TracksParts<'t>),
     GcellGrid(GcellGridParts<'t>),
 }
@@ -55,8 +55,8 @@ pub(crate) fn floor_at<'t>(cursor: Cursor<'t>) -> Option<(Floor<'t>, Cursor<'t>)
         let (parts, cursor) = die_area_at(cursor)?;
         Some((Floor::DieArea(parts), cursor))
     } else if is_word(word.bytes, b"ROW") {
-        let (parts, cursor) = row_at(cursor)?;
-        Some((Floor::Row(parts), cursor))
+        let (row, cursor) = RowAt::read(cursor)?;
+        Some((Floor::Row(row), cursor))
     } else if is_word(word.bytes, b"TRACKS") {
         let (parts, cursor) = tracks_at(cursor)?;
         Some((Floor::Tracks(parts), cursor))

@@ -13,7 +13,7 @@ ghost use Rattle.lefdef_tokens.specs.Views.{pieces_of, span_of, words_of};
 ghost use Rattle.place_parts.specs.ComponentViews.{component_view, ComponentIn};
 ghost use Rattle.def_reader.specs.Lent.{ReadIn, StatementIn};
 ghost use Rattle.def_reader.specs.StatementViews.{record_view};
-ghost use Rattle.def_reader.specs.RecordViews.{entry_view, located_view, record_of, with_tokens};
+ghost use Rattle.def_reader.specs.RecordViews.{entry_view, located_view, with_tokens};
 
 use crate::entry::Entry;
 use crate::read_statement::Read;
@@ -21,7 +21,7 @@ use crate::statement::Statement;
 use design_model::mode::{Mode, Section};
 use lefdef_tokens::{TokenRun, is_word};
 use memchr::memchr_iter;
-use place_parts::components::ComponentParts;
+use place_parts::component_parts::ComponentParts;
 use statement_reader::laws::records_are_read;
 use statement_reader::text;
 use std::alloc::{AllocError, Allocator};
@@ -29,22 +29,21 @@ use std::alloc::{AllocError, Allocator};
 /// The statements of a DEF text, one after the other.
 pub type Statements<'t> = text::Statements<'t, Statement<'t>, Mode>;
 
-/// All statements, in the order of the text.
+/// All statements, in the order of the text, without their tokens.
 pub fn statements_of<'t, A: Allocator>(
     alloc: A,
     text: &'t [u8],
-) -> Result<Vec<Read<'t>, A>, AllocError>
+) -> Result<Vec<Statement<'t>, A>, AllocError>
     requires { IsOk (read_def text.now) }
-    ensures records { IfOk result (λ v. read_def text.now ≡ Ok (map record_of v.items)) }
-    ensures located { IfOk result (λ v. located text.now (map record_of v.items) ≡ map located_view v.items) }
-    ensures lent { IfOk result (λ v. All (ReadIn text.now) v.items) }
+    ensures records { IfOk result (λ v. read_def text.now ≡ Ok (map record_view v.items)) }
+    ensures lent { IfOk result (λ v. All (StatementIn text.now) v.items) }
 {
     records_are_read::<Statement<'t>>();
     // Nearly each statement has one semicolon, so the list isn't moved while it grows.
     let mut found = Vec::with_capacity(alloc, memchr_iter(b';', text).count())?;
     let mut statements: Statements<'t> = text::Statements::new(Mode::Top, text);
     while let Some(read) = statements.next() {
-        found.push(read)?;
+        found.push(read.statement)?;
     }
     Ok(found)
 }

@@ -23,7 +23,7 @@ use crate::seen::Key;
 use crate::top::top_at;
 use design_model::mode::{Mode, Section};
 use lefdef_tokens::{Cursor, Token, TokenRun, is_semicolon, is_word};
-use place_parts::components::{ComponentParts, component_at};
+use place_parts::component_parts::ComponentParts;
 use statement_reader::boundary::Ending;
 use statement_reader::grammar;
 use wire_parts::nets::net_entry_at;
@@ -115,7 +115,7 @@ fn component_statement_at<'t>(cursor: Cursor<'t>) -> Option<(Statement<'t>, Curs
     ensures later { IfSome result (λ x. IsLater cursor.entry x.1) }
     ensures lent { IfSome result (λ x. StatementIn cursor.entry.tokens.text.now x.0) }
 {
-    let (parts, cursor) = component_at(cursor)?;
+    let (parts, cursor) = ComponentParts::read(cursor)?;
     Some((Statement::Entry(Entry::Component(parts)), cursor))
 }
 

@@ -8,7 +8,7 @@ ghost use Rattle.def_grammar.specs.Placing.{is_held};
 ghost use Rattle.def_grammar.specs.Records.{read_def};
 ghost use Rattle.design_rules.specs.Edits.{is_long, is_out};
 ghost use Rattle.lefdef_tokens.specs.Views.{pieces_of, words_of};
-ghost use Rattle.place_parts.specs.ComponentViews.{clause_view};
+ghost use Rattle.place_parts.specs.ClauseViews.{clause_view};
 ghost use Rattle.def_splice.specs.SpliceViews.{clause_cut, cut_view, Moves, PlacesSplice};
 
 use crate::put::{placed_text, put_at};

@@ -15,7 +15,7 @@ use Rattle.def_grammar.specs.Records.{Record, Entry, top, in_properties, end_sec
 use Rattle.entry_rules.specs.EntryNames.{entry_named}
 use Rattle.entry_rules.specs.Unknown.{component_named, is_in, stands_in}
 use Rattle.entry_rules.specs.ViaLayers.{def_rule_named, def_via_named, rule_of_entry, via_of_entry}
-use Rattle.place_parts.specs.declared.components.ComponentParts.{ComponentParts}
+use Rattle.place_parts.specs.declared.component_parts.ComponentParts.{ComponentParts}
 use Rattle.design_names.specs.NameViews.{component_of_entry, lent_component}
 
 any_step : {A : Type 0} (b : Bool) (a : A) (r : Bool) (q : Option A) → r ≡ is_some q → (b || r) ≡ is_some (cond b (Some a) q)

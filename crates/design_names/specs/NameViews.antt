@@ -1,26 +1,24 @@
 -- Statements that were read, and entries that are lent from them, as those of the definitions.
 use Rattle.std.specs.Prelude.{List, map, Option, Some, None}
 use denote.Ref.{Bor}
-use Rattle.design_model.specs.declared.mode.Mode.{Mode}
 use Rattle.def_grammar.specs.Components.{Component}
 use Rattle.def_grammar.specs.DefVias.{DefVia}
 use Rattle.def_grammar.specs.Records.{Entry, Record, component}
 use Rattle.def_grammar.specs.Rules.{Rule}
-use Rattle.statement_reader.specs.declared.grammar.Read.{Read}
 use Rattle.place_parts.specs.ComponentViews.{component_view}
-use Rattle.place_parts.specs.declared.components.ComponentParts.{ComponentParts}
+use Rattle.place_parts.specs.declared.component_parts.ComponentParts.{ComponentParts}
 use Rattle.wire_parts.specs.RuleViews.{rule_view}
 use Rattle.wire_parts.specs.ViaViews.{via_view}
 use Rattle.wire_parts.specs.declared.rules.RuleParts.{RuleParts}
 use Rattle.wire_parts.specs.declared.vias.ViaParts.{ViaParts}
 use Rattle.def_reader.specs.EntryViews.{entry_view}
-use Rattle.def_reader.specs.RecordViews.{record_of}
+use Rattle.def_reader.specs.StatementViews.{record_view}
 use Rattle.def_reader.specs.declared.entry.Entry as code
 use Rattle.def_reader.specs.declared.statement.Statement.{Statement}
 
 -- what statements say, in order
-abbrev pub records_view : List (Read Statement Mode) → List Record
-records_view = map record_of
+abbrev pub records_view : List Statement → List Record
+records_view = map record_view
 
 abbrev pub lent_entry : Bor code.Entry → Entry
 lent_entry e = entry_view e.now

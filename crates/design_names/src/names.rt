@@ -11,11 +11,10 @@ ghost use Rattle.design_names.specs.NameViews.{component_of_entry, lent_componen
 ghost use Rattle.design_names.specs.Tables.{Adds};
 
 use def_reader::entry::Entry;
-use def_reader::read_statement::Read;
 use def_reader::statement::Statement;
 use design_model::mode::Section;
 use indexmap::IndexMap;
-use place_parts::components::ComponentParts;
+use place_parts::component_parts::ComponentParts;
 use std::alloc::{AllocError, Allocator, Global};
 use std::hash::{BuildHasherDefault, FoldHasher};
 use std::marker::Model;
@@ -31,7 +30,7 @@ type Table<'r, 't, A> = IndexMap<Key<'t>, &'r Entry<'t>, BuildHasherDefault<Fold
 /// The statements of a design, with its entries by their names.
 #[derive(Drop)]
 pub struct Names<'r, 't, A: Allocator = Global> {
-    records: &'r [Read<'t>],
+    records: &'r [Statement<'t>],
     table: Table<'r, 't, A>,
 }
 
@@ -99,7 +98,7 @@ fn rule_of<'r, 't>(entry: &'r Entry<'t>) -> Option<&'r RuleParts<'t>>
 /// The names of the statements of a text. One pass over them makes a table of their entries.
 pub fn names_of<'r, 't, A: Allocator + Copy>(
     alloc: A,
-    records: &'r [Read<'t>],
+    records: &'r [Statement<'t>],
 ) -> Result<Names<'r, 't, A>, AllocError>
     ensures { IfOk result (λ names. names ≡ records_view records.entry.now) }
 {
@@ -108,8 +107,8 @@ pub fn names_of<'r, 't, A: Allocator + Copy>(
         records.len(),
         BuildHasherDefault::new(),
     )?;
-    for read in records {
-        if let Statement::Entry(entry) = &read.statement {
+    for statement in records {
+        if let Statement::Entry(entry) = statement {
             add(&mut table, entry)?;
         }
     }
@@ -118,7 +117,7 @@ pub fn names_of<'r, 't, A: Allocator + Copy>(
 
 impl<'r, 't, A: Allocator + Copy> Names<'r, 't, A> {
     /// The statements of the text, in their order.
-    pub fn records(&self) -> &'r [Read<'t>]
+    pub fn records(&self) -> &'r [Statement<'t>]
         ensures { records_view result.now ≡ self.now }
     {
         self.records

@@ -15,7 +15,6 @@ use crate::known_via::{KnownVia, known_via};
 use cell_library::named::Named;
 use cell_library::via_definition::Via;
 use def_reader::entry::Entry;
-use def_reader::read_statement::Read;
 use def_reader::statement::Statement;
 use std::alloc::{AllocError, Allocator};
 
@@ -55,12 +54,12 @@ fn add_those_of_def<'a, 'l: 'a, 'r: 'a, 't: 'a, A: Allocator + Copy>(
     alloc: A,
     of: Definitions<'a, 'l, 'r, 't, A>,
     vias: &mut Table<'a, A>,
-    records: &'r [Read<'t>],
+    records: &'r [Statement<'t>],
 ) -> Result<(), AllocError>
     ensures { (left : List (List ℕ)) → HasOthers (defined of.entry) vias.old (names_in_def (records_view records.entry.now) ++ left) → OnOk result (HasOthers (defined of.entry) vias.new left) }
 {
-    for read in records {
-        if let Statement::Entry(entry) = &read.statement {
+    for statement in records {
+        if let Statement::Entry(entry) = statement {
             if let Some(name) = via_name(entry) {
                 add(alloc, of, vias, name)?;
             }

@@ -4,7 +4,7 @@ ghost use Rattle.std.specs.Prelude.{◌≡◌, ◌++◌, ◌<◌, ◌≤◌, IfO
 ghost use Rattle.design_model.specs.Lines.{diag_text, IsOfItsKind};
 ghost use Rattle.design_model.specs.Order.{texts};
 ghost use Rattle.def_grammar.specs.Records.{read_def};
-ghost use Rattle.def_reader.specs.RecordViews.{record_of};
+ghost use Rattle.def_reader.specs.StatementViews.{record_view};
 ghost use Rattle.design_rules.specs.Boxes.{scale};
 ghost use Rattle.design_rules.specs.CountLines.{count_lines};
 ghost use Rattle.design_rules.specs.OverlapLines.{overlap_lines};
@@ -16,8 +16,8 @@ ghost use Rattle.line_laws.specs.Lines.{SameLines};
 ghost use Rattle.edit_session.specs.Sessions.{HaveTheirKinds, Reports};
 
 use cell_library::library::Library;
-use def_reader::read_statement::Read;
 use def_reader::records::statements_of;
+use def_reader::statement::Statement;
 use design_model::diagnostic::{Diag, DiagLine, DiagLines, sort_lines};
 use design_model::sequence::Sequence;
 use design_names::names::names_of;
@@ -82,9 +82,9 @@ fn push_lines<A: Allocator + Copy>(
 fn push_entries<'t, A: Allocator + Copy>(
     lines: &mut Vec<DiagLine<A>, A>,
     library: &'t Library<'_, A>,
-    records: &[Read<'t>],
+    records: &[Statement<'t>],
 ) -> Result<(), AllocError>
-    ensures texts { let design = map record_of records.entry.now in
+    ensures texts { let design = map record_view records.entry.now in
         OnOk result (texts lines.new.items ≡ texts lines.old.items ++ (count_lines design ++ (unknown_lines library.now design ++ (off_layer_lines library.now design ++ unchecked_lines library.now design)))) }
     ensures kinds { OnOk result (HaveTheirKinds lines.old.items → HaveTheirKinds lines.new.items) }
 {
@@ -101,11 +101,11 @@ fn push_entries<'t, A: Allocator + Copy>(
 fn push_places<'t, A: Allocator + Copy>(
     lines: &mut Vec<DiagLine<A>, A>,
     library: &'t Library<'_, A>,
-    records: &[Read<'t>],
+    records: &[Statement<'t>],
 ) -> Result<(), AllocError>
-    requires some { 0 < scale (map record_of records.now) }
-    requires few { scale (map record_of records.now) ≤ 100000 }
-    ensures texts { let design = map record_of records.entry.now in
+    requires some { 0 < scale (map record_view records.now) }
+    requires few { scale (map record_view records.now) ≤ 100000 }
+    ensures texts { let design = map record_view records.entry.now in
         OnOk result (SameLines (texts lines.new.items) (texts lines.old.items ++ (overlap_lines library.now design ++ place_lines library.now design))) }
     ensures kinds { OnOk result (HaveTheirKinds lines.old.items → HaveTheirKinds lines.new.items) }
 {

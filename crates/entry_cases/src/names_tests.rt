@@ -1,6 +1,6 @@
 use def_reader::read_def::read_def;
-use def_reader::read_statement::Read;
 use def_reader::records::statements_of;
+use def_reader::statement::Statement;
 use design_model::mode::Section;
 use design_names::names::names_of;
 use std::alloc::Allocator;
@@ -20,7 +20,7 @@ END DESIGN
 fn records_of<'t, A: Allocator + Copy>(
     alloc: A,
     text: &'t [u8],
-) -> Result<Vec<Read<'t>, A>, &'static str> {
+) -> Result<Vec<Statement<'t>, A>, &'static str> {
     match read_def(alloc, text) {
         Ok(_) => match statements_of(alloc, text) {
             Ok(records) => Ok(records),

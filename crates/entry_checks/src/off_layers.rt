@@ -214,8 +214,8 @@ pub fn off_layers_of<'t, A: Allocator + Copy>(
     ensures { IfOk result (λ v. diag_texts v.items ≡ off_layer_lines library.now names.now) }
 {
     let mut reports = Vec::new(alloc);
-    for read in names.records() {
-        if let Statement::Entry(entry) = &read.statement {
+    for statement in names.records() {
+        if let Statement::Entry(entry) = statement {
             push_entry(&mut reports, &*library, &*names, entry)?;
         }
     }

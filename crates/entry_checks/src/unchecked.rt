@@ -18,7 +18,6 @@ use cell_library::macro_definition::Macro;
 use cell_library::named::Named;
 use cell_library::via_definition::Via;
 use def_reader::floor::Floor;
-use def_reader::read_statement::Read;
 use def_reader::statement::Statement;
 use design_model::diagnostic::{Diag, DiagKind};
 use design_model::sequence::Sequence;
@@ -119,13 +118,13 @@ fn push_vias<'t, 'l, A: Allocator + Copy>(
 pub fn unchecked_of<'t, A: Allocator + Copy>(
     alloc: A,
     library: &'t Library<'_, A>,
-    records: &[Read<'t>],
+    records: &[Statement<'t>],
 ) -> Result<Vec<Diag<'t, A>, A>, AllocError>
     ensures { IfOk result (λ v. diag_texts v.items ≡ unchecked_lines library.now (records_view records.now)) }
 {
     let mut reports = Vec::new(alloc);
-    for read in records {
-        push_statement(&mut reports, &read.statement)?;
+    for statement in records {
+        push_statement(&mut reports, statement)?;
     }
     push_macros(&mut reports, library.macros())?;
     push_vias(&mut reports, library.vias())?;

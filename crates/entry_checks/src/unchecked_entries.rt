@@ -99,7 +99,7 @@ pub(crate) fn unchecked_in(entry: &Entry<'_>) -> usize
 {
     match entry {
         Entry::Pin(parts) => polygons_of_pin(parts.clauses.again()),
-        Entry::Blockage(blockage) => in_blockage(blockage),
+        Entry::Blockage(blockage) => in_blockage(&blockage.parts()),
         Entry::Via(parts) => polygons_of_via(parts.clauses.again()),
         Entry::Net(net) => in_net(net),
         Entry::SpecialNet(parts) => in_special_net(parts),

@@ -86,7 +86,8 @@ fn push_statement<'t, A: Allocator + Copy>(
             push_reports(reports, known, section, name_or_dash(entry), references)
         }
         Statement::Floor(Floor::Row(row)) => {
-            push_row_references(row, references)?;
+            let row = row.parts();
+            push_row_references(&row, references)?;
             push_reports(reports, known, b"ROWS", row.name.bytes, references)
         }
         _ => Ok(()),
@@ -104,8 +105,8 @@ pub fn unknown_of<'t, A: Allocator + Copy>(
     let known = Known { library, names };
     let mut reports = Vec::new(alloc);
     let mut references = Vec::new(alloc);
-    for read in names.records() {
-        push_statement(&mut reports, &mut references, &known, &read.statement)?;
+    for statement in names.records() {
+        push_statement(&mut reports, &mut references, &known, statement)?;
     }
     Ok(reports)
 }

@@ -28,7 +28,7 @@ pub fn push_references<'t, A: Allocator>(
         Entry::Component(parts) => push_component(parts, found),
         Entry::Pin(parts) => push_pin(parts, found),
         Entry::Group(parts) => push_group(parts, found),
-        Entry::Blockage(blockage) => push_blockage(blockage, found),
+        Entry::Blockage(blockage) => push_blockage(&blockage.parts(), found),
         Entry::Net(net) => push_net(net, found),
         Entry::SpecialNet(parts) => push_special_net(parts, found),
         Entry::Via(parts) => push_via(parts, found),

@@ -1,7 +1,7 @@
 //! Finds the names in an entry, or a row, that are defined elsewhere.
 //!
 //! Begin with `entries::push_references`, the names of an entry, and `entries::push_row_references`, those of a row;
-//! `places::first_region` and `places::first_group_region` have the region of a component and of a group alone.
+//! `places::first_group_region` has the region of a group alone.
 //! `entry_rules/specs/References` says which names these are (`entry_references`), and `specs/ReferenceViews` ties the
 //! program to it.
 //!

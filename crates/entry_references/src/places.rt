@@ -6,33 +6,20 @@ ghost use Rattle.lef_grammar.specs.Firsts.{first_of};
 ghost use Rattle.def_grammar.specs.Groups.{region_named};
 ghost use Rattle.def_parts.specs.ClauseViews.{bytes_view};
 ghost use Rattle.place_parts.specs.BlockageViews.{blockage_entry_view};
-ghost use Rattle.place_parts.specs.ComponentViews.{clauses_of, component_view};
+ghost use Rattle.place_parts.specs.ComponentViews.{component_view};
 ghost use Rattle.place_parts.specs.GroupViews.{group_clauses_of, group_view};
 ghost use Rattle.place_parts.specs.PinViews.{pin_clause_view, pin_clauses_of, pin_view};
-ghost use Rattle.entry_rules.specs.References.{blockage_references, component_references, group_references, net_of_clause, pin_references, region_of_clause, shape_references};
+ghost use Rattle.entry_rules.specs.References.{blockage_references, component_references, group_references, net_of_clause, pin_references, shape_references};
 ghost use Rattle.entry_references.specs.ReferenceViews.{references_view};
 
 use crate::reference::{Reference, push};
 use lefdef_tokens::Token;
 use place_parts::blockages::{BlockageEntry, BlockageKind};
-use place_parts::components::{Clause, ComponentParts};
+use place_parts::component_parts::ComponentParts;
 use place_parts::groups::{GroupClause, GroupParts};
 use place_parts::pins::{PinClause, PinParts};
 use statement_reader::parts::Parts;
 use std::alloc::{AllocError, Allocator};
-
-/// The first region that clauses of a component name.
-pub fn first_region<'t>(clauses: Parts<'t, Clause<'t>>) -> Option<Token<'t>>
-    ensures { option_map bytes_view result ≡ first_of region_of_clause (clauses_of clauses.entry) }
-{
-    let mut left = clauses;
-    while let Some(clause) = left.next() {
-        if let Clause::Region(name) = clause {
-            return Some(name);
-        }
-    }
-    None
-}
 
 /// Adds the macro of a component and its first region.
 pub(crate) fn push_component<'t, A: Allocator>(
@@ -42,8 +29,8 @@ pub(crate) fn push_component<'t, A: Allocator>(
     ensures { OnOk result (references_view found.new.items ≡ references_view found.old.items ++ component_references (component_view parts.now)) }
 {
     push(found, Reference::Macro(parts.cell.bytes))?;
-    if let Some(region) = first_region(parts.clauses.again()) {
-        push(found, Reference::Region(region.bytes))?;
+    if let Some(region) = parts.region {
+        push(found, Reference::Region(region))?;
     }
     Ok(())
 }

@@ -1,23 +1,20 @@
 -- The lines on a header and on what comes after it.
 use Rattle.std.proofs.Common.{◌≡◌, ℕ, ℤ, ◌+◌, ◌<◌, List, ◌∷◌, ◌++◌, length, get_or, drop, refl, sym, ap, ◌∙◌, append_assoc, add-one, drop-cons}
-use Rattle.design_model.specs.declared.mode.Mode.{Mode}
 use Rattle.design_model.specs.declared.mode.Section.{Section}
 use Rattle.def_grammar.specs.Numbers.{int_of}
 use Rattle.design_rules.specs.CountLines.{entries, count_of, count_lines}
 use Rattle.lefdef_tokens.specs.declared.token.Token.{Token}
-use Rattle.statement_reader.specs.declared.grammar.Read.{Read}
 use Rattle.def_reader.specs.declared.statement.Statement.{Statement}
 use Rattle.def_reader.specs.declared.statement.Statement.TheVariants.{Header}
-use Rattle.def_reader.specs.RecordViews.{record_of}
 use Rattle.def_reader.specs.StatementViews.{record_view}
 use Rattle.place_checks.specs.Views.{records_view}
 
 -- what is left of some statements from one of them on
-left_from : (xs : List (Read Statement Mode)) (i : ℕ) (x : Read Statement Mode) → i < length xs → x ≡ get_or xs i x → records_view (drop i xs) ≡ record_of x ∷ records_view (drop (i + 1) xs)
+left_from : (xs : List Statement) (i : ℕ) (x : Statement) → i < length xs → x ≡ get_or xs i x → records_view (drop i xs) ≡ record_view x ∷ records_view (drop (i + 1) xs)
 left_from xs i x below is = rw (add-one, drop-cons xs i x, ← is) refl
 
-pub header_noted : (xs : List (Read Statement Mode)) (i found : ℕ) (said : ℤ) (x : Read Statement Mode) (s : Section) (n : Token) (old new all : List (List ℕ))
-    → i < length xs → x ≡ get_or xs i x → x.statement ≡ Header s n → said ≡ int_of n.bytes.now → found ≡ entries (records_view (drop (i + 1) xs))
+pub header_noted : (xs : List Statement) (i found : ℕ) (said : ℤ) (x : Statement) (s : Section) (n : Token) (old new all : List (List ℕ))
+    → i < length xs → x ≡ get_or xs i x → x ≡ Header s n → said ≡ int_of n.bytes.now → found ≡ entries (records_view (drop (i + 1) xs))
     → new ≡ old ++ count_of s said found
     → old ++ count_lines (records_view (drop i xs)) ≡ all
     → new ++ count_lines (records_view (drop (i + 1) xs)) ≡ all

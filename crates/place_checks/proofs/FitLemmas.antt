@@ -3,6 +3,8 @@ use Rattle.std.proofs.Common.{◌≡◌, ℕ, ◌+◌, ◌<◌, add-one, drop, d
 use Rattle.std.specs.List.{filter, list_any}
 use Rattle.std.specs.Ordering.{int_eq}
 use Rattle.std.proofs.lemmas.Int.{ints}
+use Rattle.std.proofs.lemmas.List.{map-append}
+use Rattle.std.proofs.lemmas.List.Folds.{list_any-append}
 use Rattle.std.proofs.lemmas.Bool.Decides.{Decides-eqb, Decides-int_eq}
 use Rattle.design_model.specs.declared.diagnostic.DiagKind.{DiagKind}
 use Rattle.design_model.specs.declared.diagnostic.DiagKind.TheVariants.{OffRow, OffSite, Flip}
@@ -222,3 +224,25 @@ module _ (c : Boxed) where
         any_same (λ row. is_held_by c row && (is_at_site c row && is_row_orient row.orient c.orient)) (takes c) (λ row. sym (and_assoc (is_held_by c row) _ _)) rows,
       )
       (lines_are _ _ _ (any_follows (takes c) (is_on c) (λ row h. and_first _ _ h) rows) (any_follows (is_on c) (is_held_by c) (λ row h. and_first _ _ h) rows))
+
+  -- of two lists of rows the better fit is that of both
+  pub fit_in_both : (xs ys : List code.PlacedRow) → better (best_fit c (map placed_row_view xs)) (best_fit c (map placed_row_view ys)) ≡ best_fit c (map placed_row_view (xs ++ ys))
+  fit_in_both xs ys =
+      let first = map placed_row_view xs in
+      let second = map placed_row_view ys in
+      better_by _ _ _ _ _ _
+      ∙ rw (sym (list_any-append (is_held_by c) first second), sym (list_any-append (is_on c) first second), sym (list_any-append (takes c) first second))
+      (ap (best_fit c) (sym (map-append placed_row_view xs ys)))
+
+  looked_up : (rows beside elsewhere : List code.PlacedRow) → beside ≡ filter (λ row. int_eq (edge_of row) c.box.y1) rows → elsewhere ≡ filter (λ row. int_eq (edge_of row) NO_EDGE) rows
+      → better (best_fit c (map placed_row_view beside)) (best_fit c (map placed_row_view elsewhere)) ≡ best_fit c (map placed_row_view rows)
+  looked_up rows beside elsewhere here others = rw (here, others) (fit_at_edges rows)
+
+  -- the rows that are looked up give the lines that all give
+  pub near_lines : (rows beside elsewhere : List code.PlacedRow) → beside ≡ filter (λ row. int_eq (edge_of row) c.box.y1) rows → elsewhere ≡ filter (λ row. int_eq (edge_of row) NO_EDGE) rows
+      → row_lines (map placed_row_view (beside ++ elsewhere)) c ≡ row_lines (map placed_row_view rows) c
+  near_lines rows beside elsewhere here others =
+      let both = map placed_row_view (beside ++ elsewhere) in
+      let all = map placed_row_view rows in
+      let same : best_fit c both ≡ best_fit c all = sym (fit_in_both beside elsewhere) ∙ looked_up rows beside elsewhere here others in
+      row_lines_are both ∙ ap (λ f. kind_lines (kind_of c f)) same ∙ sym (row_lines_are all)

@@ -6,7 +6,6 @@ pub mod HullLemmas
 pub mod PatternLemmas
 pub mod Ranges
 pub mod SkipLemmas
-pub mod StandingSteps
 pub mod StepLemmas
 pub mod SurroundingLemmas
 pub mod SweepLemmas

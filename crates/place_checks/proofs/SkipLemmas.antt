@@ -6,7 +6,9 @@ use Rattle.std.specs.List.{All}
 use Rattle.std.specs.Ordering.{is_lt}
 use Rattle.std.proofs.lemmas.Bool.{cases_Bool as cases}
 use Rattle.std.proofs.lemmas.Int.{ints, clamps}
-use Rattle.std.proofs.lemmas.List.Elements.{All-head, All-tail}
+use Rattle.std.proofs.lemmas.List.Elements.{All-cons, All-head, All-tail, All-weaker}
+use Rattle.std.proofs.lemmas.Grind.{flat_map-append}
+use Rattle.std.proofs.lemmas.List.{map-append}
 use Rattle.std.proofs.lemmas.List.Filters.{length-filter_both}
 use Rattle.std.proofs.lemmas.List.Folds.{flat_map-map}
 use Rattle.std.proofs.lemmas.List.Sorted.{sorted_far}
@@ -15,9 +17,9 @@ use Rattle.design_model.specs.Views.{rectangle_of}
 use Rattle.design_rules.specs.Families.{lines_with, pair_lines}
 use Rattle.design_rules.specs.OverlapLines.{overlap_of}
 use Rattle.place_checks.specs.declared.placed_box.PlacedBox.{PlacedBox}
-use Rattle.place_checks.specs.Sweep.{InSweepOrder, sweep_cmp}
+use Rattle.place_checks.specs.Sweep.{FromLeft, InSweepOrder, sweep_cmp}
 use Rattle.place_checks.specs.Views.{boxed_view}
-use Rattle.place_checks.proofs.SweepLemmas.{is_order, not_right, not_below_of, not_below_test}
+use Rattle.place_checks.proofs.SweepLemmas.{drop_from_left, is_order, not_above, not_right, not_below_of, not_below_test}
 
 abbrev Lines : Type 0
 Lines = List (List ℕ)
@@ -127,10 +129,57 @@ fewer_left first next behind left rest split is = rw (split, is) (⊎_elim
 abbrev pub pairs_of : List PlacedBox → Lines
 pairs_of boxes = pair_lines overlap_of (map boxed_view boxes)
 
-left_from : (boxes : List PlacedBox) (i : ℕ) (x : PlacedBox) → i < length boxes → x ≡ get_or boxes i x → drop i boxes ≡ x ∷ drop (i + 1) boxes
+pub left_from : (boxes : List PlacedBox) (i : ℕ) (x : PlacedBox) → i < length boxes → x ≡ get_or boxes i x → drop i boxes ≡ x ∷ drop (i + 1) boxes
 left_from boxes i x below is = rw (add-one, drop-cons boxes i x, ← is) refl
 
--- one box more has its reports
-pub one_box : (boxes : List PlacedBox) (i : ℕ) (x : PlacedBox) (old new all : Lines) → i < length boxes → x ≡ get_or boxes i x → new ≡ old ++ lines_of x (drop (i + 1) boxes)
-    → old ++ pairs_of (drop i boxes) ≡ all → new ++ pairs_of (drop (i + 1) boxes) ≡ all
-one_box boxes i x old new all below is added so_far = rw (added, append_assoc) (rw (left_from boxes i x below is) at so_far)
+-- one box more of a row is compared
+pub one_beside : (first next : PlacedBox) (row : List PlacedBox) (i : ℕ) (old new all : Lines) → i < length row → next ≡ get_or row i next → new ≡ old ++ overlap_of (boxed_view first) (boxed_view next)
+    → old ++ lines_of first (drop i row) ≡ all → new ++ lines_of first (drop (i + 1) row) ≡ all
+one_beside first next row i old new all below is added so_far = rw (added, append_assoc) (rw (left_from row i next below is) at so_far)
+
+-- boxes that share no area with one give no line with it
+no_lines : (first : PlacedBox) (xs : List PlacedBox) → All (λ (b : PlacedBox). overlap (rectangle_of first.rect) (rectangle_of b.rect) ≡ false) xs → lines_of first xs ≡ []
+no_lines first [] apart = refl
+no_lines first (x ∷ xs) apart =
+    let P : PlacedBox → Type 0 = λ b. overlap (rectangle_of first.rect) (rectangle_of b.rect) ≡ false in
+    let rest = no_lines first xs (All-tail P x xs apart) in
+    let none = no_line first x (All-head P x xs apart) in
+    rw (none, rest) refl
+
+-- nor do a box of a row that begins at or right of the right edge, and those behind it
+pub none_right : (first next : PlacedBox) (row : List PlacedBox) (i : ℕ) → FromLeft row → i < length row → next ≡ get_or row i next → first.rect.x2 ≤ℤ next.rect.x1 → lines_of first (drop i row) ≡ []
+none_right first next row i s below is right =
+    let here = left_from row i next below is in
+    let behind = drop (i + 1) row in
+    let sorted : FromLeft (next ∷ behind) = rw here at (drop_from_left i row s) in
+    let far : All (λ (b : PlacedBox). next.rect.x1 ≤ℤ b.rect.x1) behind = λ k d low. sorted.rises 0 (suc k) d (omega arith) (omega (arith, low)) in
+    let apart : (b : PlacedBox) → next.rect.x1 ≤ℤ b.rect.x1 → overlap (rectangle_of first.rect) (rectangle_of b.rect) ≡ false = λ b on. apart_right (rectangle_of first.rect) (rectangle_of b.rect) (omega (arith, ints)) in
+    let P : PlacedBox → Type 0 = λ b. overlap (rectangle_of first.rect) (rectangle_of b.rect) ≡ false in
+    rw here (no_lines first (next ∷ behind) (All-cons P next behind (apart next (omega (arith, ints))) (All-weaker (λ (b : PlacedBox). next.rect.x1 ≤ℤ b.rect.x1) P apart behind far)))
+
+-- nor do one that begins at or above the upper edge, and those behind it
+pub none_above : (first next : PlacedBox) (behind left : List PlacedBox) → InSweepOrder left → left ≡ next ∷ behind → first.rect.y2 ≤ℤ next.rect.y1 → lines_of first left ≡ []
+none_above first next behind left s split high =
+    rw split (no_lines first (next ∷ behind) (λ k d low.
+    let b : PlacedBox = get_or (next ∷ behind) k d in
+    let up : next.rect.y1 ≤ℤ b.rect.y1 = not_above next.rect b.rect (sorted_far _ is_order (next ∷ behind) (rw split at s).rises 0 k d (omega arith) low) in
+    apart_above (rectangle_of first.rect) (rectangle_of b.rect) (omega (arith, ints))))
+
+-- one box of a row has its reports with those behind it and those above the row
+pub one_box : (row above : List PlacedBox) (i : ℕ) (x : PlacedBox) (old beside new all : Lines) → i < length row → x ≡ get_or row i x → beside ≡ old ++ lines_of x (drop (i + 1) row) → new ≡ beside ++ lines_of x above
+    → old ++ pairs_of (drop i row ++ above) ≡ all → new ++ pairs_of (drop (i + 1) row ++ above) ≡ all
+one_box row above i x old beside new all below is one more so_far =
+    let both : lines_of x (drop (i + 1) row ++ above) ≡ lines_of x (drop (i + 1) row) ++ lines_of x above =
+    ap (flat_map (overlap_of (boxed_view x))) (map-append boxed_view (drop (i + 1) row) above) ∙ flat_map-append (overlap_of (boxed_view x)) (map boxed_view (drop (i + 1) row)) (map boxed_view above) in
+    rw (more, one, append_assoc, append_assoc) (rw (left_from row i x below is, both, append_assoc) at so_far)
+
+-- one row more
+pub one_row : (left row above : List PlacedBox) (old new all : Lines) → row ++ above ≡ left → new ++ pairs_of above ≡ old ++ pairs_of (row ++ above) → old ++ pairs_of left ≡ all → new ++ pairs_of above ≡ all
+one_row left row above old new all is added so_far = added ∙ rw is so_far
+
+-- which takes a box at least
+pub fewer_above : (first : PlacedBox) (behind left above : List PlacedBox) → left ≡ first ∷ behind → above ≡ filter (λ b. int_lt first.rect.y1 b.rect.y1) left → length above < length left
+fewer_above first behind left above split is =
+    let few = fewer_pass (λ b. int_lt first.rect.y1 b.rect.y1) behind in
+    let not_itself : int_lt first.rect.y1 first.rect.y1 ≡ false = not_below_test first.rect.y1 first.rect.y1 (omega (arith, ints)) in
+    rw (is, split, not_itself) (omega (arith, few))

@@ -1,5 +1,5 @@
 -- Components have the same lines in surroundings whose rows and patterns stand in another order.
-use Rattle.std.proofs.Common.{◌≡◌, ℕ, Bool, true, false, ◌&&◌, ◌||◌, List, [], ◌∷◌, ◌++◌, flat_map, IsPermutation, refl, sym, ap, ap₂, ◌∙◌}
+use Rattle.std.proofs.Common.{◌≡◌, ◌<◌, ◌+◌, append_assoc, drop, get_or, length, map, ℕ, Bool, true, false, ◌&&◌, ◌||◌, List, [], ◌∷◌, ◌++◌, flat_map, IsPermutation, refl, sym, ap, ap₂, ◌∙◌}
 use Rattle.std.specs.List.{list_any}
 use Rattle.std.specs.Str.{bytes_eq}
 use Rattle.std.proofs.lemmas.List.Folds.{list_any-append}
@@ -8,13 +8,16 @@ use Rattle.place_kernels.proofs.Steps.{any_map}
 use Rattle.place_rules.specs.Patterns.{matches}
 use Rattle.entry_rules.specs.Unknown.{is_same}
 use Rattle.design_rules.specs.Boxes.{Boxed}
-use Rattle.design_rules.specs.PlaceLines.{fence_lines_of, is_assigned, is_assigned_by, is_held_by, lines_in, outside_lines, row_lines}
+use Rattle.design_rules.specs.PlaceLines.{fence_lines, fence_lines_of, is_assigned, is_assigned_by, is_held_by, lines_in, outside_lines, row_lines}
 use Rattle.design_rules.specs.Surroundings.{Assignment, Fence, PlacedRow, Surroundings}
 use Rattle.place_checks.specs.FenceLines.{fence_lines_by, fence_lines_in}
 use Rattle.place_checks.specs.Patterns.{by_pattern, by_patterns, AreRegionsOf}
 use Rattle.place_checks.specs.RowFits.{is_on, takes}
+use Rattle.place_checks.specs.Views.{boxed_view}
+use Rattle.place_checks.specs.declared.placed_box.PlacedBox.{PlacedBox}
 use Rattle.place_checks.proofs.FitLemmas.{row_lines_are}
 use Rattle.place_checks.proofs.PatternLemmas.{any_never, or_false}
+use Rattle.place_checks.proofs.SkipLemmas.{left_from}
 
 pub flat_map_same : {X Y : Type 0} (f g : X → List Y) → ((x : X) → f x ≡ g x) → (xs : List X) → flat_map f xs ≡ flat_map g xs
 flat_map_same f g h [] = refl
@@ -56,3 +59,13 @@ module _ (c : Boxed) where
   same_lines s t rows die fences assignments =
       ap₂ (λ u v. u ++ v) (ap₂ (λ u v. u ++ v) (same_rows t.rows s.rows rows) (ap (λ d. outside_lines d c) die))
       (same_fences t.assignments s.assignments s.fences assignments ∙ ap (λ z. flat_map (fence_lines_of t.assignments c) z) fences)
+
+-- one component more: the rows that are looked up for it give its lines, and then come those at the die and at the fences
+regrouped : (a r o f z : List (List ℕ)) → ((a ++ r) ++ (o ++ f)) ++ z ≡ a ++ (((r ++ o) ++ f) ++ z)
+regrouped a r o f z = rw (append_assoc (a ++ r) (o ++ f) z, append_assoc a r ((o ++ f) ++ z), append_assoc o f z, append_assoc (r ++ o) f z, append_assoc r o (f ++ z)) refl
+
+pub one_component : (s : Surroundings) (boxes : List PlacedBox) (i : ℕ) (x : PlacedBox) (near : List PlacedRow) (old rows new all : List (List ℕ)) → i < length boxes → x ≡ get_or boxes i x
+    → row_lines near (boxed_view x) ≡ row_lines s.rows (boxed_view x) → rows ≡ old ++ row_lines near (boxed_view x) → new ≡ rows ++ (outside_lines s.die (boxed_view x) ++ fence_lines s (boxed_view x))
+    → old ++ flat_map (lines_in s) (map boxed_view (drop i boxes)) ≡ all → new ++ flat_map (lines_in s) (map boxed_view (drop (i + 1) boxes)) ≡ all
+one_component s boxes i x near old rows new all below is same in_rows added so_far =
+    rw (added, in_rows, same) (regrouped old _ _ _ _ ∙ rw (left_from boxes i x below is) at so_far)

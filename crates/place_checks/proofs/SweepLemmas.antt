@@ -1,20 +1,21 @@
 -- Lists in the order of a sweep, and what a test that follows that order parts them into.
-use Rattle.std.proofs.Common.{◌≡◌, ℕ, zero, suc, ℤ, ◌≤ℤ◌, ◌<ℤ◌, Bool, true, false, not, List, [], ◌∷◌, filter, take, drop, length, get_or, refl, sym, ap, ◌∙◌, arith}
+use Rattle.std.proofs.Common.{◌≡◌, ℕ, zero, suc, ℤ, ◌≤ℤ◌, ◌<ℤ◌, Bool, true, false, not, List, [], ◌∷◌, filter, take, drop, length, get_or, get_or-drop, length-drop, ◌+◌, refl, sym, ap, ◌∙◌, arith}
 use Rattle.std.specs.Prelude.{int_lt}
 use Rattle.std.specs.Int.Signed.{le_z}
 use Rattle.std.specs.Cmp.{IsTotalOrder, IsStrictWeakOrder}
 use Rattle.std.specs.Ordering.{int_cmp, is_lt, ordering_then}
 use Rattle.std.specs.declared.cmp.Ordering.{Ordering}
 use Rattle.std.specs.declared.cmp.Ordering.TheVariants.{Less, Equal, Greater}
-use Rattle.std.specs.List.{AllWithin}
+use Rattle.std.specs.List.{All, AllWithin}
 use Rattle.std.specs.List.Sorted.{IsPartitionedBy, IsPartitionPoint}
 use Rattle.std.proofs.lemmas.Int.{ints}
 use Rattle.std.proofs.lemmas.Cmp.{int_cmp_total, on_total, then_total, int_ranked, by_ranked, tied_itself}
+use Rattle.std.proofs.lemmas.List.Elements.{All-filter, filter_passes}
 use Rattle.std.proofs.lemmas.List.Kept.{IsSortedBy-filter}
 use Rattle.std.proofs.lemmas.List.Sorted.{ranks_by, sorted_far}
 use Rattle.design_model.specs.declared.geometry.Rect.{Rect}
 use Rattle.place_checks.specs.declared.placed_box.PlacedBox.{PlacedBox}
-use Rattle.place_checks.specs.Sweep.{InSweepOrder, sweep_cmp}
+use Rattle.place_checks.specs.Sweep.{FromLeft, InSweepOrder, sweep_cmp}
 
 pub sweep_cmp_total : IsTotalOrder sweep_cmp
 sweep_cmp_total = then_total (on_total (λ (r : Rect). r.y1) int_cmp_total) (on_total (λ (r : Rect). r.x1) int_cmp_total)
@@ -142,3 +143,21 @@ left_over h xs n p = others (λ b. le_z b.rect.y1 h) (λ b. int_lt h b.rect.y1) 
 
 pub sorted_as : (p : PlacedBox → Bool) (xs ys : List PlacedBox) → InSweepOrder xs → ys ≡ filter p xs → InSweepOrder ys
 sorted_as p xs ys s is = rw is (sorted_filter p xs s)
+
+-- boxes with the lower edge of the first one of some go from left to right
+pub row_from_left : (first : PlacedBox) (behind left row : List PlacedBox) → InSweepOrder left → left ≡ first ∷ behind → row ≡ filter (λ b. le_z b.rect.y1 first.rect.y1) left → FromLeft row
+row_from_left first behind left row s split is =
+    let p : PlacedBox → Bool = λ b. le_z b.rect.y1 first.rect.y1 in
+    let high : All (λ (b : PlacedBox). first.rect.y1 ≤ℤ b.rect.y1) left = rw split (λ k d low. not_above first.rect (get_or (first ∷ behind) k d).rect (sorted_far _ is_order (first ∷ behind) (rw split at s).rises 0 k d (omega arith) low)) in
+    rw is (record {
+      rises = λ i j d before within.
+          let up : first.rect.y1 ≤ℤ (get_or (filter p left) i d).rect.y1 = All-filter p (λ (b : PlacedBox). first.rect.y1 ≤ℤ b.rect.y1) left high i d (omega (arith, before, within)) in
+          let down : (get_or (filter p left) j d).rect.y1 ≤ℤ first.rect.y1 = up_to_of (get_or (filter p left) j d).rect.y1 first.rect.y1 (filter_passes p left j d within) in
+          not_right (get_or (filter p left) i d).rect (get_or (filter p left) j d).rect (sorted_far _ is_order (filter p left) (sorted_filter p left s).rises i j d (omega (arith, before)) within) (omega (arith, ints));
+    })
+
+-- and so do those from one on
+pub drop_from_left : (i : ℕ) (row : List PlacedBox) → FromLeft row → FromLeft (drop i row)
+drop_from_left i row s = record {
+  rises = λ j k d before within. rw (get_or-drop i row j d, get_or-drop i row k d) (s.rises (i + j) (i + k) d (omega (arith, before)) (omega (arith, within, length-drop i row)));
+}

@@ -8,6 +8,5 @@ pub mod PlaceViews
 pub mod RowEdges
 pub mod RowFits
 pub mod RowSizes
-pub mod Standings
 pub mod Sweep
 pub mod Views

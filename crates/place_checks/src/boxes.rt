@@ -4,31 +4,27 @@ ghost use Rattle.std.specs.Prelude.{◌≡◌, ◌≤◌, ◌<◌, IfOk, map, na
 ghost use Rattle.std.specs.Option.{option_map};
 ghost use Rattle.design_model.specs.Geometry.{IsNearRectangle};
 ghost use Rattle.design_model.specs.Views.{rectangle_of};
-ghost use Rattle.lef_grammar.specs.Firsts.{first_of};
-ghost use Rattle.entry_rules.specs.References.{region_of_clause};
+ghost use Rattle.def_grammar.specs.Parts.{Coordinates};
 ghost use Rattle.design_rules.specs.Boxes.{boundary_of, box_at, box_of, boxes, component_box, is_cover, scale};
-ghost use Rattle.def_parts.specs.PointViews.{point_view};
 ghost use Rattle.def_reader.specs.StatementViews.{record_view};
 ghost use Rattle.place_parts.specs.ComponentViews.{component_view};
 ghost use Rattle.cell_library.specs.CellViews.{cell_view};
 ghost use Rattle.cell_library.specs.Numbers.{IsWithin};
-ghost use Rattle.cell_library.specs.Records.{word_view};
-ghost use Rattle.place_checks.specs.Corners.{corner, in_order};
+ghost use Rattle.place_checks.specs.Corners.{corner, in_order, IsSpotAt};
 ghost use Rattle.place_checks.specs.Views.{boxed_view, records_view};
 
-use crate::corners::place_of;
+use crate::corners::corner_of;
 use crate::placed_box::PlacedBox;
 use crate::scale::scale_of;
-use crate::standing::{Standing, standing_of};
 use cell_library::library::Library;
 use cell_library::macro_view::MacroView;
 use def_reader::entry::Entry;
-use def_reader::read_statement::Read;
 use def_reader::statement::Statement;
 use design_model::geometry::{Rect, Status};
 use lefdef_tokens::is_word;
 use orient_geom::place_box;
-use place_parts::components::{Clause, ComponentParts, Placement};
+use place_parts::component_parts::ComponentParts;
+use place_parts::standing::{Spot, Standing};
 use std::alloc::{AllocError, Allocator};
 
 /// The rectangle between the origin and a corner.
@@ -69,34 +65,27 @@ fn is_cover<A: Allocator + Copy>(cell: MacroView<'_, '_, A>) -> bool
     }
 }
 
-/// The box of a component that is placed so, where its macro is no cover.
+/// The box of a component that stands there, where its macro is no cover.
 fn box_at<'t, A: Allocator + Copy>(
     cell: MacroView<'t, '_, A>,
     scale: u32,
     parts: &ComponentParts<'t>,
-    placement: Placement<'t>,
-    region: Option<&'t [u8]>,
+    spot: Spot,
 ) -> Option<PlacedBox<'t>>
     requires some { 0 < scale }
     requires few { scale ≤ 100000 }
-    requires region { option_map word_view region ≡ first_of region_of_clause (component_view parts.now).clauses }
-    ensures { let placed = placement.entry in
-        option_map boxed_view result ≡ box_at scale (component_view parts.now) (point_view placed.at) placed.orient (cell_view cell.entry).cell }
+    ensures { (at : Coordinates) → IsSpotAt spot at → option_map boxed_view result ≡ box_at scale (component_view parts.now) at spot.orient (cell_view cell.entry).cell }
 {
     if is_cover(cell) {
         return None;
     }
     Some(PlacedBox {
         name: parts.name.bytes,
-        rect: place_box(
-            placement.orient,
-            boundary_of(cell, scale),
-            place_of(placement.at),
-        ),
-        orient: placement.orient,
+        rect: place_box(spot.orient, boundary_of(cell, scale), corner_of(spot)),
+        orient: spot.orient,
         class: cell.cell_class(),
         sites: cell.sites(),
-        region,
+        region: parts.region,
     })
 }
 
@@ -110,17 +99,16 @@ fn component_box<'t, A: Allocator + Copy>(
     requires few { scale ≤ 100000 }
     ensures { option_map boxed_view result ≡ component_box library.now scale (component_view parts.now) }
 {
-    let Standing { placing, region } = standing_of(parts.clauses.again());
-    let Some(clause) = placing else {
+    let Some(standing) = parts.standing else {
         return None;
     };
-    let Clause::Placed(placement) = clause else {
+    let Standing::At(spot) = standing else {
         return None;
     };
-    match placement.status {
+    match spot.status {
         Status::Placed | Status::Fixed => {
             let cell = library.macro_of(parts.cell.bytes)?;
-            box_at(cell, scale, parts, placement, region)
+            box_at(cell, scale, parts, spot)
         }
         Status::Cover => None,
     }
@@ -146,7 +134,7 @@ fn box_of<'t, A: Allocator + Copy>(
 pub fn boxes_of<'t, A: Allocator + Copy>(
     alloc: A,
     library: &'t Library<'_, A>,
-    records: &[Read<'t>],
+    records: &[Statement<'t>],
 ) -> Result<Vec<PlacedBox<'t>, A>, AllocError>
     requires some { 0 < scale (records_view records.now) }
     requires few { scale (records_view records.now) ≤ 100000 }
@@ -154,8 +142,8 @@ pub fn boxes_of<'t, A: Allocator + Copy>(
 {
     let scale = scale_of(records);
     let mut boxes = Vec::with_capacity(alloc, records.len())?;
-    for read in records {
-        let Some(placed) = box_of(library, scale, &read.statement) else {
+    for statement in records {
+        let Some(placed) = box_of(library, scale, statement) else {
             continue;
         };
         boxes.push(placed)?;

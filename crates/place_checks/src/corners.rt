@@ -8,6 +8,7 @@ ghost use Rattle.def_grammar.specs.Points.{coordinate_after, corner_points, poin
 ghost use Rattle.def_parts.specs.PointViews.{corners_view, point_view};
 ghost use Rattle.entry_rules.specs.WireItems.{place_of};
 ghost use Rattle.design_rules.specs.Surroundings.{rectangles_of};
+ghost use Rattle.place_checks.specs.Corners.{IsCornerOf};
 
 use def_parts::number::int_of;
 use def_parts::point::Coordinates;
@@ -15,6 +16,7 @@ use def_parts::points::Corners;
 use design_model::geometry::{Point, Rect};
 use lefdef_tokens::{Token, is_word};
 use orient_geom::span;
+use place_parts::standing::Spot;
 
 /// A coordinate after another one, where `*` repeats that one.
 fn coordinate_after<'t>(before: Token<'t>, word: Token<'t>) -> Token<'t>
@@ -46,6 +48,18 @@ pub(crate) fn place_of(at: Coordinates<'_>) -> Point
     Point {
         x: int_of(at.x.bytes) as i64,
         y: int_of(at.y.bytes) as i64,
+    }
+}
+
+/// Where a component stands, in database units.
+pub(crate) fn corner_of(spot: Spot) -> Point
+    ensures is { IsCornerOf spot result }
+    ensures across { nat_abs result.x ≤ 2147483648 }
+    ensures up { nat_abs result.y ≤ 2147483648 }
+{
+    Point {
+        x: spot.x as i64,
+        y: spot.y as i64,
     }
 }
 

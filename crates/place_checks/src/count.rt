@@ -6,7 +6,6 @@ ghost use Rattle.design_rules.specs.CountLines.{count_line, count_lines, count_o
 ghost use Rattle.place_checks.specs.Views.{diag_texts, records_view};
 
 use def_parts::number::int_of;
-use def_reader::read_statement::Read;
 use def_reader::statement::Statement;
 use design_model::diagnostic::{Diag, DiagKind};
 use design_model::mode::Section;
@@ -14,16 +13,16 @@ use design_model::sequence::Sequence;
 use std::alloc::{AllocError, Allocator};
 
 /// How many entries stand before the section's end.
-fn entries_before_end(records: &[Read<'_>]) -> usize
+fn entries_before_end(records: &[Statement<'_>]) -> usize
     ensures count { result ≡ entries (records_view records.now) }
     ensures few { result ≤ length records.now }
 {
     let mut count = 0;
-    for read in records {
-        if let Statement::EndSection(_) = read.statement {
+    for statement in records {
+        if let Statement::EndSection(_) = statement {
             return count;
         }
-        if let Statement::Entry(_) = read.statement {
+        if let Statement::Entry(_) = statement {
             count += 1;
         }
     }
@@ -73,13 +72,13 @@ fn push_count<'t, A: Allocator + Copy>(
 /// The reports on all sections whose headers say another number than that of their entries, in the order of the text.
 pub fn counts_of<'t, A: Allocator + Copy>(
     alloc: A,
-    records: &[Read<'t>],
+    records: &[Statement<'t>],
 ) -> Result<Vec<Diag<'t, A>, A>, AllocError>
     ensures { IfOk result (λ v. diag_texts v.items ≡ count_lines (records_view records.now)) }
 {
     let mut reports = Vec::new(alloc);
-    for (i, read) in records.iter().enumerate() {
-        let Statement::Header(section, number) = read.statement else {
+    for (i, statement) in records.iter().enumerate() {
+        let Statement::Header(section, number) = *statement else {
             continue;
         };
         let found = entries_before_end(&records[i + 1..]);

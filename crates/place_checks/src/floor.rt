@@ -20,7 +20,6 @@ use crate::scale::scale_of;
 use cell_library::library::Library;
 use def_parts::number::int_of;
 use def_reader::floor::Floor;
-use def_reader::read_statement::Read;
 use def_reader::statement::Statement;
 use design_model::geometry::{Orient, Point, Rect};
 use lefdef_tokens::Token;
@@ -128,7 +127,7 @@ fn placed_row<'t, A: Allocator + Copy>(
 pub fn rows_of<'t, A: Allocator + Copy>(
     alloc: A,
     library: &Library<'_, A>,
-    records: &[Read<'t>],
+    records: &[Statement<'t>],
 ) -> Result<Vec<PlacedRow<'t>, A>, AllocError>
     requires some { 0 < scale (records_view records.now) }
     requires few { scale (records_view records.now) ≤ 100000 }
@@ -136,9 +135,9 @@ pub fn rows_of<'t, A: Allocator + Copy>(
 {
     let scale = scale_of(records);
     let mut rows = Vec::new(alloc);
-    for read in records {
-        if let Statement::Floor(Floor::Row(row)) = &read.statement {
-            rows.push(placed_row(library, scale, row))?;
+    for statement in records {
+        if let Statement::Floor(Floor::Row(row)) = statement {
+            rows.push(placed_row(library, scale, &row.parts()))?;
         }
     }
     Ok(rows)
@@ -155,11 +154,11 @@ fn two_points(area: &DieAreaParts<'_>) -> Option<Rect>
 }
 
 /// The die of a design, where its area is a rectangle, of two points.
-pub fn die_of(records: &[Read<'_>]) -> Option<Rect>
+pub fn die_of(records: &[Statement<'_>]) -> Option<Rect>
     ensures { option_map rectangle_of result ≡ die (records_view records.now) }
 {
-    for read in records {
-        if let Statement::Floor(Floor::DieArea(area)) = &read.statement {
+    for statement in records {
+        if let Statement::Floor(Floor::DieArea(area)) = statement {
             let rect = two_points(area);
             if rect.is_some() {
                 return rect;

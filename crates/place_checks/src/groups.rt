@@ -6,7 +6,6 @@ ghost use Rattle.place_checks.specs.PlaceViews.{assignment_view};
 ghost use Rattle.place_checks.specs.Views.{records_view};
 
 use def_reader::entry::Entry;
-use def_reader::read_statement::Read;
 use def_reader::statement::Statement;
 use entry_references::places::first_group_region;
 use place_parts::groups::Pattern;
@@ -24,13 +23,13 @@ pub struct Assignment<'t> {
 /// The assignments of a design, in the order of the text.
 pub fn assignments_of<'t, A: Allocator + Copy>(
     alloc: A,
-    records: &[Read<'t>],
+    records: &[Statement<'t>],
 ) -> Result<Vec<Assignment<'t>, A>, AllocError>
     ensures { IfOk result (λ v. map assignment_view v.items ≡ assignments (records_view records.now)) }
 {
     let mut assignments = Vec::new(alloc);
-    for read in records {
-        let Statement::Entry(Entry::Group(group)) = &read.statement else {
+    for statement in records {
+        let Statement::Entry(Entry::Group(group)) = statement else {
             continue;
         };
         if let Some(region) = first_group_region(group.clauses.again()) {

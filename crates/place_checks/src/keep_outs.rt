@@ -10,7 +10,6 @@ ghost use Rattle.place_checks.specs.Views.{records_view};
 
 use crate::corners::corner_rectangle;
 use def_reader::entry::Entry;
-use def_reader::read_statement::Read;
 use def_reader::statement::Statement;
 use design_model::geometry::Rect;
 use lefdef_tokens::is_word;
@@ -91,17 +90,17 @@ fn push_kept_out<A: Allocator>(
 /// The rectangles where components are kept out, in the order of the text.
 pub fn keep_outs_of<A: Allocator + Copy>(
     alloc: A,
-    records: &[Read<'_>],
+    records: &[Statement<'_>],
 ) -> Result<Vec<Rect, A>, AllocError>
     ensures { IfOk result (λ v. map rectangle_of v.items ≡ keep_outs (records_view records.now)) }
 {
     let mut found = Vec::new(alloc);
-    for read in records {
-        if let Statement::Entry(
-            Entry::Blockage(BlockageEntry::Blocks(blockage)),
-        ) = &read.statement
-        {
-            push_kept_out(blockage, &mut found)?;
+    for statement in records {
+        let Statement::Entry(Entry::Blockage(blockage)) = statement else {
+            continue;
+        };
+        if let BlockageEntry::Blocks(blockage) = blockage.parts() {
+            push_kept_out(&blockage, &mut found)?;
         }
     }
     Ok(found)

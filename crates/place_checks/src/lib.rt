@@ -37,6 +37,5 @@ mod report;
 pub mod row_index;
 pub mod rows;
 mod scale;
-mod standing;
 pub mod surroundings;
 pub mod sweep;

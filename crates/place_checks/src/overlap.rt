@@ -4,11 +4,11 @@ ghost use Rattle.std.specs.Prelude.{◌≡◌, ◌++◌, ◌∷◌, [], IfOk, On
 ghost use Rattle.design_model.specs.Lines.{diag_text};
 ghost use Rattle.design_rules.specs.Families.{lines_with, pair_lines};
 ghost use Rattle.design_rules.specs.OverlapLines.{greater, lesser, overlap_line, overlap_of};
-ghost use Rattle.place_checks.specs.Sweep.{InSweepOrder};
+ghost use Rattle.place_checks.specs.Sweep.{FromLeft, InSweepOrder};
 ghost use Rattle.place_checks.specs.Views.{boxed_view, diag_texts};
 
 use crate::placed_box::PlacedBox;
-use crate::sweep::{begin_above, begin_below};
+use crate::sweep::{begin_above, begin_below, begin_up_to};
 use design_model::diagnostic::{Diag, DiagKind};
 use design_model::sequence::Sequence;
 use orient_geom::overlaps;
@@ -61,6 +61,25 @@ fn push_overlap<'t, A: Allocator + Copy>(
     Ok(())
 }
 
+/// Adds a report for each of the boxes behind a box in its row that it overlaps.
+fn push_beside<'t, A: Allocator + Copy>(
+    reports: &mut Vec<Diag<'t, A>, A>,
+    first: &PlacedBox<'t>,
+    row: &[PlacedBox<'t>],
+) -> Result<(), AllocError>
+    requires { FromLeft row.now }
+    ensures { OnOk result (diag_texts reports.new.items ≡ diag_texts reports.old.items ++ lines_with overlap_of (boxed_view first.now) (map boxed_view row.now)) }
+{
+    for next in row {
+        // Those behind begin no further left.
+        if next.rect.x1 >= first.rect.x2 {
+            return Ok(());
+        }
+        push_overlap(reports, first, next)?;
+    }
+    Ok(())
+}
+
 /// What is left to compare with a box of those behind one: all, or, where that one is not left of the box's right edge,
 /// those that begin above it.
 fn left_behind<'b, 't>(
@@ -95,10 +114,47 @@ fn push_overlaps<'t, A: Allocator + Copy>(
     Ok(())
 }
 
+/// Adds a report for each of the boxes above the row of a box that it overlaps.
+fn push_above<'t, A: Allocator + Copy>(
+    reports: &mut Vec<Diag<'t, A>, A>,
+    first: &PlacedBox<'t>,
+    above: &[PlacedBox<'t>],
+) -> Result<(), AllocError>
+    requires { InSweepOrder above.now }
+    ensures { OnOk result (diag_texts reports.new.items ≡ diag_texts reports.old.items ++ lines_with overlap_of (boxed_view first.now) (map boxed_view above.now)) }
+{
+    let Some((lowest, _)) = above.split_first() else {
+        return Ok(());
+    };
+    // Mostly the next row begins where the box ends, and nothing has to be looked for.
+    if lowest.rect.y1 >= first.rect.y2 {
+        return Ok(());
+    }
+    push_overlaps(reports, first, above)
+}
+
+/// Adds the reports on the boxes of a row, with one another and with those above the row.
+fn push_row<'t, A: Allocator + Copy>(
+    reports: &mut Vec<Diag<'t, A>, A>,
+    row: &[PlacedBox<'t>],
+    above: &[PlacedBox<'t>],
+) -> Result<(), AllocError>
+    requires row { FromLeft row.now }
+    requires above { InSweepOrder above.now }
+    ensures { OnOk result (diag_texts reports.new.items ++ pair_lines overlap_of (map boxed_view above.now) ≡ diag_texts reports.old.items ++ pair_lines overlap_of (map boxed_view (row.now ++ above.now))) }
+{
+    for (i, first) in row.iter().enumerate() {
+        push_beside(reports, first, &row[i + 1..])?;
+        push_above(reports, first, above)?;
+    }
+    Ok(())
+}
+
 /// The reports on all pairs of components that overlap, in the order of the boxes.
 ///
-/// Each box is compared with those behind it alone that begin below its upper edge and, at their height, left of its
-/// right edge.
+/// The boxes are gone over by rows, those of one lower edge. Each box is compared with those behind it in its row up to
+/// its right edge, and with those above the row that begin below its upper edge and, at their height, left of its right
+/// edge.
 pub fn overlaps_of<'t, A: Allocator + Copy>(
     alloc: A,
     boxes: &[PlacedBox<'t>],
@@ -107,8 +163,12 @@ pub fn overlaps_of<'t, A: Allocator + Copy>(
     ensures { IfOk result (λ v. diag_texts v.items ≡ pair_lines overlap_of (map boxed_view boxes.now)) }
 {
     let mut reports = Vec::new(alloc);
-    for (i, first) in boxes.iter().enumerate() {
-        push_overlaps(&mut reports, first, &boxes[i + 1..])?;
+    let mut left = boxes;
+    while let Some((first, _)) = left.split_first() {
+        let row = begin_up_to(left, &first.rect);
+        let above = &left[row.len()..];
+        push_row(&mut reports, row, above)?;
+        left = above;
     }
     Ok(reports)
 }

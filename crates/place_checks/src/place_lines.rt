@@ -9,30 +9,42 @@ ghost use Rattle.place_checks.specs.Views.{boxed_view, diag_texts, records_view}
 
 use crate::fences::of_component;
 use crate::placed_box::PlacedBox;
-use crate::rows::of_rows;
+use crate::row_index::NO_EDGE;
+use crate::rows::of_near_rows;
 use crate::surroundings::{Surroundings, surroundings_of};
 use cell_library::library::Library;
-use def_reader::read_statement::Read;
+use def_reader::statement::Statement;
 use design_model::diagnostic::Diag;
 use std::alloc::{AllocError, Allocator};
 
-/// Adds the reports on a component in its surroundings.
-pub fn push_lines<'t, A: Allocator + Copy>(
+/// Adds the reports on components in their surroundings.
+///
+/// Rows are looked up anew where the lower edge differs from that of the component before.
+fn push_lines<'t, A: Allocator + Copy>(
     surroundings: &Surroundings<'t, A>,
-    component: &PlacedBox<'t>,
+    boxes: &[PlacedBox<'t>],
     reports: &mut Vec<Diag<'t, A>, A>,
 ) -> Result<(), AllocError>
-    ensures { OnOk result (diag_texts reports.new.items ≡ diag_texts reports.old.items ++ lines_in (surroundings_view surroundings.now) (boxed_view component.now)) }
+    ensures { OnOk result (diag_texts reports.new.items ≡ diag_texts reports.old.items ++ flat_map (lines_in (surroundings_view surroundings.now)) (map boxed_view boxes.now)) }
 {
-    of_rows(&surroundings.rows, component, reports)?;
-    of_component(surroundings, component, reports)
+    let rows = &surroundings.rows;
+    let elsewhere = rows.at_edge(NO_EDGE);
+    let mut edge = NO_EDGE;
+    let mut beside = elsewhere;
+    for component in boxes {
+        beside = rows.at_next_edge(edge, beside, component.rect.y1);
+        edge = component.rect.y1;
+        of_near_rows(beside, elsewhere, component, reports)?;
+        of_component(surroundings, component, reports)?;
+    }
+    Ok(())
 }
 
 /// The reports on these components in the surroundings of a design, in the order of the components.
 pub fn lines_of<'t, A: Allocator + Copy>(
     alloc: A,
     library: &Library<'_, A>,
-    records: &[Read<'t>],
+    records: &[Statement<'t>],
     boxes: &[PlacedBox<'t>],
 ) -> Result<Vec<Diag<'t, A>, A>, AllocError>
     requires some { 0 < scale (records_view records.now) }
@@ -41,8 +53,6 @@ pub fn lines_of<'t, A: Allocator + Copy>(
 {
     let surroundings = surroundings_of(alloc, library, records)?;
     let mut reports = Vec::new(alloc);
-    for component in boxes {
-        push_lines(&surroundings, component, &mut reports)?;
-    }
+    push_lines(&surroundings, boxes, &mut reports)?;
     Ok(reports)
 }

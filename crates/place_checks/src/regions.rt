@@ -5,8 +5,10 @@ ghost use Rattle.std.specs.Option.{option_map};
 ghost use Rattle.design_model.specs.Views.{rectangle_of};
 ghost use Rattle.lef_grammar.specs.Firsts.{first_of};
 ghost use Rattle.def_grammar.specs.Regions.{region_points};
+ghost use Rattle.def_reader.specs.StatementViews.{record_view};
+ghost use Rattle.place_parts.specs.AgainViews.{region_at_view};
 ghost use Rattle.place_parts.specs.RegionViews.{region_clauses_of, region_kind_view, region_view};
-ghost use Rattle.design_rules.specs.Surroundings.{fences, rectangles_of, type_of};
+ghost use Rattle.design_rules.specs.Surroundings.{fence_of, fence_of_kind, fences, rectangles_of, type_of};
 ghost use Rattle.place_checks.specs.PlaceViews.{fence_view};
 ghost use Rattle.place_checks.specs.Views.{records_view};
 
@@ -14,10 +16,10 @@ use crate::corners::{point_after, rectangle_between};
 use crate::fence::Fence;
 use crate::hull::hull_of;
 use def_reader::entry::Entry;
-use def_reader::read_statement::Read;
 use def_reader::statement::Statement;
 use design_model::geometry::Rect;
 use design_model::sequence::Sequence;
+use place_parts::read_again::RegionAt;
 use place_parts::regions::{RegionClause, RegionKind, RegionParts};
 use statement_reader::parts::Parts;
 use std::alloc::{AllocError, Allocator};
@@ -55,26 +57,60 @@ fn rectangles_of<A: Allocator + Copy>(
     Ok(rectangles)
 }
 
+/// The fence that a region is, where its first TYPE says so.
+fn fence_of_parts<'t, A: Allocator + Copy>(
+    alloc: A,
+    region: &RegionParts<'t>,
+) -> Result<Option<Fence<'t, A>>, AllocError>
+    ensures { let r = region_view region.entry.now in IfOk result (λ fence. option_map fence_view fence ≡ fence_of_kind r (first_of type_of r.clauses)) }
+{
+    let Some(RegionKind::Fence) = kind_of(region.clauses.again()) else {
+        return Ok(None);
+    };
+    let rectangles = rectangles_of(alloc, region)?;
+    Ok(Some(Fence {
+        name: region.name.bytes,
+        hull: hull_of(rectangles.as_slice()),
+        rectangles,
+    }))
+}
+
+/// The fence that an entry of REGIONS is.
+fn fence_of_region<'t, A: Allocator + Copy>(
+    alloc: A,
+    region: &RegionAt<'t>,
+) -> Result<Option<Fence<'t, A>>, AllocError>
+    ensures { let r = region_at_view region.entry.now in IfOk result (λ fence. option_map fence_view fence ≡ fence_of_kind r (first_of type_of r.clauses)) }
+{
+    fence_of_parts(alloc, &region.parts())
+}
+
+/// The fence that a statement is.
+fn fence_of<'t, A: Allocator + Copy>(
+    alloc: A,
+    statement: &Statement<'t>,
+) -> Result<Option<Fence<'t, A>>, AllocError>
+    ensures { IfOk result (λ fence. option_map fence_view fence ≡ fence_of (record_view statement.now)) }
+{
+    match statement {
+        Statement::Entry(Entry::Region(region)) => fence_of_region(alloc, region),
+        _ => Ok(None),
+    }
+}
+
 /// The fences of a design, in the order of the text.
 pub fn fences_of<'t, A: Allocator + Copy>(
     alloc: A,
-    records: &[Read<'t>],
+    records: &[Statement<'t>],
 ) -> Result<Vec<Fence<'t, A>, A>, AllocError>
     ensures { IfOk result (λ v. map fence_view v.items ≡ fences (records_view records.now)) }
 {
     let mut fences = Vec::new(alloc);
-    for read in records {
-        let Statement::Entry(Entry::Region(region)) = &read.statement else {
+    for statement in records {
+        let Some(fence) = fence_of(alloc, statement)? else {
             continue;
         };
-        if let Some(RegionKind::Fence) = kind_of(region.clauses.again()) {
-            let rectangles = rectangles_of(alloc, region)?;
-            fences.push(Fence {
-                name: region.name.bytes,
-                hull: hull_of(rectangles.as_slice()),
-                rectangles,
-            })?;
-        }
+        fences.push(fence)?;
     }
     Ok(fences)
 }

@@ -51,4 +51,20 @@ impl<'t, A: Allocator> RowIndex<'t, A> {
         let count = rows.partition_point(|row| edge_of(row) <= edge);
         &rows[..count]
     }
+
+    /// The rows that are looked up by an edge, by the rows of the edge that was looked up last.
+    pub(crate) fn at_next_edge<'b>(
+        &'b self,
+        last_edge: i64,
+        last: &'b [PlacedRow<'t>],
+        edge: i64,
+    ) -> &'b [PlacedRow<'t>]
+        requires { last.now ≡ filter (λ row. int_eq (edge_of row) last_edge) self.now.rows.items }
+        ensures { result.now ≡ filter (λ row. int_eq (edge_of row) edge) self.now.rows.items }
+    {
+        if edge == last_edge {
+            return last;
+        }
+        self.at_edge(edge)
+    }
 }

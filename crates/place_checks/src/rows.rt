@@ -89,15 +89,11 @@ fn best_fit(component: &PlacedBox<'_>, rows: &[PlacedRow<'_>]) -> Fit
     best
 }
 
-/// How well the rows of an index take a component. Those with one line of sites are looked up by the component's lower
-/// edge.
-fn fit_in<A: Allocator>(component: &PlacedBox<'_>, index: &RowIndex<'_, A>) -> Fit
-    ensures { result ≡ best_fit (boxed_view component.now) (rows_view index.now) }
+/// How well the best of rows in two lists takes a component.
+fn fit_in(component: &PlacedBox<'_>, beside: &[PlacedRow<'_>], elsewhere: &[PlacedRow<'_>]) -> Fit
+    ensures { result ≡ best_fit (boxed_view component.now) (map placed_row_view (beside.now ++ elsewhere.now)) }
 {
-    better(
-        best_fit(component, index.at_edge(component.rect.y1)),
-        best_fit(component, index.at_edge(NO_EDGE)),
-    )
+    better(best_fit(component, beside), best_fit(component, elsewhere))
 }
 
 /// Whether a component of this class belongs into rows.
@@ -129,8 +125,24 @@ fn kind_of(component: &PlacedBox<'_>, fit: Fit) -> Option<DiagKind>
     }
 }
 
+/// Adds the report on a component that none of the rows in two lists holds though it belongs into rows, that is on no site,
+/// or that is turned as no row there lets it be.
+pub(crate) fn of_near_rows<'t, A: Allocator + Copy>(
+    beside: &[PlacedRow<'t>],
+    elsewhere: &[PlacedRow<'t>],
+    component: &PlacedBox<'t>,
+    reports: &mut Vec<Diag<'t, A>, A>,
+) -> Result<(), AllocError>
+    ensures { OnOk result (diag_texts reports.new.items ≡ diag_texts reports.old.items ++ row_lines (map placed_row_view (beside.now ++ elsewhere.now)) (boxed_view component.now)) }
+{
+    match kind_of(component, fit_in(component, beside, elsewhere)) {
+        Some(kind) => push_report(reports, kind, &[component.name]),
+        None => Ok(()),
+    }
+}
+
 /// Adds the report on a component that no row holds though it belongs into rows, that is on no site, or that is turned as
-/// no row there lets it be.
+/// no row there lets it be. Rows with one line of sites are looked up by the component's lower edge.
 pub fn of_rows<'t, A: Allocator + Copy>(
     index: &RowIndex<'t, A>,
     component: &PlacedBox<'t>,
@@ -138,8 +150,6 @@ pub fn of_rows<'t, A: Allocator + Copy>(
 ) -> Result<(), AllocError>
     ensures { OnOk result (diag_texts reports.new.items ≡ diag_texts reports.old.items ++ row_lines (rows_view index.now) (boxed_view component.now)) }
 {
-    match kind_of(component, fit_in(component, index)) {
-        Some(kind) => push_report(reports, kind, &[component.name]),
-        None => Ok(()),
-    }
+    let beside = index.at_edge(component.rect.y1);
+    of_near_rows(beside, index.at_edge(NO_EDGE), component, reports)
 }

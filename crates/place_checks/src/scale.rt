@@ -5,15 +5,14 @@ ghost use Rattle.design_rules.specs.Boxes.{scale};
 ghost use Rattle.place_checks.specs.Views.{records_view};
 
 use def_parts::number::int_of;
-use def_reader::read_statement::Read;
 use def_reader::statement::Statement;
 
 /// Database units per micron: those of `UNITS`.
-pub(crate) fn scale_of(records: &[Read<'_>]) -> u32
+pub(crate) fn scale_of(records: &[Statement<'_>]) -> u32
     ensures { result ≡ scale (records_view records.now) }
 {
-    for read in records {
-        if let Statement::Units(number) = read.statement {
+    for statement in records {
+        if let Statement::Units(number) = statement {
             return int_of(number.bytes).unsigned_abs();
         }
     }

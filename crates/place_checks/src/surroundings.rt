@@ -14,7 +14,7 @@ use crate::groups::assignments_of;
 use crate::regions::fences_of;
 use crate::row_index::RowIndex;
 use cell_library::library::Library;
-use def_reader::read_statement::Read;
+use def_reader::statement::Statement;
 use design_model::geometry::Rect;
 use std::alloc::{AllocError, Allocator, Global};
 
@@ -32,7 +32,7 @@ pub struct Surroundings<'t, A: Allocator = Global> {
 pub fn surroundings_of<'t, A: Allocator + Copy>(
     alloc: A,
     library: &Library<'_, A>,
-    records: &[Read<'t>],
+    records: &[Statement<'t>],
 ) -> Result<Surroundings<'t, A>, AllocError>
     requires some { 0 < scale (records_view records.now) }
     requires few { scale (records_view records.now) ≤ 100000 }

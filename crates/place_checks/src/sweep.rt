@@ -1,6 +1,6 @@
 //! Boxes in the order of a sweep from below: by their lower edges, and those of one lower edge by their left edges.
 
-ghost use Rattle.std.specs.Prelude.{◌≡◌, ◌+ℤ◌, IsPermutation, filter, int_lt, pos};
+ghost use Rattle.std.specs.Prelude.{◌≡◌, ◌+ℤ◌, ◌++◌, IsPermutation, drop, filter, int_lt, length, pos};
 ghost use Rattle.std.specs.Int.Signed.{le_z};
 ghost use Rattle.place_checks.specs.Heights.{NoneTaller};
 ghost use Rattle.place_checks.specs.Sweep.{InSweepOrder, sweep_cmp};
@@ -34,13 +34,23 @@ pub(crate) fn begin_below<'b, 't>(boxes: &'b [PlacedBox<'t>], rect: &Rect) -> &'
     &boxes[..boxes.partition_point(|b| b.rect.y1 < rect.y2)]
 }
 
+/// The first boxes, those whose lower edges aren't above that of a rectangle.
+pub(crate) fn begin_up_to<'b, 't>(boxes: &'b [PlacedBox<'t>], rect: &Rect) -> &'b [PlacedBox<'t>]
+    requires { InSweepOrder boxes.now }
+    ensures those { result.now ≡ filter (λ b. le_z b.rect.y1 rect.entry.now.y1) boxes.entry.now }
+    ensures others { drop (length result.now) boxes.entry.now ≡ filter (λ b. int_lt rect.entry.now.y1 b.rect.y1) boxes.entry.now }
+    ensures all { result.now ++ drop (length result.now) boxes.entry.now ≡ boxes.entry.now }
+{
+    &boxes[..boxes.partition_point(|b| b.rect.y1 <= rect.y1)]
+}
+
 /// The boxes whose lower edges are above that of a rectangle.
 pub(crate) fn begin_above<'b, 't>(boxes: &'b [PlacedBox<'t>], rect: &Rect) -> &'b [PlacedBox<'t>]
     requires { InSweepOrder boxes.now }
     ensures those { result.now ≡ filter (λ b. int_lt rect.entry.now.y1 b.rect.y1) boxes.entry.now }
     ensures sorted { InSweepOrder result.now }
 {
-    &boxes[boxes.partition_point(|b| b.rect.y1 <= rect.y1)..]
+    &boxes[begin_up_to(boxes, rect).len()..]
 }
 
 /// Whether a box ends at or below the lower edge of a rectangle, if it is this tall.

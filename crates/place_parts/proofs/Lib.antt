@@ -1,3 +1,4 @@
 mod GridLemmas
 mod PlacingSteps
 mod PlacingTokens
+mod StandingSteps

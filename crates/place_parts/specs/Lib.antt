@@ -1,4 +1,6 @@
+pub mod AgainViews
 pub mod BlockageViews
+pub mod ClauseViews
 pub mod ComponentViews
 pub mod DieAreaViews
 pub mod GridViews
@@ -7,3 +9,4 @@ pub mod PinViews
 pub mod PlacingViews
 pub mod RegionViews
 pub mod RowViews
+pub mod StandingViews

@@ -6,7 +6,7 @@ use Rattle.def_grammar.specs.Components.{Clause, Component, clause}
 use Rattle.def_grammar.specs.Placing.{placing, before_placing}
 use Rattle.lefdef_tokens.specs.Views.{pieces_of, words_of}
 use Rattle.lefdef_tokens.specs.declared.token_run.TokenRun.{TokenRun}
-use Rattle.place_parts.specs.ComponentViews.{clause_view}
+use Rattle.place_parts.specs.ClauseViews.{clause_view}
 use Rattle.place_parts.specs.declared.placing.PlacingClause.{PlacingClause}
 
 abbrev pub placing_view : PlacingClause → Clause

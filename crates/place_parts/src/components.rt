@@ -1,19 +1,19 @@
-//! Entries of COMPONENTS (LEF/DEF 5.8 Language Reference, "Components").
+//! Clauses of entries of COMPONENTS (LEF/DEF 5.8 Language Reference, "Components").
 
 ghost use Rattle.std.specs.Prelude.{◌≡◌, IfSome};
 ghost use Rattle.form_meanings.specs.Words.{Gives, is_plus};
 ghost use Rattle.statement_model.specs.Form.{◌⨟◌, read, spell};
 ghost use Rattle.def_grammar.specs.Parts.{orient, point};
-ghost use Rattle.def_grammar.specs.Components.{clause, component_form, is_placing};
+ghost use Rattle.def_grammar.specs.Components.{clause, is_placing};
 ghost use Rattle.lefdef_tokens.specs.Views.{IsLater, rest_of};
-ghost use Rattle.place_parts.specs.ComponentViews.{clause_view, component_view, spot_view, ClauseIn, ComponentIn};
+ghost use Rattle.place_parts.specs.ClauseViews.{clause_view, spot_view, ClauseIn};
 ghost use Rattle.def_parts.specs.PointViews.{PointIn};
 ghost use Rattle.def_parts.specs.PointViews.{with_rest};
 
 use def_parts::point::{Coordinates, orient_at, point_at};
 use design_model::geometry::{Orient, Status};
 use lefdef_tokens::{Cursor, Token, TokenRun, is_plain, is_plus, is_word};
-use statement_reader::parts::{Part, Parts, read_parts};
+use statement_reader::parts::Part;
 
 /// How and where a component is placed.
 #[derive(Clone, Copy)]
@@ -31,15 +31,6 @@ pub enum Clause<'t> {
     Region(Token<'t>),
     /// A clause without meaning, by its word and its other tokens.
     Other(Token<'t>, TokenRun<'t>),
-}
-
-/// An entry: its name, its macro, the rest of its fixed part, and its clauses.
-#[derive(Clone, Copy)]
-pub struct ComponentParts<'t> {
-    pub name: Token<'t>,
-    pub cell: Token<'t>,
-    pub rest: TokenRun<'t>,
-    pub clauses: Parts<'t, Clause<'t>>,
 }
 
 impl<'t> Clause<'t> {
@@ -64,7 +55,7 @@ pub(crate) fn spot_at<'t>(cursor: Cursor<'t>) -> Option<((Coordinates<'t>, Orien
 
 /// `+` and a clause by its word
 #[tactic(auto, unfolding(def_grammar::specs::Components::clause, def_grammar::specs::Components::placement))]
-fn clause_at<'t>(cursor: Cursor<'t>) -> Option<(Clause<'t>, Cursor<'t>)>
+pub(crate) fn clause_at<'t>(cursor: Cursor<'t>) -> Option<(Clause<'t>, Cursor<'t>)>
     ensures gives { Gives (with_rest clause_view) result (read clause (rest_of cursor.entry)) }
     ensures later { IfSome result (λ x. IsLater cursor.entry x.1) }
     ensures lent { IfSome result (λ x. ClauseIn cursor.entry.tokens.text.now x.0) }
@@ -124,27 +115,4 @@ impl<'t> Part<'t> for Clause<'t> {
     {
         clause_at(cursor)
     }
-}
-
-/// `- name macro rest (+ clause)* ;`
-#[tactic(auto, unfolding(def_grammar::specs::Components::component_form))]
-#[inline(never)]
-pub fn component_at<'t>(cursor: Cursor<'t>) -> Option<(ComponentParts<'t>, Cursor<'t>)>
-    ensures gives { Gives (with_rest component_view) result (read component_form (rest_of cursor.entry)) }
-    ensures later { IfSome result (λ x. IsLater cursor.entry x.1) }
-    ensures lent { IfSome result (λ x. ComponentIn cursor.entry.tokens.text.now x.0) }
-{
-    let cursor = cursor.key(b"-")?;
-    let (name, cursor) = cursor.name()?;
-    let (cell, cursor) = cursor.name()?;
-    let (rest, cursor) = cursor.rest();
-    let (clauses, cursor) = read_parts::<Clause<'t>>(cursor)?;
-    let cursor = cursor.key(b";")?;
-    let parts = ComponentParts {
-        name,
-        cell,
-        rest,
-        clauses,
-    };
-    Some((parts, cursor))
 }

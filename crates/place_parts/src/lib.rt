@@ -12,11 +12,14 @@
 #![tactic(auto)]
 
 pub mod blockages;
+pub mod component_parts;
 pub mod components;
 pub mod die_area;
 pub mod grids;
 pub mod groups;
 pub mod pins;
 pub mod placing;
+pub mod read_again;
 pub mod regions;
 pub mod rows;
+pub mod standing;

@@ -7,10 +7,12 @@ ghost use Rattle.statement_model.specs.Form.{spell};
 ghost use Rattle.def_grammar.specs.Components.{clause, component_form};
 ghost use Rattle.def_grammar.specs.Placing.{before_placing, placing};
 ghost use Rattle.lefdef_tokens.specs.Views.{words_of};
-ghost use Rattle.place_parts.specs.ComponentViews.{clause_view, clauses_of, component_view, ClauseIn};
+ghost use Rattle.place_parts.specs.ClauseViews.{clause_view, clauses_of, ClauseIn};
+ghost use Rattle.place_parts.specs.ComponentViews.{component_view};
 ghost use Rattle.place_parts.specs.PlacingViews.{placing_view, IsPlacing};
 
-use crate::components::{Clause, ComponentParts};
+use crate::component_parts::ComponentParts;
+use crate::components::Clause;
 use lefdef_tokens::TokenRun;
 use statement_reader::parts::Parts;
 

@@ -1,5 +1,5 @@
 use Rattle.std.proofs.Common.{◌∙◌}
-use Rattle.def_reader.proofs.RecordSteps.{one_more, one_more_lent, records_are, located_are}
+use Rattle.def_reader.proofs.RecordSteps.{one_more, one_more_lent, records_are}
 use Rattle.def_reader.proofs.records.statements_of.Goals as goal
 
 pub loop-read-preserved : goal.loop-read-preserved
@@ -10,16 +10,11 @@ loop-read-preserved g c =
     let items = c.in_ok-push.ensures.items in
     record {
       text = e.same ∙ i.text;
-      located = one_more _ _ l.found.items c.push.new.self.items c.in-Some.read c.next.new.self.place l.statements.text.now c.next.new.self.text.now c.next.new.self.pos items e.same i.located e.gives;
-      lent = one_more_lent l.found.items c.push.new.self.items c.in-Some.read l.statements.text.now c.args.text.now items i.text i.lent (e.lent, e.tokens);
+      records = one_more _ _ l.found.items c.push.new.self.items c.in-Some.read c.next.new.self.place l.statements.text.now c.next.new.self.text.now c.next.new.self.pos items e.same i.records e.gives;
+      lent = one_more_lent l.found.items c.push.new.self.items c.in-Some.read.statement l.statements.text.now c.args.text.now items i.text i.lent e.lent;
     }
 
 pub returns-clause-records : goal.returns-clause-records
 returns-clause-records g c =
     let l = c.loop-read in
-    records_are c.records_are_read.ensures.located c.args.text.now l.found.items c.requires _ l.invariant.located c.in_default.ensures.gives
-
-pub returns-clause-located : goal.returns-clause-located
-returns-clause-located g c =
-    let l = c.loop-read in
-    located_are c.records_are_read.ensures.located c.args.text.now l.found.items c.requires _ l.invariant.located c.in_default.ensures.gives
+    records_are c.records_are_read.ensures.located c.args.text.now l.found.items c.requires _ l.invariant.records c.in_default.ensures.gives

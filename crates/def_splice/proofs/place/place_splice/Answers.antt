@@ -5,7 +5,8 @@ use Rattle.def_grammar.specs.Records.{read_def}
 use Rattle.def_grammar.specs.Placing.{placing, is_held}
 use Rattle.design_rules.specs.Edits.{cut_of, is_out, place_change, place_cuts, placed_text}
 use Rattle.lefdef_tokens.specs.Views.{pieces_of}
-use Rattle.place_parts.specs.ComponentViews.{clause_view, component_view}
+use Rattle.place_parts.specs.ClauseViews.{clause_view}
+use Rattle.place_parts.specs.ComponentViews.{component_view}
 use Rattle.def_reader.specs.RecordViews.{entry_view}
 use Rattle.def_splice.specs.SpliceViews.{PlacesAs, clause_cut, cut_view}
 use Rattle.def_splice.proofs.PlaceLemmas.{all_but_last, cut_of_clause, design_of, may_want, placed_so, too_long}

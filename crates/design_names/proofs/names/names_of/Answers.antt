@@ -6,5 +6,5 @@ use Rattle.design_names.proofs.names.names_of.Goals as goal
 
 pub invariant_of-result : goal.invariant_of-result
 invariant_of-result g c =
-    passed_all lent_entry c.loop-read.table.entries (records_view (drop c.loop-read.read-index c.args.records.now)) (records_view c.args.records.now)
-    (ap records_view (drop_all c.loop-read.read-index c.args.records.now c.loop-read-test.false)) c.loop-read.invariant
+    passed_all lent_entry c.loop-statement.table.entries (records_view (drop c.loop-statement.statement-index c.args.records.now)) (records_view c.args.records.now)
+    (ap records_view (drop_all c.loop-statement.statement-index c.args.records.now c.loop-statement-test.false)) c.loop-statement.invariant

@@ -3,5 +3,5 @@ use Rattle.design_names.specs.NameViews.{lent_entry, records_view}
 use Rattle.design_names.proofs.TableLemmas.{Passed}
 use Rattle.design_names.proofs.names.names_of.Given as goal
 
-abbrev pub invariant-loop-read : goal.invariant-loop-read
-invariant-loop-read g l = Passed lent_entry l.table.entries (records_view (drop l.read-index l.records)) (records_view l.records)
+abbrev pub invariant-loop-statement : goal.invariant-loop-statement
+invariant-loop-statement g l = Passed lent_entry l.table.entries (records_view (drop l.statement-index l.records)) (records_view l.records)

@@ -1,6 +1,6 @@
 use Rattle.std.proofs.Common.{◌++◌, flat_map, map, sym, subst}
 use Rattle.design_model.specs.Order.{texts}
-use Rattle.def_reader.specs.RecordViews.{record_of}
+use Rattle.def_reader.specs.StatementViews.{record_view}
 use Rattle.design_rules.specs.Families.{pair_lines}
 use Rattle.design_rules.specs.OverlapLines.{overlap_lines, overlap_of}
 use Rattle.design_rules.specs.PlaceLines.{lines_in, place_lines}
@@ -13,7 +13,7 @@ use Rattle.edit_session.proofs.report.push_places.Goals as goal
 pub returns-clause-texts : goal.returns-clause-texts
 returns-clause-texts g c =
     let library = c.args.library.now in
-    let design = map record_of c.args.records.now in
+    let design = map record_view c.args.records.now in
     let before = texts c.args.lines.now.items in
     let cs = map boxed_view c.sort_boxes.new.boxes.items in
     let same = rw (c.in_ok-boxes.ensures) at (c.maps_are_same.ensures boxed_view _ _ (c.permutations_are_same.ensures _ _ c.sort_boxes.ensures.same)) in

@@ -1,7 +1,7 @@
 use Rattle.std.proofs.Common.{List, ◌++◌, ◌∙◌, ap, map, sym, subst}
 use Rattle.std.specs.Prelude.{ℕ}
 use Rattle.design_model.specs.Order.{texts}
-use Rattle.def_reader.specs.RecordViews.{record_of}
+use Rattle.def_reader.specs.StatementViews.{record_view}
 use Rattle.design_rules.specs.CountLines.{count_lines}
 use Rattle.design_rules.specs.OverlapLines.{overlap_lines}
 use Rattle.design_rules.specs.PlaceLines.{place_lines}
@@ -17,7 +17,7 @@ use Rattle.edit_session.proofs.report.report.Goals as goal
 pub returns-clause-lines : goal.returns-clause-lines
 returns-clause-lines g c =
     let library = c.args.library.now in
-    let design = map record_of c.in_ok-records.records.items in
+    let design = map record_view c.in_ok-records.records.items in
     let behind = overlap_lines library design ++ place_lines library design in
     let entries = rw (c.deref.ensures.value, c.new-lines.ensures.items) at c.in_ok-push_entries.ensures.texts in
     let places = rw (c.deref-2.ensures.value) at c.in_ok-push_places.ensures.texts in

@@ -5,7 +5,7 @@ use Rattle.entry_rules.specs.ViaLayers.{via_layers}
 use Rattle.entry_checks.specs.Views.{diag_texts}
 use Rattle.entry_checks.proofs.off_layers.off_layers_of.Given as goal
 
-abbrev pub invariant-loop-read : goal.invariant-loop-read
-invariant-loop-read g l =
-    diag_texts l.reports.items ++ flat_map (off_layer_lines_of (via_layers l.library l.names)) (records_view (drop l.read-index l.read-items))
-    ≡ flat_map (off_layer_lines_of (via_layers l.library l.names)) (records_view l.read-items)
+abbrev pub invariant-loop-statement : goal.invariant-loop-statement
+invariant-loop-statement g l =
+    diag_texts l.reports.items ++ flat_map (off_layer_lines_of (via_layers l.library l.names)) (records_view (drop l.statement-index l.statement-items))
+    ≡ flat_map (off_layer_lines_of (via_layers l.library l.names)) (records_view l.statement-items)

@@ -1,5 +1,5 @@
 use Rattle.std.proofs.Common.{flat_map}
-use Rattle.def_reader.specs.RecordViews.{record_of}
+use Rattle.def_reader.specs.StatementViews.{record_view}
 use Rattle.entry_rules.specs.Unchecked.{unchecked_lines_of}
 use Rattle.design_names.specs.NameViews.{records_view}
 use Rattle.entry_checks.specs.UncheckedViews.{unchecked_of_macro, unchecked_of_via}
@@ -9,7 +9,7 @@ use Rattle.entry_checks.proofs.unchecked.unchecked_of.Goals as goal
 pub returns : goal.returns
 returns g c =
     let library = c.args.library.now in
-    let read = all_read record_of unchecked_lines_of c.args.records.now c.loop-read.read-index _ _ c.loop-read-test.false c.loop-read.invariant in
+    let read = all_read record_view unchecked_lines_of c.args.records.now c.loop-statement.statement-index _ _ c.loop-statement-test.false c.loop-statement.invariant in
     let with_macros = rw c.macros.ensures at c.in_ok-push_macros.ensures in
     let with_vias = rw c.vias.ensures at c.in_ok-push_vias.ensures in
     in_order _ _ _ (flat_map unchecked_lines_of (records_view c.args.records.now)) (flat_map unchecked_of_macro library.macros) (flat_map unchecked_of_via library.vias) read with_macros with_vias

@@ -4,6 +4,6 @@ use Rattle.design_names.specs.NameViews.{records_view}
 use Rattle.entry_checks.specs.Views.{diag_texts}
 use Rattle.entry_checks.proofs.unchecked.unchecked_of.Given as goal
 
-abbrev pub invariant-loop-read : goal.invariant-loop-read
-invariant-loop-read g l =
-    diag_texts l.reports.items ++ flat_map unchecked_lines_of (records_view (drop l.read-index l.records)) ≡ flat_map unchecked_lines_of (records_view l.records)
+abbrev pub invariant-loop-statement : goal.invariant-loop-statement
+invariant-loop-statement g l =
+    diag_texts l.reports.items ++ flat_map unchecked_lines_of (records_view (drop l.statement-index l.records)) ≡ flat_map unchecked_lines_of (records_view l.records)

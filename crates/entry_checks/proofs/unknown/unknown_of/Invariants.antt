@@ -4,6 +4,6 @@ use Rattle.design_names.specs.NameViews.{records_view}
 use Rattle.entry_checks.specs.Views.{diag_texts, known_view}
 use Rattle.entry_checks.proofs.unknown.unknown_of.Given as goal
 
-abbrev pub invariant-loop-read : goal.invariant-loop-read
-invariant-loop-read g l =
-    diag_texts l.reports.items ++ flat_map (unknown_lines_of (known_view l.known)) (records_view (drop l.read-index l.read-items)) ≡ unknown_lines l.library l.names
+abbrev pub invariant-loop-statement : goal.invariant-loop-statement
+invariant-loop-statement g l =
+    diag_texts l.reports.items ++ flat_map (unknown_lines_of (known_view l.known)) (records_view (drop l.statement-index l.statement-items)) ≡ unknown_lines l.library l.names

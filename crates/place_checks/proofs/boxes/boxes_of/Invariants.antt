@@ -4,6 +4,6 @@ use Rattle.design_rules.specs.Boxes.{box_of}
 use Rattle.place_checks.specs.Views.{boxed_view, records_view}
 use Rattle.place_checks.proofs.boxes.boxes_of.Given as goal
 
-abbrev pub invariant-loop-read : goal.invariant-loop-read
-invariant-loop-read g l =
-    map boxed_view l.boxes.items ++ filter_map (box_of l.library l.scale) (records_view (drop l.read-index l.records)) ≡ filter_map (box_of l.library l.scale) (records_view l.records)
+abbrev pub invariant-loop-statement : goal.invariant-loop-statement
+invariant-loop-statement g l =
+    map boxed_view l.boxes.items ++ filter_map (box_of l.library l.scale) (records_view (drop l.statement-index l.records)) ≡ filter_map (box_of l.library l.scale) (records_view l.records)

@@ -5,7 +5,7 @@ use Rattle.place_checks.specs.PlaceViews.{placed_row_view}
 use Rattle.place_checks.specs.Views.{records_view}
 use Rattle.place_checks.proofs.floor.rows_of.Given as goal
 
-abbrev pub invariant-loop-read : goal.invariant-loop-read
-invariant-loop-read g l =
-    map placed_row_view l.rows.items ++ map (placed_row l.library l.scale) (filter_map row_of (records_view (drop l.read-index l.records)))
+abbrev pub invariant-loop-statement : goal.invariant-loop-statement
+invariant-loop-statement g l =
+    map placed_row_view l.rows.items ++ map (placed_row l.library l.scale) (filter_map row_of (records_view (drop l.statement-index l.records)))
     ≡ map (placed_row l.library l.scale) (filter_map row_of (records_view l.records))

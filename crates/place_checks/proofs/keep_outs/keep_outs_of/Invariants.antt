@@ -4,5 +4,5 @@ use Rattle.design_rules.specs.Surroundings.{keep_outs}
 use Rattle.place_checks.specs.Views.{records_view}
 use Rattle.place_checks.proofs.keep_outs.keep_outs_of.Given as goal
 
-abbrev pub invariant-loop-read : goal.invariant-loop-read
-invariant-loop-read g l = map rectangle_of l.found.items ++ keep_outs (records_view (drop l.read-index l.records)) ≡ keep_outs (records_view l.records)
+abbrev pub invariant-loop-statement : goal.invariant-loop-statement
+invariant-loop-statement g l = map rectangle_of l.found.items ++ keep_outs (records_view (drop l.statement-index l.records)) ≡ keep_outs (records_view l.records)

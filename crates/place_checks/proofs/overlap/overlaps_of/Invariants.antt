@@ -1,8 +1,14 @@
-use Rattle.std.proofs.Common.{◌≡◌, ◌++◌, drop, map}
-use Rattle.design_rules.specs.Families.{pair_lines}
-use Rattle.design_rules.specs.OverlapLines.{overlap_of}
-use Rattle.place_checks.specs.Views.{boxed_view, diag_texts}
+use Rattle.std.proofs.Common.{◌≡◌, ◌++◌, length}
+use Rattle.place_checks.specs.Sweep.{InSweepOrder}
+use Rattle.place_checks.specs.Views.{diag_texts}
+use Rattle.place_checks.proofs.SkipLemmas.{pairs_of}
 use Rattle.place_checks.proofs.overlap.overlaps_of.Given as goal
 
-abbrev pub invariant-loop-i : goal.invariant-loop-i
-invariant-loop-i g l = diag_texts l.reports.items ++ pair_lines overlap_of (map boxed_view (drop l.i l.boxes)) ≡ pair_lines overlap_of (map boxed_view l.boxes)
+abbrev pub invariant-loop-first : goal.invariant-loop-first
+invariant-loop-first g l = record {
+  sorted : InSweepOrder l.left;
+  so_far : diag_texts l.reports.items ++ pairs_of l.left ≡ pairs_of l.boxes;
+}
+
+abbrev pub decreases-loop-first : goal.decreases-loop-first
+decreases-loop-first g l = length l.left

@@ -1,20 +1,13 @@
-use Rattle.std.proofs.Common.{sym, ◌∙◌, ap}
-use Rattle.std.proofs.lemmas.List.{append-nil}
-use Rattle.place_checks.specs.IndexViews.{rows_view}
+use Rattle.std.proofs.Common.{w64, rules}
+use Rattle.std.specs.Int.RustNames.{FitsSigned}
+use Rattle.std.proofs.lemmas.Int.{to_z-of_z}
 use Rattle.place_checks.specs.Views.{boxed_view}
-use Rattle.place_checks.proofs.FitLemmas.{kind_lines, row_lines_are}
+use Rattle.place_checks.proofs.FitLemmas.{near_lines}
 use Rattle.place_checks.proofs.rows.of_rows.Goals as goal
 
-pub returns-in-Some : goal.returns-in-Some
-returns-in-Some g c =
-    let component = boxed_view c.args.component.now in
-    let kind = rw c.fit_in.ensures at c.kind_of.ensures in
-    let lines = row_lines_are component (rows_view c.args.index.now) ∙ ap (kind_lines component) (sym kind ∙ c.in-Some.is) in
-    rw lines c.push_report.ensures
-
-pub returns-in-None : goal.returns-in-None
-returns-in-None g c =
-    let component = boxed_view c.args.component.now in
-    let kind = rw c.fit_in.ensures at c.kind_of.ensures in
-    let lines = row_lines_are component (rows_view c.args.index.now) ∙ ap (kind_lines component) (sym kind ∙ c.in-None.is) in
-    rw lines (sym (append-nil _))
+pub returns : goal.returns
+returns g c =
+    let fits : FitsSigned w64 c.args.component.now.rect.y1 = search rules in
+    let here = simp to_z-of_z at c.at_edge-beside.ensures in
+    let lines = near_lines (boxed_view c.args.component.now) c.args.index.now.rows.items _ _ here c.at_edge.ensures in
+    rw lines at c.of_near_rows.ensures

@@ -3,5 +3,5 @@ use Rattle.design_rules.specs.Boxes.{scale}
 use Rattle.place_checks.specs.Views.{records_view}
 use Rattle.place_checks.proofs.scale.scale_of.Given as goal
 
-abbrev pub invariant-loop-read : goal.invariant-loop-read
-invariant-loop-read l = scale (records_view (drop l.read-index l.records)) ≡ scale (records_view l.records)
+abbrev pub invariant-loop-statement : goal.invariant-loop-statement
+invariant-loop-statement l = scale (records_view (drop l.statement-index l.records)) ≡ scale (records_view l.records)

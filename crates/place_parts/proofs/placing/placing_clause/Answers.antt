@@ -1,6 +1,6 @@
 use Rattle.std.proofs.Common.{sym, ◌∙◌}
 use Rattle.lefdef_tokens.specs.Views.{rest_of}
-use Rattle.place_parts.specs.ComponentViews.{clause_view, clauses_of}
+use Rattle.place_parts.specs.ClauseViews.{clause_view, clauses_of}
 use Rattle.place_parts.proofs.PlacingSteps.{passing_on, found_count}
 use Rattle.place_parts.proofs.placing.placing_clause.Goals as goal
 

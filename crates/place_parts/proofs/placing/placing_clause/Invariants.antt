@@ -1,6 +1,6 @@
 use Rattle.std.proofs.Common.{◌≡◌, length}
 use Rattle.lefdef_tokens.specs.Views.{rest_of}
-use Rattle.place_parts.specs.ComponentViews.{clauses_of}
+use Rattle.place_parts.specs.ClauseViews.{clauses_of}
 use Rattle.place_parts.proofs.PlacingSteps.{Passing}
 use Rattle.place_parts.proofs.placing.placing_clause.Given as goal
 

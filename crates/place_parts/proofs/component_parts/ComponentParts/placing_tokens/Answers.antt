@@ -1,7 +1,8 @@
 use Rattle.std.proofs.Common.{◌≤◌, ◌+◌, ◌-◌, arith, refl, sym}
-use Rattle.place_parts.specs.ComponentViews.{component_view, clause_view}
+use Rattle.place_parts.specs.ClauseViews.{clause_view}
+use Rattle.place_parts.specs.ComponentViews.{component_view}
 use Rattle.place_parts.proofs.PlacingTokens.{some_tokens, first_fits, front_fits, is_placing_run}
-use Rattle.place_parts.proofs.components.ComponentParts.placing_tokens.Goals as goal
+use Rattle.place_parts.proofs.component_parts.ComponentParts.placing_tokens.Goals as goal
 
 pub overflow_add-first : goal.overflow_add-first
 overflow_add-first c =

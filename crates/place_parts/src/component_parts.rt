@@ -1,0 +1,62 @@
+//! An entry of COMPONENTS (LEF/DEF 5.8 Language Reference, "Components").
+
+ghost use Rattle.std.specs.Prelude.{◌≡◌};
+ghost use Rattle.std.specs.Option.{option_map};
+ghost use Rattle.lef_grammar.specs.Firsts.{first_of};
+ghost use Rattle.entry_rules.specs.References.{region_of_clause};
+ghost use Rattle.place_parts.specs.ClauseViews.{clauses_of};
+ghost use Rattle.place_parts.specs.StandingViews.{standing_of, word_view};
+
+use crate::components::Clause;
+use crate::standing::{Standing, noted_clauses_at};
+use lefdef_tokens::{Cursor, Token, TokenRun};
+use statement_reader::parts::Parts;
+
+/// An entry: its name, its macro, the rest of its fixed part, and its clauses; what the first of them that places it says, and
+/// the first region that one of them names.
+#[derive(Clone, Copy)]
+pub struct ComponentParts<'t> {
+    pub name: Token<'t>,
+    pub cell: Token<'t>,
+    pub rest: TokenRun<'t>,
+    pub clauses: Parts<'t, Clause<'t>>,
+    pub standing: Option<Standing>,
+    pub region: Option<&'t [u8]>,
+    pub ghost stands: { standing ≡ standing_of (clauses_of clauses) },
+    pub ghost assigned: { option_map word_view region ≡ first_of region_of_clause (clauses_of clauses) },
+}
+
+impl<'t> ComponentParts<'t> {
+    ghost use Rattle.std.specs.Prelude.{IfSome};
+    ghost use Rattle.form_meanings.specs.Words.{Gives};
+    ghost use Rattle.statement_model.specs.Form.{read};
+    ghost use Rattle.def_grammar.specs.Components.{component_form};
+    ghost use Rattle.lefdef_tokens.specs.Views.{IsLater, rest_of};
+    ghost use Rattle.def_parts.specs.PointViews.{with_rest};
+    ghost use Rattle.place_parts.specs.ComponentViews.{component_view, ComponentIn};
+
+    /// `- name macro rest (+ clause)* ;`
+    #[tactic(auto, unfolding(def_grammar::specs::Components::component_form))]
+    #[inline(never)]
+    pub fn read(cursor: Cursor<'t>) -> Option<(ComponentParts<'t>, Cursor<'t>)>
+        ensures gives { Gives (with_rest component_view) result (read component_form (rest_of cursor.entry)) }
+        ensures later { IfSome result (λ x. IsLater cursor.entry x.1) }
+        ensures lent { IfSome result (λ x. ComponentIn cursor.entry.tokens.text.now x.0) }
+    {
+        let cursor = cursor.key(b"-")?;
+        let (name, cursor) = cursor.name()?;
+        let (cell, cursor) = cursor.name()?;
+        let (rest, cursor) = cursor.rest();
+        let ((clauses, noted), cursor) = noted_clauses_at(cursor)?;
+        let cursor = cursor.key(b";")?;
+        let parts = ComponentParts {
+            name,
+            cell,
+            rest,
+            clauses,
+            standing: noted.standing,
+            region: noted.region,
+        };
+        Some((parts, cursor))
+    }
+}
