@@ -29,6 +29,10 @@ use std::alloc::{AllocError, Allocator};
 /// The statements of a DEF text, one after the other.
 pub type Statements<'t> = text::Statements<'t, Statement<'t>, Mode>;
 
+/// The statements without a semicolon: the ends of 14 sections, of the properties' definitions and of the design. A list that
+/// lacks room for them alone would be twice as long, and its memory given back and taken anew for each report.
+const ENDS: usize = 16;
+
 /// All statements, in the order of the text, without their tokens.
 pub fn statements_of<'t, A: Allocator>(
     alloc: A,
@@ -40,7 +44,8 @@ pub fn statements_of<'t, A: Allocator>(
 {
     records_are_read::<Statement<'t>>();
     // Nearly each statement has one semicolon, so the list isn't moved while it grows.
-    let mut found = Vec::with_capacity(alloc, memchr_iter(b';', text).count())?;
+    let semicolons = memchr_iter(b';', text).count();
+    let mut found = Vec::with_capacity(alloc, semicolons.saturating_add(ENDS))?;
     let mut statements: Statements<'t> = text::Statements::new(Mode::Top, text);
     while let Some(read) = statements.next() {
         found.push(read.statement)?;
