@@ -4,6 +4,7 @@ use crate::texts::{INVERTER, TWO_INVERTERS};
 use cell_library::lef_texts::LefTexts;
 use cell_library::library::Library;
 use counted_devices::counted::Counted;
+use design_model::diagnostic::DiagLines;
 use design_model::edit::{Done, Edit, EditCode, EditRefusal};
 use design_model::geometry::Orient;
 use edit_session::session::Session;
@@ -42,34 +43,70 @@ fn a_library_has_the_first_macro_of_each_name(rt: HostRuntime) -> Result<(), Fai
     Ok(())
 }
 
-#[test]
-fn a_session_from_its_opening_to_its_text(rt: HostRuntime) -> Result<(), Fail> {
-    let mut lefs = LefTexts::new(rt.alloc());
-    lefs.push(INVERTER)?;
-    let library = Library::read(rt.alloc(), &lefs)?;
-    let mut session = Session::open(rt.alloc(), &library, TWO_INVERTERS)?;
-    assert_eq!(rt; session.text_len(), 252);
-    let place = |x| Edit::Place {
+/// What the calls of a session give, one after the other.
+#[derive(Drop)]
+struct Given {
+    opened: usize,
+    placed: Result<Done, EditRefusal>,
+    refused: Result<Done, EditRefusal>,
+    then: usize,
+    edited: Result<Done, EditRefusal>,
+    lines: DiagLines,
+    text: Vec<u8>,
+}
+
+/// A placement of the first inverter.
+fn place(x: i64) -> Edit<'static> {
+    Edit::Place {
         component: b"u1",
         x,
         y: 0,
         orient: Orient::N,
-    };
-    let done = Done { reads: 0, tests: 0 };
-    assert_eq!(rt; session.edit(&place(1)), Ok(done));
-    let out_of_range = EditRefusal::Refused(EditCode::Number);
-    assert_eq!(rt; session.edit(&place(2147483648)), Err(out_of_range));
-    assert_eq!(rt; session.text_len(), 271);
-    assert_eq!(rt; session.text_edit(179, 180, b"3"), Ok(done));
+    }
+}
+
+/// The calls of a session from its opening to its text. Where they are looked at, the session is gone: each way out of this
+/// function gives back a library and a session, and that is long to prove.
+fn answers(alloc: Global) -> Result<Given, Fail> {
+    let mut lefs = LefTexts::new(alloc);
+    lefs.push(INVERTER)?;
+    let library = Library::read(alloc, &lefs)?;
+    let mut session = Session::open(alloc, &library, TWO_INVERTERS)?;
+    let opened = session.text_len();
+    let placed = session.edit(&place(1));
+    let refused = session.edit(&place(2147483648));
+    let then = session.text_len();
+    let edited = session.text_edit(179, 180, b"3");
     let lines = session.diagnostics()?;
-    assert_eq!(rt; lines.len(), 3);
+    let mut out = Counted::new(Vec::new(alloc));
+    session.write_to(&mut out)?;
+    Ok(Given {
+        opened,
+        placed,
+        refused,
+        then,
+        edited,
+        lines,
+        text: out.into_inner(),
+    })
+}
+
+#[test]
+fn a_session_from_its_opening_to_its_text(rt: HostRuntime) -> Result<(), Fail> {
+    let given = answers(rt.alloc())?;
+    let done = Done { reads: 0, tests: 0 };
+    let out_of_range = EditRefusal::Refused(EditCode::Number);
+    assert_eq!(rt; given.opened, 252);
+    assert_eq!(rt; given.placed, Ok(done));
+    assert_eq!(rt; given.refused, Err(out_of_range));
+    assert_eq!(rt; given.then, 271);
+    assert_eq!(rt; given.edited, Ok(done));
+    assert_eq!(rt; given.lines.len(), 3);
     let wanted: [&[u8]; 3] = [b"count COMPONENTS 3 2", b"offsite u1", b"overlap u1 u2"];
-    for (line, text) in lines.as_slice().iter().zip(wanted) {
+    for (line, text) in given.lines.as_slice().iter().zip(wanted) {
         assert_eq!(rt; line.text.as_slice(), text);
     }
-    let mut out = Counted::new(Vec::new(rt.alloc()));
-    assert!(rt; session.write_to(&mut out).is_ok());
-    assert_eq!(rt; out.into_inner().len(), 271);
+    assert_eq!(rt; given.text.len(), 271);
     Ok(())
 }
 
