@@ -11,7 +11,7 @@ use Rattle.std.proofs.lemmas.Slice.Eq.{bytes_eq-Decides}
 use Rattle.indexmap.specs.IndexMap.{insert_entry}
 use Rattle.lef_grammar.specs.Firsts.{find_named, has_name, with_first}
 use Rattle.cell_library.specs.Naming.{entries_view, entry_seen, name_of, named, place_of, seen_by}
-use Rattle.cell_library.specs.Records.{word_view}
+use Rattle.lefdef_tokens.specs.Views.{word_view}
 
 bytes_eq_sym : (a b : List ℕ) → bytes_eq a b ≡ bytes_eq b a
 bytes_eq_sym a b = grind (arith, bytes_eq-Decides)

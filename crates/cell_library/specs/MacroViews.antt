@@ -4,7 +4,7 @@ use Rattle.std.specs.Option.{option_map}
 use Rattle.lef_grammar.specs.Definitions.{Macro}
 use Rattle.cell_library.specs.Numbers.{point_view}
 use Rattle.cell_library.specs.PinViews.{pins_view}
-use Rattle.cell_library.specs.Records.{word_view}
+use Rattle.lefdef_tokens.specs.Views.{word_view}
 use Rattle.cell_library.specs.declared.macro_definition.Macro as code_macro
 
 abbrev pub macro_name : Macro → List ℕ

@@ -7,7 +7,8 @@ ghost use Rattle.lef_grammar.specs.Firsts.{first_of, front, with_all};
 ghost use Rattle.lef_grammar.specs.LayerBlock.{spacing_of, type_of, width_of};
 ghost use Rattle.lef_reader.specs.StatementViews.{lef_view};
 ghost use Rattle.cell_library.specs.LayerViews.{kind_view, layer_name, layer_view, layers_view};
-ghost use Rattle.cell_library.specs.Records.{records_view, word_view};
+ghost use Rattle.lefdef_tokens.specs.Views.{word_view};
+ghost use Rattle.cell_library.specs.Records.{records_view};
 
 use crate::named::Named;
 use crate::numbers::read_distance;

@@ -15,7 +15,8 @@ ghost use Rattle.cell_library.specs.MacroViews.{macro_name, macro_view, macros_v
 ghost use Rattle.cell_library.specs.Naming.{seen_by};
 ghost use Rattle.cell_library.specs.Numbers.{point_view};
 ghost use Rattle.cell_library.specs.PinViews.{pin_view, pins_view};
-ghost use Rattle.cell_library.specs.Records.{records_view, word_view};
+ghost use Rattle.lefdef_tokens.specs.Views.{word_view};
+ghost use Rattle.cell_library.specs.Records.{records_view};
 
 use crate::group::inner_of;
 use crate::library::Library;

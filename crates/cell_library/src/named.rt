@@ -5,7 +5,7 @@ ghost use Rattle.std.specs.Prelude.{option_copied};
 ghost use Rattle.std.specs.Option.{option_map};
 ghost use Rattle.lef_grammar.specs.Firsts.{find_named, with_first};
 ghost use Rattle.cell_library.specs.Naming.{entry_seen, place_of, name_of, named};
-ghost use Rattle.cell_library.specs.Records.{word_view};
+ghost use Rattle.lefdef_tokens.specs.Views.{word_view};
 
 use indexmap::IndexMap;
 use std::alloc::{AllocError, Allocator, Global};

@@ -7,7 +7,8 @@ ghost use Rattle.lef_grammar.specs.Firsts.{front};
 ghost use Rattle.lef_reader.specs.StatementViews.{lef_view};
 ghost use Rattle.cell_library.specs.Numbers.{rectangle_view};
 ghost use Rattle.cell_library.specs.PinViews.{count_behind, pin_view, pins_view, rectangles_behind, shapes_behind};
-ghost use Rattle.cell_library.specs.Records.{records_view, word_view};
+ghost use Rattle.lefdef_tokens.specs.Views.{word_view};
+ghost use Rattle.cell_library.specs.Records.{records_view};
 ghost use Rattle.cell_library.specs.ShapeViews.{shapes_view};
 
 use crate::named::Named;

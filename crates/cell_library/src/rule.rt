@@ -6,7 +6,8 @@ ghost use Rattle.lef_grammar.specs.Definitions.{distance_read, inner_record, ope
 ghost use Rattle.lef_grammar.specs.Firsts.{first_of, front, with_all};
 ghost use Rattle.lef_grammar.specs.RuleBlock.{rule_width_of};
 ghost use Rattle.lef_reader.specs.StatementViews.{lef_view};
-ghost use Rattle.cell_library.specs.Records.{records_view, word_view};
+ghost use Rattle.lefdef_tokens.specs.Views.{word_view};
+ghost use Rattle.cell_library.specs.Records.{records_view};
 ghost use Rattle.cell_library.specs.RuleViews.{rule_layer_view, rule_layers_of, rule_layers_view, rule_name, rule_view, rules_view};
 ghost use Rattle.unit_numbers.specs.Distances.{distance_of};
 

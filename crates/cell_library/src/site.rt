@@ -7,7 +7,8 @@ ghost use Rattle.lef_grammar.specs.Firsts.{first_of, front, with_all};
 ghost use Rattle.lef_grammar.specs.SiteBlock.{site_size_of};
 ghost use Rattle.lef_reader.specs.StatementViews.{lef_view};
 ghost use Rattle.cell_library.specs.Numbers.{point_view};
-ghost use Rattle.cell_library.specs.Records.{records_view, word_view};
+ghost use Rattle.lefdef_tokens.specs.Views.{word_view};
+ghost use Rattle.cell_library.specs.Records.{records_view};
 ghost use Rattle.cell_library.specs.SiteViews.{site_name, site_view, sites_view};
 
 use crate::named::Named;

@@ -8,7 +8,8 @@ ghost use Rattle.lef_grammar.specs.ViaBlock.{cut_size_of, cut_spacing_of, enclos
 ghost use Rattle.lef_reader.specs.StatementViews.{lef_view};
 ghost use Rattle.lef_reader.specs.ViaViews.{four_view};
 ghost use Rattle.cell_library.specs.Numbers.{point_view, rectangle_view};
-ghost use Rattle.cell_library.specs.Records.{records_view, word_view};
+ghost use Rattle.lefdef_tokens.specs.Views.{word_view};
+ghost use Rattle.cell_library.specs.Records.{records_view};
 ghost use Rattle.cell_library.specs.ShapeViews.{shapes_view};
 ghost use Rattle.cell_library.specs.ViaViews.{array_view, body_view, count_behind, generated_view, metals_view, names_view, rectangles_behind, shapes_behind, via_name, via_view, vias_view};
 

@@ -1,10 +1,11 @@
 -- Points that several DEF statements share. In a row of points a * repeats the coordinate of the point before; in the
 -- first, and in a point by itself, it is an invalid number.
-use Rattle.std.specs.Prelude.{ℕ, Bool, ◌||◌, List, [], ◌∷◌, codes, if◌then◌else◌, refl}
+use Rattle.std.specs.Prelude.{ℕ, Bool, ◌||◌, List, [], ◌∷◌, ℤ, codes, if◌then◌else◌, refl}
+use Rattle.design_model.specs.declared.geometry.Point.{Point}
 use Rattle.form_meanings.specs.Words.{is_word}
 use Rattle.form_meanings.specs.Meaning.{Seen}
 use Rattle.statement_model.specs.Form.{Form, number, ◌▸◌, ◌◂◌, ◌⨟◌, opt, many, seen}
-use Rattle.def_grammar.specs.Numbers.{is_int}
+use Rattle.def_grammar.specs.Numbers.{int_of, is_int}
 use Rattle.def_grammar.specs.Parts.{Coordinates, as_point, int, point}
 use Rattle.def_grammar.specs.Clauses.{as_list}
 
@@ -46,6 +47,18 @@ points_after before (at ∷ all) = point_after before at ∷ points_after (point
 abbrev pub in_row : List Coordinates → List Coordinates
 in_row [] = []
 in_row (at ∷ all) = at ∷ points_after at all
+
+-- a point by itself, in database units
+abbrev pub place_of : Coordinates → Point
+place_of at = record { x = int_of at.x; y = int_of at.y }
+
+-- a coordinate after another, in database units
+abbrev pub number_after : ℤ → List ℕ → ℤ
+number_after before w = if is_star w then before else int_of w
+
+-- a point after another, in database units
+abbrev pub place_after : Point → Coordinates → Point
+place_after before at = record { x = number_after before.x at.x; y = number_after before.y at.y }
 
 -- pt*
 unfoldable pub points : Form (List Coordinates)

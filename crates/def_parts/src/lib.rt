@@ -1,7 +1,8 @@
 //! Parts that DEF statements of several kinds have (LEF/DEF 5.8 Language Reference, "DEF Syntax").
 //!
 //! Begin with `point::point_at`, a point of a statement, or `number::int_at`, a place for a number; `points` has rows
-//! of points, corners of rectangles and polygons, and `clauses` masks and clauses without meaning.
+//! of points, corners of rectangles and polygons, `places` the points in database units, and `clauses` masks and clauses
+//! without meaning.
 //!
 //! What they say is in `def_grammar/specs/Parts`, `Points`, `Limits` and `Clauses`; `specs/PointViews` and
 //! `specs/ClauseViews` have the views of these parts there, and what they lend. Tokens are lent from the text that was
@@ -12,5 +13,6 @@
 
 pub mod clauses;
 pub mod number;
+pub mod places;
 pub mod point;
 pub mod points;

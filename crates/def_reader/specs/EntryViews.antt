@@ -1,6 +1,5 @@
 -- Entries of the program as those of the definitions, and what they lend from a text.
 use Rattle.std.specs.Prelude.{◌≡◌, ℕ, Bool, true, false, List}
-use denote.Ref.{Bor}
 use Rattle.design_model.specs.declared.mode.Section.{Section}
 use Rattle.design_model.specs.declared.mode.Section.TheVariants.{Components, Pins, Regions, Groups, Blockages}
 use Rattle.def_grammar.specs.Records.{Entry, component, pin, region, group, blockage, net, special_net, via, rule, skipped}
@@ -15,9 +14,6 @@ use Rattle.wire_parts.specs.SpecialNetViews.{SpecialNetIn, special_net_view}
 use Rattle.wire_parts.specs.ViaViews.{ViaIn, via_view}
 use Rattle.def_reader.specs.declared.entry.Entry as code
 use Rattle.def_reader.specs.declared.entry.Entry.TheVariants as variants
-
-abbrev pub bytes_of : Bor (List ℕ) → List ℕ
-bytes_of bytes = bytes.now
 
 abbrev pub is_place_section : Section → Bool
 is_place_section Components = true

@@ -1,5 +1,5 @@
 -- Statements of the program as records.
-use Rattle.std.specs.Prelude.{ℕ, List, Option}
+use Rattle.std.specs.Prelude.{ℕ, List, Option, map}
 use Rattle.design_model.specs.declared.mode.Mode.{Mode}
 use Rattle.design_model.specs.declared.mode.Section.{Section}
 use Rattle.def_grammar.specs.Top.{units, end_design, properties, extension, floor, header, kept}
@@ -34,6 +34,10 @@ record_view (variants.Kept w others) = top (kept w.bytes.now (words_of others))
 record_view (variants.EndSection s) = end_section s
 record_view (variants.Property p) = in_properties (property_view p)
 record_view (variants.Entry e) = entry (entry_view e)
+
+-- what statements say, in order
+abbrev pub records_view : List Statement → List Record
+records_view = map record_view
 
 -- the name of an entry
 abbrev pub entry_name : Record → Option (List ℕ)

@@ -5,9 +5,9 @@ ghost use Rattle.std.specs.Option.{option_map};
 ghost use Rattle.form_meanings.specs.Words.{Gives};
 ghost use Rattle.statement_model.specs.Form.{read};
 ghost use Rattle.def_grammar.specs.Records.{entries_form, entry_key, name_of, section_of, skipped_entries};
-ghost use Rattle.lefdef_tokens.specs.Views.{IsLater, rest_of};
+ghost use Rattle.lefdef_tokens.specs.Views.{IsLater, rest_of, word_view};
 ghost use Rattle.def_parts.specs.PointViews.{with_rest};
-ghost use Rattle.def_reader.specs.EntryViews.{EntryIn, bytes_of, entry_view, is_place_section};
+ghost use Rattle.def_reader.specs.EntryViews.{EntryIn, entry_view, is_place_section};
 ghost use Rattle.def_reader.specs.SeenViews.{key_view};
 
 use crate::seen::Key;
@@ -59,7 +59,7 @@ impl<'t> Entry<'t> {
 
     /// The name, which its section has once. Blockages, nets with MUSTJOIN and entries without meaning have none.
     pub fn name(&self) -> Option<&'t [u8]>
-        ensures { option_map bytes_of result ≡ name_of (entry_view self.now) }
+        ensures { option_map word_view result ≡ name_of (entry_view self.now) }
     {
         match self {
             Entry::Component(parts) => Some(parts.name.bytes),

@@ -1,9 +1,9 @@
 -- Statements that were read, and entries that are lent from them, as those of the definitions.
-use Rattle.std.specs.Prelude.{List, map, Option, Some, None}
+use Rattle.std.specs.Prelude.{Option, Some, None}
 use denote.Ref.{Bor}
 use Rattle.def_grammar.specs.Components.{Component}
 use Rattle.def_grammar.specs.DefVias.{DefVia}
-use Rattle.def_grammar.specs.Records.{Entry, Record, component}
+use Rattle.def_grammar.specs.Records.{Entry, component}
 use Rattle.def_grammar.specs.Rules.{Rule}
 use Rattle.place_parts.specs.ComponentViews.{component_view}
 use Rattle.place_parts.specs.declared.component_parts.ComponentParts.{ComponentParts}
@@ -12,13 +12,7 @@ use Rattle.wire_parts.specs.ViaViews.{via_view}
 use Rattle.wire_parts.specs.declared.rules.RuleParts.{RuleParts}
 use Rattle.wire_parts.specs.declared.vias.ViaParts.{ViaParts}
 use Rattle.def_reader.specs.EntryViews.{entry_view}
-use Rattle.def_reader.specs.StatementViews.{record_view}
 use Rattle.def_reader.specs.declared.entry.Entry as code
-use Rattle.def_reader.specs.declared.statement.Statement.{Statement}
-
--- what statements say, in order
-abbrev pub records_view : List Statement → List Record
-records_view = map record_view
 
 abbrev pub lent_entry : Bor code.Entry → Entry
 lent_entry e = entry_view e.now

@@ -7,7 +7,8 @@ ghost use Rattle.def_reader.specs.EntryViews.{entry_view};
 ghost use Rattle.entry_rules.specs.EntryNames.{entry_named};
 ghost use Rattle.entry_rules.specs.Unknown.{component_named, stands_in};
 ghost use Rattle.entry_rules.specs.ViaLayers.{def_rule_named, def_via_named, rule_of_entry, via_of_entry};
-ghost use Rattle.design_names.specs.NameViews.{component_of_entry, lent_component, lent_entry, lent_rule, lent_via, records_view};
+ghost use Rattle.def_reader.specs.StatementViews.{records_view};
+ghost use Rattle.design_names.specs.NameViews.{component_of_entry, lent_component, lent_entry, lent_rule, lent_via};
 ghost use Rattle.design_names.specs.Tables.{Adds};
 
 use def_reader::entry::Entry;
@@ -37,7 +38,7 @@ pub struct Names<'r, 't, A: Allocator = Global> {
 impl<'r, 't, A: Allocator> Model for Names<'r, 't, A> {
     ghost use Rattle.std.specs.Prelude.{List};
     ghost use Rattle.def_grammar.specs.Records.{Record};
-    ghost use Rattle.design_names.specs.NameViews.{lent_entry, records_view};
+    ghost use Rattle.design_names.specs.NameViews.{lent_entry};
     ghost use Rattle.design_names.specs.Tables.{HasFirsts};
 
     ghost Value = { List Record };

@@ -32,9 +32,13 @@ abbrev pub is_row_class : Option (List ℕ) → Bool
 is_row_class None = false
 is_row_class (Some word) = is_word (codes "CORE") word || is_word (codes "ENDCAP") word
 
+-- a name is one of these
+abbrev pub is_one_of : List (List ℕ) → List ℕ → Bool
+is_one_of names name = list_any (λ n. bytes_eq n name) names
+
 -- a row of one of the sites of a component's macro holds its box
 abbrev pub is_held_by : Boxed → PlacedRow → Bool
-is_held_by c row = list_any (bytes_eq row.site) c.sites && holds row.sites c.box
+is_held_by c row = is_one_of c.sites row.site && holds row.sites c.box
 
 -- of rows that hold a component, those on whose sites it is
 abbrev pub is_at_site : Boxed → PlacedRow → Bool

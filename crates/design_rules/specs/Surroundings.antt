@@ -11,7 +11,7 @@ use Rattle.design_model.specs.Units.{nearest}
 use Rattle.form_meanings.specs.Words.{◌>>=◌, first}
 use Rattle.def_grammar.specs.Numbers.{int_of}
 use Rattle.def_grammar.specs.Parts.{Coordinates}
-use Rattle.def_grammar.specs.Points.{corner_points}
+use Rattle.def_grammar.specs.Points.{corner_points, place_of}
 use Rattle.def_grammar.specs.Clauses.{KeptClause}
 use Rattle.def_grammar.specs.Rows.{Row, SiteArray}
 use Rattle.def_grammar.specs.DieArea.{DieArea, die_area_points}
@@ -25,7 +25,6 @@ use Rattle.lef_grammar.specs.Definitions.{Distances, Site}
 use Rattle.lef_grammar.specs.Firsts.{first_of}
 use Rattle.lef_grammar.specs.Library.{Library, site_named}
 use Rattle.place_rules.specs.Sites.{SiteRow, turned_size}
-use Rattle.entry_rules.specs.WireItems.{place_of}
 use Rattle.design_rules.specs.Boxes.{scale}
 
 -- a row: the name of its site, how it is turned, and its sites as they then stand

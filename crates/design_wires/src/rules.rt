@@ -3,7 +3,7 @@
 
 ghost use Rattle.std.specs.Prelude.{◌≡◌};
 ghost use Rattle.std.specs.Option.{option_map};
-ghost use Rattle.def_reader.specs.EntryViews.{bytes_of};
+ghost use Rattle.lefdef_tokens.specs.Views.{word_view};
 ghost use Rattle.net_rules.specs.WirePieces.{net_wire_rules, special_wire_rules};
 ghost use Rattle.wire_rules.specs.Ranges.{IsSize};
 ghost use Rattle.design_wires.specs.RulesOf.{net_rules_of, special_rules_of};
@@ -41,7 +41,7 @@ impl<'n, 'v, 'a, 'l, 'r, 't, A: Allocator + Copy> NetRules<'n, 'v, 'a, 'l, 'r, '
         wires: &'v DesignWires<'a, 'l, 'r, 't, A>,
         rule: Option<&'n [u8]>,
     ) -> NetRules<'n, 'v, 'a, 'l, 'r, 't, A>
-        ensures { net_rules_of result ≡ net_wire_rules wires.entry.now.library wires.entry.now.design wires.entry.now.units (option_map bytes_of rule.entry) }
+        ensures { net_rules_of result ≡ net_wire_rules wires.entry.now.library wires.entry.now.design wires.entry.now.units (option_map word_view rule.entry) }
     {
         NetRules { wires, rule }
     }

@@ -5,9 +5,9 @@ ghost use Rattle.std.specs.Prelude.{◌≡◌, Some, IfSome, is_some};
 ghost use Rattle.std.specs.Option.{option_map};
 ghost use Rattle.lef_grammar.specs.Firsts.{first_of};
 ghost use Rattle.def_grammar.specs.Numbers.{int_of};
+ghost use Rattle.def_grammar.specs.Points.{place_of};
 ghost use Rattle.def_parts.specs.PointViews.{point_view};
 ghost use Rattle.entry_rules.specs.ViaLayers.{rule_of_via};
-ghost use Rattle.entry_rules.specs.WireItems.{place_of};
 ghost use Rattle.net_rules.specs.ViaRectangles.{layer_names, metals_of};
 ghost use Rattle.cell_library.specs.ViaViews.{array_view, names_view};
 ghost use Rattle.wire_parts.specs.ViaViews.{by_layer_view, via_clause_view, via_clauses_of, via_layers_view};
@@ -15,7 +15,6 @@ ghost use Rattle.wire_rules.specs.Ranges.{IsPointWithin};
 ghost use Rattle.design_wires.specs.PlanClauses.{all_said, first_said, firsts_said, said_by, said_in};
 ghost use Rattle.design_wires.specs.PlanViews.{AreNear, IsPlan, metals_view};
 
-use crate::corners::place_of;
 use crate::via_plan::{Metals, ViaPlan};
 use cell_library::via::{CutArray, LayerNames};
 use def_parts::number::int_of;
@@ -45,7 +44,7 @@ fn or_place(before: Option<Point>, at: Coordinates<'_>) -> Option<Point>
 {
     match before {
         Some(_) => before,
-        None => Some(place_of(at)),
+        None => Some(at.place()),
     }
 }
 
@@ -58,8 +57,8 @@ fn or_metals(before: Option<Metals>, by: ByLayer<'_>) -> Option<Metals>
     match before {
         Some(_) => before,
         None => Some(Metals {
-            bottom: place_of(by.bottom),
-            top: place_of(by.top),
+            bottom: by.bottom.place(),
+            top: by.top.place(),
         }),
     }
 }

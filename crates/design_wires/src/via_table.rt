@@ -4,8 +4,9 @@ ghost use Rattle.std.specs.Prelude.{◌≡◌, [], ◌∷◌, ◌++◌, ℕ, Lis
 ghost use Rattle.std.specs.Option.{option_map};
 ghost use Rattle.def_grammar.specs.DefVias.{DefVia};
 ghost use Rattle.cell_library.specs.ViaViews.{vias_view};
-ghost use Rattle.def_reader.specs.EntryViews.{bytes_of, entry_view};
-ghost use Rattle.design_names.specs.NameViews.{records_view};
+ghost use Rattle.lefdef_tokens.specs.Views.{word_view};
+ghost use Rattle.def_reader.specs.EntryViews.{entry_view};
+ghost use Rattle.def_reader.specs.StatementViews.{records_view};
 ghost use Rattle.entry_rules.specs.ViaLayers.{via_of_entry};
 ghost use Rattle.design_wires.specs.Defined.{defined};
 ghost use Rattle.design_wires.specs.KnownVias.{HasOthers, HasVias, names_in_def, names_in_lef};
@@ -23,7 +24,7 @@ pub(crate) type Table<'a, A> = Named<'a, KnownVia<'a, A>, A>;
 
 /// The name of the via that an entry is.
 fn via_name<'t>(entry: &Entry<'t>) -> Option<&'t [u8]>
-    ensures { option_map bytes_of result ≡ option_map (λ (v : DefVia). v.name) (via_of_entry (entry_view entry.now)) }
+    ensures { option_map word_view result ≡ option_map (λ (v : DefVia). v.name) (via_of_entry (entry_view entry.now)) }
 {
     match entry {
         Entry::Via(via) => Some(via.name.bytes),

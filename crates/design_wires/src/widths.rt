@@ -2,7 +2,7 @@
 
 ghost use Rattle.std.specs.Prelude.{◌≡◌, IfSome};
 ghost use Rattle.std.specs.Option.{option_map};
-ghost use Rattle.def_reader.specs.EntryViews.{bytes_of};
+ghost use Rattle.lefdef_tokens.specs.Views.{word_view};
 ghost use Rattle.net_rules.specs.Widths.{layer_width, rule_width, wire_width};
 ghost use Rattle.wire_rules.specs.Ranges.{IsSize, IsWithin};
 ghost use Rattle.design_wires.specs.RuleWidths.{width_if};
@@ -58,7 +58,7 @@ fn width_by<A: Allocator + Copy>(
     rule: Option<&[u8]>,
     layer: &[u8],
 ) -> Option<i64>
-    ensures is { result ≡ width_if library.now names.now (units_of scale) (option_map bytes_of rule.entry) layer.now }
+    ensures is { result ≡ width_if library.now names.now (units_of scale) (option_map word_view rule.entry) layer.now }
     ensures near { IfSome result (IsWithin 100000000000) }
 {
     match rule {
@@ -76,7 +76,7 @@ pub fn wire_width<A: Allocator + Copy>(
     rule: Option<&[u8]>,
     layer: &[u8],
 ) -> i64
-    ensures is { result ≡ wire_width library.now names.now (units_of scale) (option_map bytes_of rule.entry) layer.now }
+    ensures is { result ≡ wire_width library.now names.now (units_of scale) (option_map word_view rule.entry) layer.now }
     ensures size { IsSize result }
 {
     match width_by(library, names, scale, rule, layer) {

@@ -3,10 +3,11 @@ use Rattle.std.proofs.Common.{◌≤◌, Bool, true, false, List, [], ◌∷◌,
 use Rattle.design_model.specs.declared.geometry.Point.{Point}
 use Rattle.form_meanings.specs.Meaning.{spell_all}
 use Rattle.statement_model.specs.Form.{Form, spell}
+use Rattle.def_grammar.specs.Points.{place_after}
 use Rattle.def_grammar.specs.Wiring.{Path, PathItem, path_mask, path_virtual, path_rectangle, path_point, path_via, path_item, wire_point}
 use Rattle.wire_rules.specs.Paths.{ViaUse}
 use Rattle.entry_rules.specs.Unchecked.{diagonals, diagonals_of, is_diagonal, one_if}
-use Rattle.entry_rules.specs.WireItems.{items_after, place_after, start_of}
+use Rattle.entry_rules.specs.WireItems.{items_after, start_of}
 
 pub one_at_most : (b : Bool) → one_if b ≤ 1
 one_at_most true = omega arith

@@ -5,9 +5,8 @@ ghost use Rattle.design_model.specs.Lines.{diag_text, line_text};
 ghost use Rattle.design_model.specs.declared.diagnostic.DiagKind.TheVariants.{Unchecked};
 ghost use Rattle.cell_library.specs.MacroViews.{macros_view};
 ghost use Rattle.cell_library.specs.ViaViews.{vias_view};
-ghost use Rattle.def_reader.specs.StatementViews.{record_view};
+ghost use Rattle.def_reader.specs.StatementViews.{record_view, records_view};
 ghost use Rattle.entry_rules.specs.Unchecked.{unchecked_line, unchecked_lines, unchecked_lines_of};
-ghost use Rattle.design_names.specs.NameViews.{records_view};
 ghost use Rattle.entry_checks.specs.UncheckedViews.{unchecked_of_macro, unchecked_of_via};
 ghost use Rattle.entry_checks.specs.Views.{diag_texts};
 

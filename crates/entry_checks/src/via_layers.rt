@@ -8,7 +8,7 @@ ghost use Rattle.wire_rules.specs.Paths.{other_layer};
 ghost use Rattle.wire_parts.specs.ViaViews.{via_clause_view, via_clauses_of, via_layers_view, via_view};
 ghost use Rattle.cell_library.specs.ShapeViews.{shapes_view};
 ghost use Rattle.cell_library.specs.ViaViews.{body_view};
-ghost use Rattle.def_reader.specs.EntryViews.{bytes_of};
+ghost use Rattle.lefdef_tokens.specs.Views.{word_view};
 ghost use Rattle.wire_shapes.specs.RuleViews.{via_on_view};
 ghost use Rattle.entry_rules.specs.References.{layer_of_shape, layers_of_clause};
 ghost use Rattle.entry_rules.specs.ViaLayers.{body_layers, def_via_layers, layers_named, rule_of_via, via_layers};
@@ -53,7 +53,7 @@ fn first_layers<'t>(clauses: Parts<'t, ViaClause<'t>>) -> Option<ViaLayers<'t>>
 
 /// The layer of a rectangle or a polygon of a via.
 fn shape_layer<'t>(clause: ViaClause<'t>) -> Option<&'t [u8]>
-    ensures { option_map bytes_of result ≡ layer_of_shape (via_clause_view clause.entry) }
+    ensures { option_map word_view result ≡ layer_of_shape (via_clause_view clause.entry) }
 {
     match clause {
         ViaClause::Rectangle(rectangle) => Some(rectangle.layer.bytes),

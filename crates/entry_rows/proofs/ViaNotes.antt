@@ -2,13 +2,14 @@
 use Rattle.std.proofs.Common.{◌≡◌, Bool, true, false, ℤ, if◌then◌else◌, List, ℕ, [], ◌∷◌, ◌++◌, Option, Some, None, flat_map, refl, ap, sym, ◌∙◌}
 use Rattle.std.specs.List.{filter_map}
 use Rattle.design_model.specs.declared.geometry.Point.{Point}
+use Rattle.def_grammar.specs.Points.{place_of}
 use Rattle.def_grammar.specs.Wiring as wiring
 use Rattle.def_grammar.specs.Wiring.{WireVia, SpecialVia, ViaArray, Wire, SpecialWire, path_mask, path_virtual, path_rectangle, path_point, path_via}
 use Rattle.wire_rules.specs.Paths.{ViaUse, PathItem, to_point, jump_to, patch, use_via, WireRules, PathPlace, Piece, segment, diagonal, rectangle, via_shape, unknown_via, via_off_layer, one_via, array_of, off_layer, known_via, other_layer, pieces_at, pieces_from, place_after, segment_to, same_z}
 use Rattle.wire_rules.specs.Sizes.{is_array}
 use Rattle.wire_rules.specs.ViaShapes.{NamedShape}
 use Rattle.entry_rules.specs.References.{via_of_item}
-use Rattle.entry_rules.specs.WireItems.{count_of, net_via, place_of, special_via, via_in_array, items_after, point_after_item, items_of, start_of}
+use Rattle.entry_rules.specs.WireItems.{count_of, net_via, special_via, via_in_array, items_after, point_after_item, items_of, start_of}
 use Rattle.entry_rules.specs.OffLayer as lines
 use Rattle.entry_rules.specs.OffLayer.{off_layer_vias, named_if, off_layer_in_wire, off_layer_in_special_wire}
 

@@ -7,25 +7,12 @@ use Rattle.design_model.specs.declared.geometry.Orient.TheVariants.{N}
 use Rattle.design_model.specs.declared.geometry.Point.{Point}
 use Rattle.design_model.specs.Geometry.{spanned}
 use Rattle.def_grammar.specs.Numbers.{int_of}
-use Rattle.def_grammar.specs.Parts.{Coordinates}
-use Rattle.def_grammar.specs.Points.{Corners, is_star}
+use Rattle.def_grammar.specs.Points.{Corners, place_after, place_of}
 use Rattle.def_grammar.specs.Wiring as wiring
 use Rattle.def_grammar.specs.Wiring.{Path, WirePoint, WireVia, SpecialVia, ViaArray}
 use Rattle.wire_rules.specs.Paths as paths
 use Rattle.wire_rules.specs.Paths.{PathItem, ViaUse}
 use Rattle.wire_rules.specs.Sizes.{as_size, is_array}
-
--- a coordinate, after the one before
-abbrev pub number_after : ℤ → List ℕ → ℤ
-number_after before w = if is_star w then before else int_of w
-
--- a point, after the one before
-abbrev pub place_after : Point → Coordinates → Point
-place_after before at = record { x = number_after before.x at.x; y = number_after before.y at.y }
-
--- a point by itself
-abbrev pub place_of : Coordinates → Point
-place_of at = record { x = int_of at.x; y = int_of at.y }
 
 abbrev pub turned_as : Option Orient → Orient
 turned_as None = N

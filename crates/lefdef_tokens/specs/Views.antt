@@ -1,10 +1,15 @@
 -- Cursors in the program, as the words that they have left.
 use Rattle.std.specs.Prelude.{◌≡◌, ◌≤◌, ℕ, List}
+use denote.Ref.{Bor}
 use Rattle.form_meanings.specs.Words.{Rest}
 use Rattle.lefdef_tokens.specs.declared.cursor.Cursor.{Cursor}
 use Rattle.lefdef_tokens.specs.declared.token.Token.{Token}
 use Rattle.lefdef_tokens.specs.declared.token_run.TokenRun.{TokenRun}
 pub use Rattle.lefdef_tokens.specs.Pieces.{piece_of, found_of, IsIn, IsNext, Steps, pieces_of, words_of, span_of}
+
+-- a word that is lent
+abbrev pub word_view : Bor (List ℕ) → List ℕ
+word_view w = w.now
 
 -- the words that a cursor has left
 abbrev pub rest_of : Cursor → Rest

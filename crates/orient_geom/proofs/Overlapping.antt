@@ -1,5 +1,5 @@
 -- Overlapping, either way round and by unit squares.
-use Rattle.std.proofs.Common.{◌≡◌, ℤ, pos, ◌+ℤ◌, ◌≤ℤ◌, ◌<ℤ◌, arith, refl}
+use Rattle.std.proofs.Common.{◌≡◌, ℤ, ◌≤ℤ◌, ◌<ℤ◌, arith, refl}
 use Rattle.std.specs.Prelude.{true, int_lt}
 use Rattle.std.specs.Int.{int_min, int_max}
 use Rattle.std.proofs.lemmas.Int.{ints, clamps}
@@ -25,9 +25,9 @@ test_of p q h = grind (arith, ints)
 -- two intervals share a unit
 record Shares (a b c d i : ℤ) : Type 0 where
   first_low : a ≤ℤ i
-  first_high : (i +ℤ pos 1) ≤ℤ b
+  first_high : i <ℤ b
   second_low : c ≤ℤ i
-  second_high : (i +ℤ pos 1) ≤ℤ d
+  second_high : i <ℤ d
 
 shared : (a b c d : ℤ) → int_lt (int_max a c) (int_min b d) ≡ true → Shares a b c d (int_max a c)
 shared a b c d h =

@@ -1,8 +1,9 @@
 -- What turning and overlapping mean.
-use Rattle.std.specs.Prelude.{◌≡◌, IsTrue, ◌↔◌, ℤ, pos, ◌+ℤ◌, ◌≤ℤ◌}
+use Rattle.std.specs.Prelude.{◌≡◌, IsTrue, ◌↔◌, ℤ, ◌≤ℤ◌}
 use Rattle.design_model.specs.declared.geometry.Orient.{Orient}
 use Rattle.design_model.specs.declared.geometry.Orient.TheVariants.{N, W, S, E, FN, FS, FW, FE}
 use Rattle.design_model.specs.Geometry.{Rectangle, turned, overlap}
+use Rattle.place_rules.specs.Covering.{HasSquare}
 
 -- the orientation that turns back
 abbrev pub inverse : Orient → Orient
@@ -22,13 +23,6 @@ TurningBack = (o : Orient) (r : Rectangle) → r.x1 ≤ℤ r.x2 → r.y1 ≤ℤ 
 -- Which of two rectangles comes first makes no difference to whether they overlap.
 abbrev pub OverlapIsSymmetric : Type 0
 OverlapIsSymmetric = (a b : Rectangle) → overlap a b ≡ overlap b a
-
--- the unit square whose lower left corner is (i, j) lies in the rectangle
-pub record HasSquare (r : Rectangle) (i j : ℤ) : Type 0 where
-  pub left : r.x1 ≤ℤ i
-  pub right : (i +ℤ pos 1) ≤ℤ r.x2
-  pub below : r.y1 ≤ℤ j
-  pub above : (j +ℤ pos 1) ≤ℤ r.y2
 
 -- Two rectangles overlap exactly where some unit square lies in both.
 abbrev pub OverlapIsSharedArea : Type 0

@@ -6,8 +6,7 @@ use Rattle.design_rules.specs.CountLines.{entries, count_of, count_lines}
 use Rattle.lefdef_tokens.specs.declared.token.Token.{Token}
 use Rattle.def_reader.specs.declared.statement.Statement.{Statement}
 use Rattle.def_reader.specs.declared.statement.Statement.TheVariants.{Header}
-use Rattle.def_reader.specs.StatementViews.{record_view}
-use Rattle.place_checks.specs.Views.{records_view}
+use Rattle.def_reader.specs.StatementViews.{record_view, records_view}
 
 -- what is left of some statements from one of them on
 left_from : (xs : List Statement) (i : ℕ) (x : Statement) → i < length xs → x ≡ get_or xs i x → records_view (drop i xs) ≡ record_view x ∷ records_view (drop (i + 1) xs)

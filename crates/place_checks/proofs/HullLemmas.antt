@@ -8,9 +8,9 @@ use Rattle.std.proofs.lemmas.Int.{ints, clamps}
 use Rattle.design_model.specs.Geometry.{Rectangle, overlap}
 use Rattle.design_rules.specs.Boxes.{Boxed}
 use Rattle.design_rules.specs.Surroundings.{Fence}
+use Rattle.design_rules.specs.PlaceLines.{is_one_of}
 use Rattle.place_checks.specs.FenceLines.{fence_lines_by, fence_lines_in}
 use Rattle.place_checks.specs.Hulls.{hull_of, is_apart, joined, joined_all}
-use Rattle.place_checks.specs.Patterns.{is_one_of}
 use Rattle.place_checks.proofs.SkipLemmas.{apart_above, apart_below, apart_left, apart_right}
 use Rattle.place_checks.proofs.SweepLemmas.{up_to_of}
 

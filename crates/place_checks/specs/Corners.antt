@@ -4,7 +4,7 @@ use Rattle.design_model.specs.declared.geometry.Point.{Point}
 use Rattle.design_model.specs.Geometry.{Rectangle, lower_left, upper_right, spanned}
 use Rattle.def_grammar.specs.Numbers.{int_of}
 use Rattle.def_grammar.specs.Parts.{Coordinates}
-use Rattle.entry_rules.specs.WireItems.{place_of}
+use Rattle.def_grammar.specs.Points.{place_of}
 use Rattle.place_parts.specs.declared.standing.Spot.{Spot}
 
 -- the rectangle from the origin to a corner

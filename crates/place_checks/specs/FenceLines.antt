@@ -5,9 +5,8 @@ use Rattle.design_model.specs.declared.diagnostic.DiagKind.TheVariants as kinds
 use Rattle.design_model.specs.Geometry.{overlap}
 use Rattle.place_rules.specs.Covering.{is_covered}
 use Rattle.design_rules.specs.Boxes.{Boxed}
-use Rattle.design_rules.specs.PlaceLines.{fence_line}
+use Rattle.design_rules.specs.PlaceLines.{fence_line, is_one_of}
 use Rattle.design_rules.specs.Surroundings.{Fence}
-use Rattle.place_checks.specs.Patterns.{is_one_of}
 
 -- of one fence, by whether it is assigned to it
 abbrev pub fence_lines_by : Bool → Boxed → Fence → List (List ℕ)

@@ -1,10 +1,9 @@
 -- Patterns of components' names by themselves, and the regions that they assign a component to.
 use Rattle.std.specs.Prelude.{◌≡◌, ℕ, Bool, not, ◌==◌, List, [], ◌∷◌, map, flat_map}
 use Rattle.std.specs.List.{filter, list_any}
-use Rattle.std.specs.Str.{bytes_eq}
 use Rattle.place_rules.specs.Patterns.{matches, star}
 use Rattle.design_rules.specs.Boxes.{Boxed}
-use Rattle.design_rules.specs.PlaceLines.{is_assigned}
+use Rattle.design_rules.specs.PlaceLines.{is_assigned, is_one_of}
 use Rattle.design_rules.specs.Surroundings.{Assignment}
 use Rattle.place_kernels.specs.Views.{starred_pattern}
 use Rattle.place_checks.specs.declared.assigned.Assigned.{Assigned}
@@ -43,10 +42,6 @@ without_star all = filter (λ a. not (has_starred a)) all
 -- the regions of those whose patterns a name matches
 abbrev pub regions_for : List ℕ → List Assignment → List (List ℕ)
 regions_for name all = map (λ a. a.region) (filter (λ a. list_any (λ p. matches p name) a.patterns) all)
-
--- a region is one of these
-abbrev pub is_one_of : List (List ℕ) → List ℕ → Bool
-is_one_of regions region = list_any (λ r. bytes_eq r region) regions
 
 -- these are the regions that a component is assigned to
 abbrev pub AreRegionsOf : List Assignment → Boxed → List (List ℕ) → Type 0

@@ -4,16 +4,9 @@ use Rattle.std.specs.Option.{option_map}
 use Rattle.design_model.specs.declared.diagnostic.Diag.{Diag}
 use Rattle.design_model.specs.Lines.{diag_text}
 use Rattle.design_model.specs.Views.{rectangle_of}
-use Rattle.def_grammar.specs.Records.{Record}
 use Rattle.design_rules.specs.Boxes.{Boxed}
-use Rattle.def_reader.specs.declared.statement.Statement.{Statement}
-use Rattle.def_reader.specs.StatementViews.{record_view}
-use Rattle.cell_library.specs.Records.{word_view}
+use Rattle.lefdef_tokens.specs.Views.{word_view}
 use Rattle.place_checks.specs.declared.placed_box.PlacedBox.{PlacedBox}
-
--- what statements say, in order
-abbrev pub records_view : List Statement → List Record
-records_view = map record_view
 
 abbrev pub boxed_view : PlacedBox → Boxed
 boxed_view b = record {

@@ -6,7 +6,7 @@ ghost use Rattle.std.specs.Cmp.Lexicographic.{slice_cmp};
 ghost use Rattle.std.specs.List.{list_any};
 ghost use Rattle.std.specs.Option.{option_map, option_to_list};
 ghost use Rattle.std.specs.Ordering.{is_eq, nat_cmp};
-ghost use Rattle.cell_library.specs.Records.{word_view};
+ghost use Rattle.lefdef_tokens.specs.Views.{word_view};
 ghost use Rattle.place_kernels.specs.Views.{starred_pattern};
 ghost use Rattle.place_checks.specs.Patterns.{assigned_view, by_pattern, has_star, is_starred, regions_for, starred_view, with_star, without_star};
 ghost use Rattle.place_checks.specs.PlaceViews.{assignment_view};

@@ -6,12 +6,12 @@ ghost use Rattle.design_model.specs.Geometry.{IsNearRectangle};
 ghost use Rattle.design_model.specs.Views.{rectangle_of};
 ghost use Rattle.def_grammar.specs.Parts.{Coordinates};
 ghost use Rattle.design_rules.specs.Boxes.{boundary_of, box_at, box_of, boxes, component_box, is_cover, scale};
-ghost use Rattle.def_reader.specs.StatementViews.{record_view};
+ghost use Rattle.def_reader.specs.StatementViews.{record_view, records_view};
 ghost use Rattle.place_parts.specs.ComponentViews.{component_view};
 ghost use Rattle.cell_library.specs.CellViews.{cell_view};
 ghost use Rattle.cell_library.specs.Numbers.{IsWithin};
 ghost use Rattle.place_checks.specs.Corners.{corner, in_order, IsSpotAt};
-ghost use Rattle.place_checks.specs.Views.{boxed_view, records_view};
+ghost use Rattle.place_checks.specs.Views.{boxed_view};
 
 use crate::corners::corner_of;
 use crate::placed_box::PlacedBox;

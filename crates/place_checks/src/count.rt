@@ -3,7 +3,8 @@
 ghost use Rattle.std.specs.Prelude.{◌≡◌, ◌++◌, ◌<◌, ◌≤◌, ◌^◌, IfOk, OnOk, length};
 ghost use Rattle.design_model.specs.Lines.{diag_text};
 ghost use Rattle.design_rules.specs.CountLines.{count_line, count_lines, count_of, entries};
-ghost use Rattle.place_checks.specs.Views.{diag_texts, records_view};
+ghost use Rattle.def_reader.specs.StatementViews.{records_view};
+ghost use Rattle.place_checks.specs.Views.{diag_texts};
 
 use def_parts::number::int_of;
 use def_reader::statement::Statement;

@@ -5,16 +5,16 @@ ghost use Rattle.std.specs.List.{list_any};
 ghost use Rattle.std.specs.Option.{option_map};
 ghost use Rattle.design_model.specs.Geometry.{overlap};
 ghost use Rattle.design_model.specs.Views.{rectangle_of};
-ghost use Rattle.cell_library.specs.Records.{word_view};
+ghost use Rattle.lefdef_tokens.specs.Views.{word_view};
 ghost use Rattle.design_rules.specs.PlaceLines.{fence_lines, outside_lines};
 ghost use Rattle.place_checks.specs.FenceLines.{fence_lines_by, fence_lines_in};
 ghost use Rattle.place_checks.specs.IndexViews.{surroundings_view};
-ghost use Rattle.place_checks.specs.Patterns.{is_one_of};
 ghost use Rattle.place_checks.specs.PlaceViews.{fence_view};
 ghost use Rattle.place_checks.specs.Views.{boxed_view, diag_texts};
 
 use crate::fence::Fence;
 use crate::hull::is_apart;
+use crate::names::is_one_of;
 use crate::placed_box::PlacedBox;
 use crate::report::push_report;
 use crate::surroundings::Surroundings;
@@ -22,18 +22,6 @@ use design_model::diagnostic::{Diag, DiagKind};
 use design_model::geometry::Rect;
 use orient_geom::{covered, overlaps};
 use std::alloc::{AllocError, Allocator};
-
-/// Whether a region is one of these.
-fn is_one_of(regions: &[&[u8]], region: &[u8]) -> bool
-    ensures { result ≡ is_one_of (map word_view regions.now) region.now }
-{
-    for other in regions {
-        if *other == region {
-            return true;
-        }
-    }
-    false
-}
 
 /// Whether a box overlaps one of some rectangles.
 fn overlaps_any(area: &Rect, rectangles: &[Rect]) -> bool

@@ -12,9 +12,9 @@ ghost use Rattle.design_rules.specs.Surroundings as parts;
 ghost use Rattle.design_rules.specs.Surroundings.{columns_of, die, placed_row, placed_rows, site_size, two_points};
 ghost use Rattle.place_checks.specs.PlaceViews.{placed_row_view};
 ghost use Rattle.place_checks.specs.RowSizes.{IsSmallPoint, step_in};
-ghost use Rattle.place_checks.specs.Views.{records_view};
+ghost use Rattle.def_reader.specs.StatementViews.{records_view};
 
-use crate::corners::{place_of, point_after, rectangle_between};
+use crate::corners::rectangle_between;
 use crate::placed_row::PlacedRow;
 use crate::scale::scale_of;
 use cell_library::library::Library;
@@ -93,7 +93,7 @@ fn step_of(size: Point, sites: &Option<SiteArray<'_>>) -> Point
                 step: Some(step),
                 ..
             },
-        ) => place_of(*step),
+        ) => step.place(),
         _ => size,
     }
 }
@@ -110,7 +110,7 @@ fn placed_row<'t, A: Allocator + Copy>(
 {
     let size = turned_size(row.orient, site_size(library, scale, row.site.bytes));
     let sites = SiteRow {
-        origin: place_of(row.origin),
+        origin: row.origin.place(),
         columns: columns_of(&row.sites),
         rows: lines_of(&row.sites),
         step: step_of(size, &row.sites),
@@ -150,7 +150,7 @@ fn two_points(area: &DieAreaParts<'_>) -> Option<Rect>
     if area.others.again().peek().is_some() {
         return None;
     }
-    Some(rectangle_between(area.first, point_after(area.first, area.second)))
+    Some(rectangle_between(area.first, area.second.after(area.first)))
 }
 
 /// The die of a design, where its area is a rectangle, of two points.

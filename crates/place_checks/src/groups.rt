@@ -3,7 +3,7 @@
 ghost use Rattle.std.specs.Prelude.{◌≡◌, IfOk, map};
 ghost use Rattle.design_rules.specs.Surroundings.{assignments};
 ghost use Rattle.place_checks.specs.PlaceViews.{assignment_view};
-ghost use Rattle.place_checks.specs.Views.{records_view};
+ghost use Rattle.def_reader.specs.StatementViews.{records_view};
 
 use def_reader::entry::Entry;
 use def_reader::statement::Statement;

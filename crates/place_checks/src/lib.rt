@@ -28,6 +28,7 @@ pub mod floor;
 pub mod groups;
 mod hull;
 pub mod keep_outs;
+mod names;
 pub mod overlap;
 pub mod place_lines;
 pub mod placed_box;

@@ -5,7 +5,8 @@ ghost use Rattle.design_rules.specs.Boxes.{scale};
 ghost use Rattle.design_rules.specs.PlaceLines.{lines_in};
 ghost use Rattle.design_rules.specs.Surroundings.{surroundings};
 ghost use Rattle.place_checks.specs.IndexViews.{surroundings_view};
-ghost use Rattle.place_checks.specs.Views.{boxed_view, diag_texts, records_view};
+ghost use Rattle.def_reader.specs.StatementViews.{records_view};
+ghost use Rattle.place_checks.specs.Views.{boxed_view, diag_texts};
 
 use crate::fences::of_component;
 use crate::placed_box::PlacedBox;

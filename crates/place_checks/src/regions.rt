@@ -5,14 +5,13 @@ ghost use Rattle.std.specs.Option.{option_map};
 ghost use Rattle.design_model.specs.Views.{rectangle_of};
 ghost use Rattle.lef_grammar.specs.Firsts.{first_of};
 ghost use Rattle.def_grammar.specs.Regions.{region_points};
-ghost use Rattle.def_reader.specs.StatementViews.{record_view};
+ghost use Rattle.def_reader.specs.StatementViews.{record_view, records_view};
 ghost use Rattle.place_parts.specs.AgainViews.{region_at_view};
 ghost use Rattle.place_parts.specs.RegionViews.{region_clauses_of, region_kind_view, region_view};
 ghost use Rattle.design_rules.specs.Surroundings.{fence_of, fence_of_kind, fences, rectangles_of, type_of};
 ghost use Rattle.place_checks.specs.PlaceViews.{fence_view};
-ghost use Rattle.place_checks.specs.Views.{records_view};
 
-use crate::corners::{point_after, rectangle_between};
+use crate::corners::rectangle_between;
 use crate::fence::Fence;
 use crate::hull::hull_of;
 use def_reader::entry::Entry;
@@ -45,13 +44,13 @@ fn rectangles_of<A: Allocator + Copy>(
     ensures { IfOk result (λ all. map rectangle_of all ≡ rectangles_of (region_points (region_view region.now))) }
 {
     let first = region.first.first;
-    let mut last = point_after(first, region.first.second);
+    let mut last = region.first.second.after(first);
     let mut rectangles = Sequence::new(alloc);
     rectangles.push(rectangle_between(first, last))?;
     let mut left = region.others.again();
     while let Some(later) = left.next() {
-        let first = point_after(last, later.corners.first);
-        last = point_after(first, later.corners.second);
+        let first = later.corners.first.after(last);
+        last = later.corners.second.after(first);
         rectangles.push(rectangle_between(first, last))?;
     }
     Ok(rectangles)

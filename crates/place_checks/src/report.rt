@@ -2,7 +2,7 @@
 
 ghost use Rattle.std.specs.Prelude.{◌≡◌, ◌∷◌, ◌++◌, [], OnOk, map};
 ghost use Rattle.design_model.specs.Lines.{line_text};
-ghost use Rattle.cell_library.specs.Records.{word_view};
+ghost use Rattle.lefdef_tokens.specs.Views.{word_view};
 ghost use Rattle.place_checks.specs.Views.{diag_texts};
 
 use design_model::diagnostic::{Diag, DiagKind};

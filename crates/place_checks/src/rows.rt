@@ -1,16 +1,14 @@
 //! How components stand in rows of sites (LEF/DEF 5.8 Language Reference, "Rows").
 
 ghost use Rattle.std.specs.Prelude.{◌≡◌, ◌++◌, OnOk, map};
-ghost use Rattle.std.specs.List.{list_any};
 ghost use Rattle.std.specs.Option.{option_map};
-ghost use Rattle.std.specs.Str.{bytes_eq};
-ghost use Rattle.cell_library.specs.Records.{word_view};
 ghost use Rattle.design_rules.specs.PlaceLines.{is_held_by, is_row_class, row_lines};
 ghost use Rattle.place_checks.specs.IndexViews.{rows_view};
 ghost use Rattle.place_checks.specs.PlaceViews.{placed_row_view};
 ghost use Rattle.place_checks.specs.RowFits.{best_fit, better, kind_of, needs_row, row_fit};
 ghost use Rattle.place_checks.specs.Views.{boxed_view, diag_texts};
 
+use crate::names::is_one_of;
 use crate::placed_box::PlacedBox;
 use crate::placed_row::PlacedRow;
 use crate::report::push_report;
@@ -32,23 +30,11 @@ pub enum Fit {
     Fits,
 }
 
-/// Whether a name is one of these.
-fn is_among(name: &[u8], names: &[&[u8]]) -> bool
-    ensures { result ≡ list_any (bytes_eq name.now) (map word_view names.now) }
-{
-    for other in names {
-        if name == *other {
-            return true;
-        }
-    }
-    false
-}
-
 /// Whether a row of a site of the component's macro holds the component.
 fn is_held_by(component: &PlacedBox<'_>, row: &PlacedRow<'_>) -> bool
     ensures { result ≡ is_held_by (boxed_view component.now) (placed_row_view row.now) }
 {
-    is_among(row.site, component.sites) && holds(&row.sites, &component.rect)
+    is_one_of(component.sites, row.site) && holds(&row.sites, &component.rect)
 }
 
 /// How well a row takes a component.

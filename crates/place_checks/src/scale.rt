@@ -2,7 +2,7 @@
 
 ghost use Rattle.std.specs.Prelude.{◌≡◌};
 ghost use Rattle.design_rules.specs.Boxes.{scale};
-ghost use Rattle.place_checks.specs.Views.{records_view};
+ghost use Rattle.def_reader.specs.StatementViews.{records_view};
 
 use def_parts::number::int_of;
 use def_reader::statement::Statement;

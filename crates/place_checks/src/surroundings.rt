@@ -5,7 +5,7 @@ ghost use Rattle.design_rules.specs.Boxes.{scale, Boxed};
 ghost use Rattle.design_rules.specs.PlaceLines.{lines_in};
 ghost use Rattle.design_rules.specs.Surroundings.{surroundings};
 ghost use Rattle.place_checks.specs.IndexViews.{surroundings_view};
-ghost use Rattle.place_checks.specs.Views.{records_view};
+ghost use Rattle.def_reader.specs.StatementViews.{records_view};
 
 use crate::assignment_table::AssignmentTable;
 use crate::fence::Fence;

@@ -6,7 +6,8 @@ use Rattle.form_meanings.specs.Meaning.{repeat}
 use Rattle.def_grammar.specs.Components.{Clause, placed, unplaced, region, other}
 use Rattle.lef_grammar.specs.Firsts.{first_of}
 use Rattle.entry_rules.specs.References.{region_of_clause}
-use Rattle.place_parts.specs.StandingViews.{standing_by, standing_of, word_view}
+use Rattle.lefdef_tokens.specs.Views.{word_view}
+use Rattle.place_parts.specs.StandingViews.{standing_by, standing_of}
 use Rattle.place_parts.specs.declared.standing.Standing.{Standing}
 
 -- of all clauses these are left, and the others were noted

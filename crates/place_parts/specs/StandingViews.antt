@@ -1,6 +1,5 @@
 -- What a clause of a component says of where it stands.
 use Rattle.std.specs.Prelude.{ℕ, List, Option, Some, None}
-use denote.Ref.{Bor}
 use Rattle.def_grammar.specs.Components.{Clause, placed, unplaced}
 use Rattle.form_meanings.specs.Words.{◌>>=◌}
 use Rattle.def_grammar.specs.Numbers.{int_of}
@@ -17,6 +16,3 @@ standing_by _ = None
 -- those of the clause of these that places it
 abbrev pub standing_of : List Clause → Option Standing
 standing_of clauses = placing clauses >>= standing_by
-
-abbrev pub word_view : Bor (List ℕ) → List ℕ
-word_view w = w.now

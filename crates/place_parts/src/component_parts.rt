@@ -5,7 +5,8 @@ ghost use Rattle.std.specs.Option.{option_map};
 ghost use Rattle.lef_grammar.specs.Firsts.{first_of};
 ghost use Rattle.entry_rules.specs.References.{region_of_clause};
 ghost use Rattle.place_parts.specs.ClauseViews.{clauses_of};
-ghost use Rattle.place_parts.specs.StandingViews.{standing_of, word_view};
+ghost use Rattle.lefdef_tokens.specs.Views.{word_view};
+ghost use Rattle.place_parts.specs.StandingViews.{standing_of};
 
 use crate::components::Clause;
 use crate::standing::{Standing, noted_clauses_at};

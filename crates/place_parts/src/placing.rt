@@ -49,15 +49,6 @@ fn placing_clause<'t>(clauses: Parts<'t, Clause<'t>>) -> Option<PlacingClause<'t
 }
 
 impl<'t> ComponentParts<'t> {
-    /// The clause that places the component.
-    pub fn placing(&self) -> Option<Clause<'t>>
-        ensures gives { option_map clause_view result ≡ placing (component_view self.now).clauses }
-        ensures lent { IfSome result (λ c. ClauseIn self.now.clauses.cursor.tokens.text.now c) }
-    {
-        let found = placing_clause(self.clauses.again())?;
-        Some(found.clause)
-    }
-
     /// The clause that places the component, with its tokens from its word on, of those of the entry.
     pub fn placing_tokens(self, entry: TokenRun<'t>) -> Option<(Clause<'t>, TokenRun<'t>)>
         requires { words_of entry ≡ spell component_form (component_view self) }

@@ -8,10 +8,10 @@ ghost use Rattle.statement_model.specs.Form.{read};
 ghost use Rattle.def_grammar.specs.Components.{clause};
 ghost use Rattle.lef_grammar.specs.Firsts.{first_of};
 ghost use Rattle.entry_rules.specs.References.{region_of_clause};
-ghost use Rattle.lefdef_tokens.specs.Views.{rest_of, IsLater};
+ghost use Rattle.lefdef_tokens.specs.Views.{rest_of, IsLater, word_view};
 ghost use Rattle.statement_reader.specs.PartViews.{left_after};
 ghost use Rattle.place_parts.specs.ClauseViews.{clause_view, clauses_of};
-ghost use Rattle.place_parts.specs.StandingViews.{standing_by, standing_of, word_view};
+ghost use Rattle.place_parts.specs.StandingViews.{standing_by, standing_of};
 
 use crate::components::{Clause, clause_at};
 use def_parts::number::int_of;

@@ -5,7 +5,7 @@ use Rattle.std.specs.Option.{option_map}
 use Rattle.lef_grammar.specs.Firsts.{first_of}
 use Rattle.def_grammar.specs.Nets.{NetClause}
 use Rattle.def_grammar.specs.NetWires.{wires_of}
-use Rattle.def_reader.specs.EntryViews.{bytes_of}
+use Rattle.lefdef_tokens.specs.Views.{word_view}
 use Rattle.entry_rules.specs.References.{rule_of_clause}
 use Rattle.wire_parts.specs.NetWireViews.{paths_left}
 use Rattle.wire_reading.specs.NetBegun.{begun_wires, first_then}
@@ -13,6 +13,6 @@ use Rattle.wire_reading.specs.declared.beginning.Begun.{Begun}
 
 -- of all clauses these are left, and the others were noted
 pub record Going (all left : List NetClause) (b : Begun) : Type 0 where
-  pub rule : first_then (option_map bytes_of b.rule) (first_of rule_of_clause left) ≡ first_of rule_of_clause all
+  pub rule : first_then (option_map word_view b.rule) (first_of rule_of_clause left) ≡ first_of rule_of_clause all
   pub wires : begun_wires b ≡ flat_map wires_of all
   pub unfound : MatchOption b.first (paths_left b.paths ≡ flat_map wires_of left) (λ w. Unit {0})

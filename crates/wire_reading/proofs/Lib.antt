@@ -1,3 +1,2 @@
 pub mod BeginningSteps
 pub mod EntrySteps
-pub mod NumberRanges

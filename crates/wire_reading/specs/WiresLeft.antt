@@ -1,7 +1,7 @@
 -- The pieces of the wires that are left of an entry.
 use Rattle.std.specs.Prelude.{◌≡◌, ℕ, List, [], ◌++◌, flat_map, ℤ, Option, MatchOption}
 use Rattle.std.specs.Option.{option_map}
-use Rattle.def_reader.specs.EntryViews.{bytes_of}
+use Rattle.lefdef_tokens.specs.Views.{word_view}
 use Rattle.wire_parts.specs.NetWireViews.{paths_left}
 use Rattle.wire_parts.specs.SpecialWireViews.{special_paths_left}
 use Rattle.wire_rules.specs.Paths.{PathItem, Piece, WireRules}
@@ -13,7 +13,7 @@ use Rattle.wire_reading.specs.declared.ruled_wires.NetWires.{NetWires}
 use Rattle.wire_reading.specs.declared.ruled_wires.SpecialNetWires.{SpecialNetWires}
 
 abbrev pub net_left : {M : Type 0} → (M → Option (List ℕ) → WireRules) → NetWires M → List Piece
-net_left rules w = flat_map (wire_pieces_by (rules w.maker) (option_map bytes_of w.rule)) (paths_left w.paths)
+net_left rules w = flat_map (wire_pieces_by (rules w.maker) (option_map word_view w.rule)) (paths_left w.paths)
 
 abbrev pub special_left : {M : Type 0} → (M → ℤ → WireRules) → SpecialNetWires M → List Piece
 special_left rules w = flat_map (special_wire_pieces_by (rules w.maker)) (special_paths_left w.paths)

@@ -4,7 +4,7 @@ ghost use Rattle.std.specs.Prelude.{◌≡◌, flat_map, None};
 ghost use Rattle.std.specs.Option.{option_map};
 ghost use Rattle.lef_grammar.specs.Firsts.{first_of};
 ghost use Rattle.def_grammar.specs.NetWires.{wires_of};
-ghost use Rattle.def_reader.specs.EntryViews.{bytes_of};
+ghost use Rattle.lefdef_tokens.specs.Views.{word_view};
 ghost use Rattle.entry_rules.specs.References.{rule_of_clause};
 ghost use Rattle.wire_parts.specs.NetViews.{net_clause_view, net_clauses_of};
 ghost use Rattle.wire_reading.specs.NetBegun.{NotesWires, begun_wires, first_then};
@@ -25,7 +25,7 @@ pub(crate) struct Begun<'t> {
 
 /// The first rule stays.
 fn note_rule<'t>(rule: &mut Option<&'t [u8]>, clause: &NetClause<'t>)
-    ensures { option_map bytes_of rule.new ≡ first_then (option_map bytes_of rule.old) (rule_of_clause (net_clause_view clause.now)) }
+    ensures { option_map word_view rule.new ≡ first_then (option_map word_view rule.old) (rule_of_clause (net_clause_view clause.now)) }
 {
     if rule.is_none() {
         if let NetClause::Rule(name) = clause {
@@ -62,7 +62,7 @@ fn behind<'t>(clauses: &Parts<'t, NetClause<'t>>) -> NetPaths<'t>
 
 /// The first rule that clauses of a net name, and the wires of all of them.
 pub(crate) fn begin<'t>(clauses: &Parts<'t, NetClause<'t>>) -> Begun<'t>
-    ensures rule { option_map bytes_of result.rule ≡ first_of rule_of_clause (net_clauses_of clauses.now) }
+    ensures rule { option_map word_view result.rule ≡ first_of rule_of_clause (net_clauses_of clauses.now) }
     ensures wires { begun_wires result ≡ flat_map wires_of (net_clauses_of clauses.now) }
 {
     let mut left = clauses.again();

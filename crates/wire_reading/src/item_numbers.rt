@@ -2,69 +2,22 @@
 
 ghost use Rattle.std.specs.Prelude.{◌≡◌, IsTrue};
 ghost use Rattle.def_grammar.specs.Numbers.{int_of};
-ghost use Rattle.def_parts.specs.PointViews.{point_view};
-ghost use Rattle.entry_rules.specs.WireItems.{count_of, extension_of, number_after, place_after, place_of};
+ghost use Rattle.entry_rules.specs.WireItems.{count_of, extension_of};
 ghost use Rattle.wire_parts.specs.PathViews.{wire_point_view};
 ghost use Rattle.wire_rules.specs.Ranges.{IsArray, IsSize};
 ghost use Rattle.wire_rules.specs.Sizes.{as_size, is_array};
-ghost use Rattle.wire_shapes.specs.ItemViews.{IsCoordinate, IsPast, IsPlace};
+ghost use Rattle.wire_shapes.specs.ItemViews.{IsPast};
 
 use def_parts::number::int_of;
-use def_parts::point::Coordinates;
-use design_model::geometry::Point;
-use lefdef_tokens::is_word;
+use def_parts::places::number_of;
 use wire_parts::paths::WirePoint;
-
-/// A coordinate by itself.
-fn coordinate_of(word: &[u8]) -> i64
-    ensures is { result ≡ int_of word.now }
-    ensures in_range { IsCoordinate result }
-{
-    int_of(word) as i64
-}
-
-/// A coordinate, which repeats the one before where it is `*`.
-fn number_after(before: i64, word: &[u8]) -> i64
-    requires { IsCoordinate before }
-    ensures is { result ≡ number_after before word.now }
-    ensures in_range { IsCoordinate result }
-{
-    if is_word(word, b"*") {
-        before
-    } else {
-        coordinate_of(word)
-    }
-}
-
-/// A point by itself.
-pub(crate) fn place_of(at: Coordinates<'_>) -> Point
-    ensures is { result ≡ place_of (point_view at.entry) }
-    ensures in_range { IsPlace result }
-{
-    Point {
-        x: coordinate_of(at.x.bytes),
-        y: coordinate_of(at.y.bytes),
-    }
-}
-
-/// A point after another, of which it may repeat a coordinate.
-pub(crate) fn place_after(before: Point, at: Coordinates<'_>) -> Point
-    requires { IsPlace before }
-    ensures is { result ≡ place_after before (point_view at.entry) }
-    ensures in_range { IsPlace result }
-{
-    Point {
-        x: number_after(before.x, at.x.bytes),
-        y: number_after(before.y, at.y.bytes),
-    }
-}
 
 /// A length.
 pub(crate) fn size_of(word: &[u8]) -> i64
     ensures is { result ≡ as_size (int_of word.now) }
     ensures in_range { IsSize result }
 {
-    let size = coordinate_of(word);
+    let size = number_of(word);
     if size >= 0 { size } else { 0 }
 }
 

@@ -7,7 +7,7 @@ ghost use Rattle.wire_parts.specs.PathViews.{item_view, items_of};
 ghost use Rattle.wire_shapes.specs.ItemViews.{GivesItem, IsItemInRange, IsPlace};
 ghost use Rattle.wire_reading.specs.FoundItems.{EntersItem, found_item, same};
 
-use crate::item_numbers::{extension_of, place_after, place_of};
+use crate::item_numbers::extension_of;
 use crate::used_vias::UsedVia;
 use design_model::geometry::Point;
 use orient_geom::span;
@@ -47,15 +47,15 @@ fn numbers_of<'t, V: UsedVia<'t>>(
     match item {
         paths::PathItem::Mask(_) => None,
         paths::PathItem::Virtual(to) => {
-            *at = place_after(*at, to);
+            *at = to.place_after(*at);
             Some(PathItem::JumpTo(*at))
         }
         paths::PathItem::Rectangle(corners) => {
-            let rect = span(place_of(corners.first), place_of(corners.second));
+            let rect = span(corners.first.place(), corners.second.place());
             Some(PathItem::Patch(rect))
         }
         paths::PathItem::Point(to) => {
-            *at = place_after(*at, to.at);
+            *at = to.at.place_after(*at);
             Some(PathItem::ToPoint(*at, extension_of(&to)))
         }
         paths::PathItem::Via(via) => Some(PathItem::UseVia(via.used())),

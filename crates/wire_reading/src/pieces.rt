@@ -7,7 +7,7 @@ ghost use Rattle.wire_parts.specs.PathViews.{net_path_view, special_path_view};
 ghost use Rattle.wire_shapes.specs.PiecesLeft.{pieces_left};
 ghost use Rattle.wire_reading.specs.ItemsLeft.{net_items_left, special_items_left};
 
-use crate::item_numbers::{extension_of, place_of};
+use crate::item_numbers::extension_of;
 use crate::items::{NetItems, SpecialItems, WireItems};
 use wire_parts::paths::{Path, SpecialVia, WireVia};
 use wire_shapes::{LayerShapes, PathPieces, WiringRules};
@@ -20,7 +20,7 @@ pub fn net_path_pieces<'a, 't: 'a, S: LayerShapes<'a>, R: WiringRules<'a, Shapes
 ) -> PathPieces<'a, NetItems<'t>, R, S>
     ensures { pieces_left net_items_left R.rules S.shapes result ≡ path_pieces net_via (R.rules rules) layer.entry.now (net_path_view path.now) }
 {
-    let at = place_of(path.start.at);
+    let at = path.start.at.place();
     let extension = extension_of(&path.start);
     let items = WireItems::after(at, path.items.again());
     PathPieces::new(rules, layer, at, extension, items)
@@ -34,7 +34,7 @@ pub fn special_path_pieces<'a, 't: 'a, S: LayerShapes<'a>, R: WiringRules<'a, Sh
 ) -> PathPieces<'a, SpecialItems<'t>, R, S>
     ensures { pieces_left special_items_left R.rules S.shapes result ≡ path_pieces special_via (R.rules rules) layer.entry.now (special_path_view path.now) }
 {
-    let at = place_of(path.start.at);
+    let at = path.start.at.place();
     let past_start = extension_of(&path.start);
     let items = WireItems::after(at, path.items.again());
     PathPieces::new(rules, layer, at, past_start, items)

@@ -2,7 +2,7 @@
 
 ghost use Rattle.std.specs.Prelude.{◌≡◌, ◌<◌, IfSome, List};
 ghost use Rattle.std.specs.Option.{option_map};
-ghost use Rattle.def_reader.specs.EntryViews.{bytes_of};
+ghost use Rattle.lefdef_tokens.specs.Views.{word_view};
 ghost use Rattle.wire_parts.specs.WiringViews.{wire_view};
 ghost use Rattle.wire_rules.specs.Paths.{Piece};
 ghost use Rattle.wire_shapes.specs.PiecesLeft.{pieces_left};
@@ -49,7 +49,7 @@ pub(crate) fn net_wire_pieces<
     R: WiringRules<'a, Shapes = S>,
     M: NetRulesOf<'a, Rules = R>,
 >(maker: &M, rule: Option<&'t [u8]>, wire: &Wire<'t>) -> PathPieces<'a, NetItems<'t>, R, S>
-    ensures { pieces_left net_items_left R.rules S.shapes result ≡ wire_pieces_by (M.rules_of maker.now) (option_map bytes_of rule.entry) (wire_view wire.now) }
+    ensures { pieces_left net_items_left R.rules S.shapes result ≡ wire_pieces_by (M.rules_of maker.now) (option_map word_view rule.entry) (wire_view wire.now) }
 {
     let rules = maker.rules(rule_of_wire(rule, wire.taper));
     net_path_pieces(rules, wire.layer.bytes, &wire.path)

@@ -2,7 +2,7 @@
 
 ghost use Rattle.std.specs.Prelude.{◌≡◌};
 ghost use Rattle.std.specs.Option.{option_map};
-ghost use Rattle.def_reader.specs.EntryViews.{bytes_of};
+ghost use Rattle.lefdef_tokens.specs.Views.{word_view};
 ghost use Rattle.wire_rules.specs.Ranges.{IsSize};
 
 use wire_shapes::WiringRules;
@@ -18,7 +18,7 @@ pub trait NetRulesOf<'t>: Sized + Drop {
 
     /// The rules of a wire that has this nondefault rule, if any.
     fn rules(&self, rule: Option<&'t [u8]>) -> Self::Rules
-        ensures { Self.Rules.rules result ≡ rules_of self.now (option_map bytes_of rule.entry) };
+        ensures { Self.Rules.rules result ≡ rules_of self.now (option_map word_view rule.entry) };
 }
 
 /// What wires of SPECIALNETS are made by.

@@ -7,7 +7,7 @@ ghost use Rattle.wire_rules.specs.Ranges.{IsArray};
 ghost use Rattle.wire_shapes.specs.ItemViews.{IsPlace, via_use_view};
 ghost use Rattle.wire_reading.specs.FoundItems.{IsUseInRange};
 
-use crate::item_numbers::{count_of, is_array, place_of};
+use crate::item_numbers::{count_of, is_array};
 use design_model::geometry::{Orient, Point};
 use wire_parts::paths::{SpecialVia, ViaArray, WireVia};
 use wire_shapes::ViaUse;
@@ -67,7 +67,7 @@ fn in_array<'t>(via: ViaUse<'t>, array: ViaArray<'t>) -> ViaUse<'t>
         orient: via.orient,
         columns,
         rows,
-        step: place_of(array.step),
+        step: array.step.place(),
     }
 }
 

@@ -3,7 +3,7 @@ use Rattle.std.specs.Option.{option_map}
 use Rattle.lef_grammar.specs.Definitions.{inner_record, macro_with, opened_macro}
 use Rattle.lef_reader.specs.StatementViews.{lef_view}
 use Rattle.cell_library.specs.MacroViews.{macro_name, macro_view}
-use Rattle.cell_library.specs.Records.{word_view}
+use Rattle.lefdef_tokens.specs.Views.{word_view}
 use Rattle.cell_library.proofs.AddingLemmas.{added_at, none_at, at_end}
 use Rattle.cell_library.proofs.macro_view.add_macros.Goals as goal
 use Rattle.cell_library.proofs.macro_view.add_macros.Goals.{in-Some+in_ok-cell+in_ok-add, in_default}

@@ -2,7 +2,8 @@ use Rattle.std.proofs.Common.{◌≡◌, ◌++◌, drop, map}
 use Rattle.std.specs.List.{filter_map}
 use Rattle.lef_grammar.specs.Definitions.{macro_record}
 use Rattle.lef_grammar.specs.MacroBlock.{site_of}
-use Rattle.cell_library.specs.Records.{records_view, word_view}
+use Rattle.lefdef_tokens.specs.Views.{word_view}
+use Rattle.cell_library.specs.Records.{records_view}
 use Rattle.cell_library.proofs.macro_view.sites_of.Given as goal
 
 abbrev pub invariant-loop-statement : goal.invariant-loop-statement

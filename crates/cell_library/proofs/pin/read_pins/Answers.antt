@@ -3,7 +3,7 @@ use Rattle.std.specs.Option.{option_map}
 use Rattle.lef_grammar.specs.Definitions.{pin_record, pin_with, opened_pin}
 use Rattle.lef_reader.specs.StatementViews.{lef_view}
 use Rattle.cell_library.specs.PinViews.{pin_name, pin_view}
-use Rattle.cell_library.specs.Records.{word_view}
+use Rattle.lefdef_tokens.specs.Views.{word_view}
 use Rattle.cell_library.proofs.AddingLemmas.{added_at, none_at, at_end}
 use Rattle.cell_library.proofs.pin.read_pins.Goals as goal
 use Rattle.cell_library.proofs.pin.read_pins.Goals.{in-Some+in_ok-pin+in_ok-add, in_default}

@@ -3,7 +3,7 @@ use Rattle.std.specs.Option.{option_map}
 use Rattle.lef_grammar.specs.Definitions.{inner_record, rule_with, opened_rule}
 use Rattle.lef_reader.specs.StatementViews.{lef_view}
 use Rattle.cell_library.specs.RuleViews.{rule_name, rule_view}
-use Rattle.cell_library.specs.Records.{word_view}
+use Rattle.lefdef_tokens.specs.Views.{word_view}
 use Rattle.cell_library.proofs.AddingLemmas.{added_at, none_at, at_end}
 use Rattle.cell_library.proofs.rule.add_rules.Goals as goal
 use Rattle.cell_library.proofs.rule.add_rules.Goals.{in-Some+in_ok-rule+in_ok-add, in_default}

@@ -3,7 +3,7 @@ use Rattle.std.specs.Option.{option_map}
 use Rattle.lef_grammar.specs.Definitions.{rule_layer_record, rule_layer_with, opened_rule_layer}
 use Rattle.lef_reader.specs.StatementViews.{lef_view}
 use Rattle.cell_library.specs.RuleViews.{rule_layer_name, rule_layer_view}
-use Rattle.cell_library.specs.Records.{word_view}
+use Rattle.lefdef_tokens.specs.Views.{word_view}
 use Rattle.cell_library.proofs.AddingLemmas.{added_at, none_at, at_end}
 use Rattle.cell_library.proofs.rule.read_rule_layers.Goals as goal
 use Rattle.cell_library.proofs.rule.read_rule_layers.Goals.{in-Some+in_ok-add, in_default}

@@ -3,7 +3,7 @@ use Rattle.std.specs.Option.{option_map}
 use Rattle.lef_grammar.specs.Definitions.{site_record, site_with, opened_site}
 use Rattle.lef_reader.specs.StatementViews.{lef_view}
 use Rattle.cell_library.specs.SiteViews.{site_name, site_view}
-use Rattle.cell_library.specs.Records.{word_view}
+use Rattle.lefdef_tokens.specs.Views.{word_view}
 use Rattle.cell_library.proofs.AddingLemmas.{added_at, none_at, at_end}
 use Rattle.cell_library.proofs.site.add_sites.Goals as goal
 use Rattle.cell_library.proofs.site.add_sites.Goals.{in-Some+in_ok-add, in_default}

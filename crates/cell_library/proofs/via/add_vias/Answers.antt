@@ -3,7 +3,7 @@ use Rattle.std.specs.Option.{option_map}
 use Rattle.lef_grammar.specs.Definitions.{via_record, via_with, opened_via}
 use Rattle.lef_reader.specs.StatementViews.{lef_view}
 use Rattle.cell_library.specs.ViaViews.{via_name, via_view}
-use Rattle.cell_library.specs.Records.{word_view}
+use Rattle.lefdef_tokens.specs.Views.{word_view}
 use Rattle.cell_library.proofs.AddingLemmas.{added_at, none_at, at_end}
 use Rattle.cell_library.proofs.via.add_vias.Goals as goal
 use Rattle.cell_library.proofs.via.add_vias.Goals.{in-Some+in_ok-via+in_ok-add, in_default}

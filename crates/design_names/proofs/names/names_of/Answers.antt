@@ -1,6 +1,7 @@
 use Rattle.std.proofs.Common.{ap, drop}
 use Rattle.std.proofs.lemmas.List.{drop_all}
-use Rattle.design_names.specs.NameViews.{lent_entry, records_view}
+use Rattle.def_reader.specs.StatementViews.{records_view}
+use Rattle.design_names.specs.NameViews.{lent_entry}
 use Rattle.design_names.proofs.TableLemmas.{passed_all}
 use Rattle.design_names.proofs.names.names_of.Goals as goal
 

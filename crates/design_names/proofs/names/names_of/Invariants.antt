@@ -1,5 +1,6 @@
 use Rattle.std.proofs.Common.{drop}
-use Rattle.design_names.specs.NameViews.{lent_entry, records_view}
+use Rattle.def_reader.specs.StatementViews.{records_view}
+use Rattle.design_names.specs.NameViews.{lent_entry}
 use Rattle.design_names.proofs.TableLemmas.{Passed}
 use Rattle.design_names.proofs.names.names_of.Given as goal
 

@@ -1,5 +1,5 @@
 use Rattle.std.proofs.Common.{◌++◌, ℕ, List, drop}
-use Rattle.design_names.specs.NameViews.{records_view}
+use Rattle.def_reader.specs.StatementViews.{records_view}
 use Rattle.design_wires.specs.Defined.{defined}
 use Rattle.design_wires.specs.KnownVias.{HasOthers, names_in_def}
 use Rattle.design_wires.proofs.via_table.add_those_of_def.Given as goal

@@ -1,5 +1,5 @@
 use Rattle.std.proofs.Common.{◌++◌}
-use Rattle.design_names.specs.NameViews.{records_view}
+use Rattle.def_reader.specs.StatementViews.{records_view}
 use Rattle.cell_library.specs.ViaViews.{vias_view}
 use Rattle.design_wires.specs.Defined.{defined}
 use Rattle.design_wires.specs.KnownVias.{HasOthers, names_in_def, names_in_lef}

@@ -1,5 +1,5 @@
 use Rattle.std.proofs.Common.{◌≡◌, ◌++◌, drop, flat_map}
-use Rattle.design_names.specs.NameViews.{records_view}
+use Rattle.def_reader.specs.StatementViews.{records_view}
 use Rattle.entry_rules.specs.OffLayer.{off_layer_lines_of}
 use Rattle.entry_rules.specs.ViaLayers.{via_layers}
 use Rattle.entry_checks.specs.Views.{diag_texts}

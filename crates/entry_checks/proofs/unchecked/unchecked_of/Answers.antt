@@ -1,7 +1,6 @@
 use Rattle.std.proofs.Common.{flat_map}
-use Rattle.def_reader.specs.StatementViews.{record_view}
+use Rattle.def_reader.specs.StatementViews.{record_view, records_view}
 use Rattle.entry_rules.specs.Unchecked.{unchecked_lines_of}
-use Rattle.design_names.specs.NameViews.{records_view}
 use Rattle.entry_checks.specs.UncheckedViews.{unchecked_of_macro, unchecked_of_via}
 use Rattle.entry_checks.proofs.ReportSteps.{all_read, in_order}
 use Rattle.entry_checks.proofs.unchecked.unchecked_of.Goals as goal

@@ -1,6 +1,6 @@
 use Rattle.std.proofs.Common.{◌≡◌, ◌++◌, drop, flat_map}
 use Rattle.entry_rules.specs.Unchecked.{unchecked_lines_of}
-use Rattle.design_names.specs.NameViews.{records_view}
+use Rattle.def_reader.specs.StatementViews.{records_view}
 use Rattle.entry_checks.specs.Views.{diag_texts}
 use Rattle.entry_checks.proofs.unchecked.unchecked_of.Given as goal
 

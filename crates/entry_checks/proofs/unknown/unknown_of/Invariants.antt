@@ -1,6 +1,6 @@
 use Rattle.std.proofs.Common.{◌≡◌, ◌++◌, drop, flat_map}
 use Rattle.entry_rules.specs.Unknown.{unknown_lines, unknown_lines_of}
-use Rattle.design_names.specs.NameViews.{records_view}
+use Rattle.def_reader.specs.StatementViews.{records_view}
 use Rattle.entry_checks.specs.Views.{diag_texts, known_view}
 use Rattle.entry_checks.proofs.unknown.unknown_of.Given as goal
 

@@ -1,5 +1,5 @@
 use Rattle.std.proofs.Common.{◌≡◌, ◌++◌, drop, map}
-use Rattle.cell_library.specs.Records.{word_view}
+use Rattle.lefdef_tokens.specs.Views.{word_view}
 use Rattle.place_checks.specs.Patterns.{regions_for, starred_view}
 use Rattle.place_checks.proofs.assignment_table.push_matching.Given as goal
 

@@ -1,7 +1,8 @@
 use Rattle.std.proofs.Common.{◌≡◌, ◌++◌, drop, map}
 use Rattle.std.specs.List.{filter_map}
 use Rattle.design_rules.specs.Boxes.{box_of}
-use Rattle.place_checks.specs.Views.{boxed_view, records_view}
+use Rattle.def_reader.specs.StatementViews.{records_view}
+use Rattle.place_checks.specs.Views.{boxed_view}
 use Rattle.place_checks.proofs.boxes.boxes_of.Given as goal
 
 abbrev pub invariant-loop-statement : goal.invariant-loop-statement

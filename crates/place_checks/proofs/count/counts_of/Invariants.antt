@@ -1,6 +1,7 @@
 use Rattle.std.proofs.Common.{◌≡◌, ◌++◌, drop}
 use Rattle.design_rules.specs.CountLines.{count_lines}
-use Rattle.place_checks.specs.Views.{diag_texts, records_view}
+use Rattle.def_reader.specs.StatementViews.{records_view}
+use Rattle.place_checks.specs.Views.{diag_texts}
 use Rattle.place_checks.proofs.count.counts_of.Given as goal
 
 abbrev pub invariant-loop-i : goal.invariant-loop-i

@@ -1,6 +1,6 @@
 use Rattle.std.proofs.Common.{◌≡◌, ◌+◌, ◌≤◌, drop}
 use Rattle.design_rules.specs.CountLines.{entries}
-use Rattle.place_checks.specs.Views.{records_view}
+use Rattle.def_reader.specs.StatementViews.{records_view}
 use Rattle.place_checks.proofs.count.entries_before_end.Given as goal
 
 abbrev pub invariant-loop-statement : goal.invariant-loop-statement

@@ -1,5 +1,5 @@
 use Rattle.std.proofs.Common.{append_assoc, map}
-use Rattle.cell_library.specs.Records.{word_view}
+use Rattle.lefdef_tokens.specs.Views.{word_view}
 use Rattle.place_checks.specs.IndexViews.{surroundings_view}
 use Rattle.place_checks.specs.Views.{boxed_view}
 use Rattle.place_checks.proofs.SurroundingLemmas.{lines_by_regions}

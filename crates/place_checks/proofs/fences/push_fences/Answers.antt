@@ -1,5 +1,5 @@
 use Rattle.std.proofs.Common.{map, drop, ◌+◌, ap, sym, ◌∙◌}
-use Rattle.cell_library.specs.Records.{word_view}
+use Rattle.lefdef_tokens.specs.Views.{word_view}
 use Rattle.design_model.specs.Views.{rectangle_of}
 use Rattle.place_checks.specs.PlaceViews.{fence_view}
 use Rattle.place_checks.specs.Views.{boxed_view}

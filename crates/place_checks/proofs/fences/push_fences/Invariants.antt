@@ -1,5 +1,5 @@
 use Rattle.std.proofs.Common.{◌≡◌, ◌++◌, drop, map}
-use Rattle.cell_library.specs.Records.{word_view}
+use Rattle.lefdef_tokens.specs.Views.{word_view}
 use Rattle.place_checks.specs.FenceLines.{fence_lines_in}
 use Rattle.place_checks.specs.PlaceViews.{fence_view}
 use Rattle.place_checks.specs.Views.{boxed_view, diag_texts}

@@ -2,7 +2,7 @@ use Rattle.std.proofs.Common.{◌≡◌, ◌++◌, drop, map}
 use Rattle.std.specs.List.{filter_map}
 use Rattle.design_rules.specs.Surroundings.{placed_row, row_of}
 use Rattle.place_checks.specs.PlaceViews.{placed_row_view}
-use Rattle.place_checks.specs.Views.{records_view}
+use Rattle.def_reader.specs.StatementViews.{records_view}
 use Rattle.place_checks.proofs.floor.rows_of.Given as goal
 
 abbrev pub invariant-loop-statement : goal.invariant-loop-statement

@@ -1,6 +1,6 @@
 use Rattle.std.proofs.Common.{◌≡◌, drop}
 use Rattle.design_rules.specs.Boxes.{scale}
-use Rattle.place_checks.specs.Views.{records_view}
+use Rattle.def_reader.specs.StatementViews.{records_view}
 use Rattle.place_checks.proofs.scale.scale_of.Given as goal
 
 abbrev pub invariant-loop-statement : goal.invariant-loop-statement

@@ -1,5 +1,5 @@
 use Rattle.design_rules.specs.Surroundings.{surroundings}
-use Rattle.place_checks.specs.Views.{records_view}
+use Rattle.def_reader.specs.StatementViews.{records_view}
 use Rattle.place_checks.proofs.SurroundingLemmas.{same_lines}
 use Rattle.place_checks.proofs.surroundings.surroundings_of.Goals as goal
 

@@ -1,5 +1,5 @@
 use Rattle.std.proofs.Common.{ap, map}
-use Rattle.cell_library.specs.Records.{word_view}
+use Rattle.lefdef_tokens.specs.Views.{word_view}
 use Rattle.place_checks.specs.Views.{boxed_view}
 use Rattle.place_checks.proofs.PatternLemmas.{regions_are}
 use Rattle.place_checks.proofs.assignment_table.AssignmentTable.regions_of.Goals as goal

@@ -7,7 +7,6 @@ use Rattle.design_model.specs.Units.{are_digits, decimal_value, is_minus, signed
 use Rattle.design_model.specs.declared.number.NumFault.TheVariants.{Form, Range}
 use Rattle.def_grammar.specs.Numbers.{int_of, number_or_0}
 use Rattle.wire_rules.specs.Ranges.{IsWithin}
-use Rattle.wire_shapes.proofs.Bits.{coordinate}
 use mir.Syntax.{w32, w64}
 use mir.Val.{to_z, of_z}
 
@@ -25,7 +24,7 @@ number_within true false minus n h = zero_within
 number_within true true minus n h = signed_within minus n (h refl)
 
 -- a word that is a number is within plus or minus 2147483647
-pub int_within : (word : List ℕ) → IsWithin 2147483647 (int_of word)
+int_within : (word : List ℕ) → IsWithin 2147483647 (int_of word)
 unfolding whole
 int_within word =
     number_within (are_digits (unsigned word)) (nat_le (decimal_value (unsigned word)) 2147483647) (is_minus word) (decimal_value (unsigned word))
@@ -34,8 +33,11 @@ int_within word =
 narrow : (z : ℤ) → IsWithin 2147483647 z → to_z w32 (of_z w32 z) ≡ z
 narrow z w = omega (arith, ints)
 
+wide : (z : ℤ) → IsWithin 2147483647 z → to_z w64 (of_z w64 z) ≡ z
+wide z w = omega (arith, ints)
+
 -- also as the program's words have it
 pub int_in_bits : (z : ℤ) (word : List ℕ) → z ≡ int_of word → IsWithin 2147483647 (to_z w64 (of_z w64 (to_z w32 (of_z w32 z))))
 int_in_bits z word e =
     let w : IsWithin 2147483647 z = rw e (int_within word) in
-    rw (narrow z w, coordinate z w) w
+    rw (narrow z w, wide z w) w

@@ -1,8 +1,0 @@
-use Rattle.std.proofs.Common.{◌≡◌, drop, map}
-use Rattle.std.specs.List.{list_any}
-use Rattle.std.specs.Str.{bytes_eq}
-use Rattle.cell_library.specs.Records.{word_view}
-use Rattle.place_checks.proofs.rows.is_among.Given as goal
-
-abbrev pub invariant-loop-other : goal.invariant-loop-other
-invariant-loop-other l = list_any (bytes_eq l.name) (map word_view (drop l.other-index l.names)) ≡ list_any (bytes_eq l.name) (map word_view l.names)
