@@ -38,6 +38,7 @@ pub struct Names<'r, 't, A: Allocator = Global> {
 impl<'r, 't, A: Allocator> Model for Names<'r, 't, A> {
     ghost use Rattle.std.specs.Prelude.{List};
     ghost use Rattle.def_grammar.specs.Records.{Record};
+    ghost use Rattle.def_reader.specs.StatementViews.{records_view};
     ghost use Rattle.design_names.specs.NameViews.{lent_entry};
     ghost use Rattle.design_names.specs.Tables.{HasFirsts};
 

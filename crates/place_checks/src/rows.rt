@@ -2,6 +2,7 @@
 
 ghost use Rattle.std.specs.Prelude.{◌≡◌, ◌++◌, OnOk, map};
 ghost use Rattle.std.specs.Option.{option_map};
+ghost use Rattle.lefdef_tokens.specs.Views.{word_view};
 ghost use Rattle.design_rules.specs.PlaceLines.{is_held_by, is_row_class, row_lines};
 ghost use Rattle.place_checks.specs.IndexViews.{rows_view};
 ghost use Rattle.place_checks.specs.PlaceViews.{placed_row_view};
