@@ -37,7 +37,7 @@ pub fn mask_at<'t>(cursor: Cursor<'t>) -> Option<(Option<Token<'t>>, Cursor<'t>)
     ensures lent { IfSome result (λ x. MaskIn cursor.entry.tokens.text.now x.0) }
 {
     if cursor.next_is(b"MASK") {
-        let (word, cursor) = cursor.key(b"MASK")?.plain_word()?;
+        let (word, cursor) = cursor.plain_word_behind(b"MASK")?;
         Some((Some(word), cursor))
     } else {
         Some((None, cursor))

@@ -8,10 +8,10 @@ use Rattle.place_parts.specs.AgainViews.{BlockageAtIn, RegionAtIn, blockage_at_v
 use Rattle.place_parts.specs.ComponentViews.{ComponentIn, component_view}
 use Rattle.place_parts.specs.GroupViews.{GroupIn, group_view}
 use Rattle.place_parts.specs.PinViews.{PinIn, pin_view}
+use Rattle.via_parts.specs.RuleViews.{RuleIn, rule_view}
+use Rattle.via_parts.specs.ViaViews.{ViaIn, via_view}
 use Rattle.wire_parts.specs.NetViews.{NetEntryIn, net_entry_view}
-use Rattle.wire_parts.specs.RuleViews.{RuleIn, rule_view}
 use Rattle.wire_parts.specs.SpecialNetViews.{SpecialNetIn, special_net_view}
-use Rattle.wire_parts.specs.ViaViews.{ViaIn, via_view}
 use Rattle.def_reader.specs.declared.entry.Entry as code
 use Rattle.def_reader.specs.declared.entry.Entry.TheVariants as variants
 

@@ -17,10 +17,10 @@ use place_parts::component_parts::ComponentParts;
 use place_parts::groups::{GroupParts, group_at};
 use place_parts::pins::{PinParts, pin_at};
 use place_parts::read_again::{BlockageAt, RegionAt};
+use via_parts::rules::{RuleParts, rule_at};
+use via_parts::vias::{ViaParts, via_at};
 use wire_parts::nets::{NetEntry, net_entry_at};
-use wire_parts::rules::{RuleParts, rule_at};
 use wire_parts::special_nets::{SpecialNetParts, special_net_at};
-use wire_parts::vias::{ViaParts, via_at};
 
 /// An entry of a section, with parts that borrow the text.
 #[derive(Clone, Copy, Drop)]

@@ -7,10 +7,10 @@ use Rattle.def_grammar.specs.Records.{Entry, component}
 use Rattle.def_grammar.specs.Rules.{Rule}
 use Rattle.place_parts.specs.ComponentViews.{component_view}
 use Rattle.place_parts.specs.declared.component_parts.ComponentParts.{ComponentParts}
-use Rattle.wire_parts.specs.RuleViews.{rule_view}
-use Rattle.wire_parts.specs.ViaViews.{via_view}
-use Rattle.wire_parts.specs.declared.rules.RuleParts.{RuleParts}
-use Rattle.wire_parts.specs.declared.vias.ViaParts.{ViaParts}
+use Rattle.via_parts.specs.RuleViews.{rule_view}
+use Rattle.via_parts.specs.ViaViews.{via_view}
+use Rattle.via_parts.specs.declared.rules.RuleParts.{RuleParts}
+use Rattle.via_parts.specs.declared.vias.ViaParts.{ViaParts}
 use Rattle.def_reader.specs.EntryViews.{entry_view}
 use Rattle.def_reader.specs.declared.entry.Entry as code
 

@@ -19,8 +19,8 @@ use place_parts::component_parts::ComponentParts;
 use std::alloc::{AllocError, Allocator, Global};
 use std::hash::{BuildHasherDefault, FoldHasher};
 use std::marker::Model;
-use wire_parts::rules::RuleParts;
-use wire_parts::vias::ViaParts;
+use via_parts::rules::RuleParts;
+use via_parts::vias::ViaParts;
 
 /// The word of a section, and the name of one of its entries.
 type Key<'t> = (&'static [u8], &'t [u8]);

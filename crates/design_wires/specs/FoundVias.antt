@@ -8,7 +8,7 @@ use Rattle.lef_grammar.specs.Library.{Library, via_named}
 use Rattle.entry_rules.specs.ViaLayers.{def_via_named, or_lef}
 use Rattle.net_rules.specs.ViaRectangles.{body_shapes, def_via_shapes}
 use Rattle.wire_rules.specs.ViaShapes.{NamedShape}
-use Rattle.wire_parts.specs.ViaViews.{via_view}
+use Rattle.via_parts.specs.ViaViews.{via_view}
 use Rattle.cell_library.specs.ViaViews.{body_view}
 use Rattle.design_wires.specs.declared.via_view.ViaView.{ViaView}
 use Rattle.design_wires.specs.declared.via_view.ViaView.TheVariants.{Def, Lef}

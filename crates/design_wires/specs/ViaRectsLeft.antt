@@ -3,8 +3,8 @@
 use Rattle.std.specs.Prelude.{List, [], ◌++◌, map, flat_map, Option, Some, None}
 use Rattle.std.specs.List.{filter_map}
 use Rattle.statement_reader.specs.declared.parts.Parts.{Parts}
-use Rattle.wire_parts.specs.ViaViews.{via_clauses_of}
-use Rattle.wire_parts.specs.declared.vias.ViaClause.{ViaClause}
+use Rattle.via_parts.specs.ViaViews.{via_clauses_of}
+use Rattle.via_parts.specs.declared.vias.ViaClause.{ViaClause}
 use Rattle.cell_library.specs.Numbers.{rectangle_view}
 use Rattle.cell_library.specs.ShapeViews.{shapes_view}
 use Rattle.net_rules.specs.ViaRectangles.{listed_shape, shapes_on}

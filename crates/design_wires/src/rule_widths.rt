@@ -3,7 +3,7 @@
 ghost use Rattle.std.specs.Prelude.{◌≡◌, ℕ, List, IfSome};
 ghost use Rattle.std.specs.Option.{option_map};
 ghost use Rattle.def_grammar.specs.Numbers.{int_of};
-ghost use Rattle.wire_parts.specs.RuleViews.{rule_view, rule_clauses_of};
+ghost use Rattle.via_parts.specs.RuleViews.{rule_view, rule_clauses_of};
 ghost use Rattle.cell_library.specs.RuleViews.{rule_view as lef_rule_view};
 ghost use Rattle.net_rules.specs.Widths.{def_rule_width, lef_rule_width};
 ghost use Rattle.wire_rules.specs.Ranges.{IsWithin};
@@ -17,7 +17,7 @@ use def_parts::number::int_of;
 use lefdef_tokens::is_word;
 use statement_reader::parts::Parts;
 use std::alloc::Allocator;
-use wire_parts::rules::{RuleClause, RuleParts};
+use via_parts::rules::{RuleClause, RuleParts};
 
 /// The width of the first `LAYER` of a name among clauses of a rule.
 fn first_width<'t>(clauses: Parts<'t, RuleClause<'t>>, layer: &[u8]) -> Option<i64>

@@ -10,7 +10,7 @@ ghost use Rattle.def_parts.specs.PointViews.{point_view};
 ghost use Rattle.entry_rules.specs.ViaLayers.{rule_of_via};
 ghost use Rattle.net_rules.specs.ViaRectangles.{layer_names, metals_of};
 ghost use Rattle.cell_library.specs.ViaViews.{array_view, names_view};
-ghost use Rattle.wire_parts.specs.ViaViews.{by_layer_view, via_clause_view, via_clauses_of, via_layers_view};
+ghost use Rattle.via_parts.specs.ViaViews.{by_layer_view, via_clause_view, via_clauses_of, via_layers_view};
 ghost use Rattle.wire_rules.specs.Ranges.{IsPointWithin};
 ghost use Rattle.design_wires.specs.PlanClauses.{all_said, first_said, firsts_said, said_by, said_in};
 ghost use Rattle.design_wires.specs.PlanViews.{AreNear, IsPlan, metals_view};
@@ -21,7 +21,7 @@ use def_parts::number::int_of;
 use def_parts::point::Coordinates;
 use design_model::geometry::Point;
 use statement_reader::parts::Parts;
-use wire_parts::vias::{ByLayer, CutArray as CutCounts, ViaClause, ViaLayers};
+use via_parts::vias::{ByLayer, CutArray as CutCounts, ViaClause, ViaLayers};
 
 /// Whether a rule of LEF generates a via with these clauses.
 pub(crate) fn is_generated<'t>(clauses: Parts<'t, ViaClause<'t>>) -> bool

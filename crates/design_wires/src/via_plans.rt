@@ -6,7 +6,7 @@ ghost use Rattle.lef_grammar.specs.Measures.{point_in};
 ghost use Rattle.net_rules.specs.ViaRectangles.{def_generated, lef_generated, metals_in};
 ghost use Rattle.cell_library.specs.Numbers.{point_view};
 ghost use Rattle.cell_library.specs.ViaViews.{generated_view, metals_view as micron_metals};
-ghost use Rattle.wire_parts.specs.ViaViews.{via_view};
+ghost use Rattle.via_parts.specs.ViaViews.{via_view};
 ghost use Rattle.wire_rules.specs.Ranges.{IsPointWithin};
 ghost use Rattle.design_wires.specs.PlanViews.{AreNear, IsPlan, metals_view, plan_view};
 ghost use Rattle.design_wires.specs.Scales.{units_of};
@@ -17,7 +17,7 @@ use crate::via_plan::{Metals, ViaPlan};
 use cell_library::numbers::MicronPoint;
 use cell_library::via::{GeneratedVia, MetalPoints};
 use design_model::geometry::Point;
-use wire_parts::vias::ViaParts;
+use via_parts::vias::ViaParts;
 
 /// What an entry of VIAS says of a generated via, by the first clause of each kind.
 pub(crate) fn plan_in_def<'a, 't: 'a>(via: &'a ViaParts<'t>) -> ViaPlan<'a>

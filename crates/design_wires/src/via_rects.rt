@@ -6,7 +6,7 @@ ghost use Rattle.std.specs.Option.{option_map};
 ghost use Rattle.cell_library.specs.ViaViews.{body_view};
 ghost use Rattle.design_model.specs.Views.{rectangle_of};
 ghost use Rattle.net_rules.specs.ViaRectangles.{body_shapes, def_via_shapes, listed_shape, shapes_if};
-ghost use Rattle.wire_parts.specs.ViaViews.{via_clause_view, via_view};
+ghost use Rattle.via_parts.specs.ViaViews.{via_clause_view, via_view};
 ghost use Rattle.wire_rules.specs.Ranges.{IsBoxWithin};
 ghost use Rattle.wire_shapes.specs.RuleViews.{GivesShape, shape_reach, shape_view};
 ghost use Rattle.design_wires.specs.FoundVias.{found_view, shapes_of};
@@ -25,7 +25,7 @@ use cell_library::via::ViaBody;
 use cell_library::via_definition::Via;
 use statement_reader::parts::Parts;
 use std::alloc::{Allocator, Global};
-use wire_parts::vias::{ViaClause, ViaParts};
+use via_parts::vias::{ViaClause, ViaParts};
 use wire_shapes::{GeneratedShapes, LayerShape, LayerShapes};
 
 /// What is left of a via: clauses of an entry of VIAS, rectangles of LEF, or shapes of a generated via.

@@ -8,7 +8,7 @@ use cell_library::library::Library;
 use cell_library::via_definition::Via;
 use design_names::names::Names;
 use std::alloc::{Allocator, Global};
-use wire_parts::vias::ViaParts;
+use via_parts::vias::ViaParts;
 
 /// A via of the design, or one of the library.
 #[derive(Clone, Copy)]

@@ -5,7 +5,7 @@ ghost use Rattle.def_grammar.specs.Records.{blockage};
 ghost use Rattle.place_parts.specs.BlockageViews.{blockage_entry_view, blockage_shape_view, blockage_shapes_of};
 ghost use Rattle.place_parts.specs.DieAreaViews.{die_area_view};
 ghost use Rattle.place_parts.specs.PinViews.{pin_clauses_of};
-ghost use Rattle.wire_parts.specs.ViaViews.{via_clauses_of};
+ghost use Rattle.via_parts.specs.ViaViews.{via_clauses_of};
 ghost use Rattle.def_reader.specs.EntryViews.{entry_view};
 ghost use Rattle.entry_rules.specs.Unchecked.{is_blocked_polygon, is_more, is_polygon_of_pin, is_polygon_of_via, one_if, unchecked_in};
 
@@ -17,7 +17,7 @@ use place_parts::blockages::{BlockageEntry, BlockageShape};
 use place_parts::die_area::DieAreaParts;
 use place_parts::pins::PinClause;
 use statement_reader::parts::Parts;
-use wire_parts::vias::ViaClause;
+use via_parts::vias::ViaClause;
 
 /// How many clauses of a pin are polygons.
 fn polygons_of_pin<'t>(clauses: Parts<'t, PinClause<'t>>) -> usize

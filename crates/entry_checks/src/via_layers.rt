@@ -5,7 +5,7 @@ ghost use Rattle.std.specs.List.{filter_map};
 ghost use Rattle.std.specs.Option.{option_map};
 ghost use Rattle.lef_grammar.specs.Firsts.{first_of};
 ghost use Rattle.wire_rules.specs.Paths.{other_layer};
-ghost use Rattle.wire_parts.specs.ViaViews.{via_clause_view, via_clauses_of, via_layers_view, via_view};
+ghost use Rattle.via_parts.specs.ViaViews.{via_clause_view, via_clauses_of, via_layers_view, via_view};
 ghost use Rattle.cell_library.specs.ShapeViews.{shapes_view};
 ghost use Rattle.cell_library.specs.ViaViews.{body_view};
 ghost use Rattle.lefdef_tokens.specs.Views.{word_view};
@@ -22,7 +22,7 @@ use cell_library::via_definition::Via;
 use design_names::names::Names;
 use statement_reader::parts::Parts;
 use std::alloc::Allocator;
-use wire_parts::vias::{ViaClause, ViaLayers, ViaParts};
+use via_parts::vias::{ViaClause, ViaLayers, ViaParts};
 use wire_shapes::ViaOn;
 
 /// Whether a rule of LEF generates a via with these clauses.

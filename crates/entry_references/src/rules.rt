@@ -2,13 +2,13 @@
 
 ghost use Rattle.std.specs.Prelude.{◌≡◌, ◌++◌, OnOk};
 ghost use Rattle.std.specs.List.{list_any};
-ghost use Rattle.wire_parts.specs.RuleViews.{rule_view};
+ghost use Rattle.via_parts.specs.RuleViews.{rule_view};
 ghost use Rattle.entry_rules.specs.References.{rule_references};
 ghost use Rattle.entry_references.specs.ReferenceViews.{is_to_layer, references_view};
 
 use crate::reference::{Reference, push};
 use std::alloc::{AllocError, Allocator};
-use wire_parts::rules::{RuleClause, RuleParts};
+use via_parts::rules::{RuleClause, RuleParts};
 
 /// Whether one of these is a reference to this layer.
 fn has_layer(found: &[Reference<'_>], layer: &[u8]) -> bool

@@ -4,14 +4,14 @@ ghost use Rattle.std.specs.Prelude.{◌≡◌, ◌++◌, map, OnOk};
 ghost use Rattle.std.specs.List.{filter_map};
 ghost use Rattle.std.specs.Option.{option_map};
 ghost use Rattle.lef_grammar.specs.Firsts.{first_of};
-ghost use Rattle.wire_parts.specs.ViaViews.{via_clauses_of, via_layers_view, via_view};
+ghost use Rattle.via_parts.specs.ViaViews.{via_clauses_of, via_layers_view, via_view};
 ghost use Rattle.entry_rules.specs.References.{layer_of_shape, layers_of_clause, to_layer, via_references};
 ghost use Rattle.entry_references.specs.ReferenceViews.{references_view};
 
 use crate::reference::{Reference, push};
 use statement_reader::parts::Parts;
 use std::alloc::{AllocError, Allocator};
-use wire_parts::vias::{ViaClause, ViaLayers, ViaParts};
+use via_parts::vias::{ViaClause, ViaLayers, ViaParts};
 
 /// Adds the layers of the rectangles and polygons of a via.
 fn push_shape_layers<'t, A: Allocator>(

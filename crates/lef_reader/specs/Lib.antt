@@ -10,4 +10,5 @@ pub mod PortViews
 pub mod RuleViews
 pub mod SiteViews
 pub mod StatementViews
+pub mod Stepping
 pub mod ViaViews

@@ -1,15 +1,43 @@
 //! The statements of a LEF text, one at a time.
 
-ghost use Rattle.std.specs.Prelude.{◌≡◌, IfOk, IfSome};
+ghost use Rattle.std.specs.Prelude.{◌≡◌, ◌≤◌, length, IfOk, IfSome};
+ghost use Rattle.lef_reader.specs.Stepping.{Steps};
 ghost use Rattle.lef_reader.specs.Events.{after_next, events_of, found_view, next_record};
 ghost use Rattle.lef_reader.specs.StatementViews.{StatementIn};
 
 use crate::block::Block;
-use crate::read_lef::read_lef_statement;
 use crate::statement::LefStatement;
 use design_model::MAX_TEXT;
 use design_model::fault::{Fault, FaultCode};
+use statement_reader::grammar::Statement;
+use statement_reader::read_statement::read_statement;
 use std::marker::Model;
+
+/// The next statement from a place and a position on, which then stand behind it.
+#[inline(always)]
+fn step<'t, S: Statement<'t>>(
+    place: &mut S::Place,
+    text: &'t [u8],
+    pos: &mut usize,
+) -> Result<Option<S>, Fault>
+    requires { pos.old ≤ length text.now }
+    ensures within { pos.new ≤ length text.now }
+    ensures gives { Steps S.grammar S.place_view S.view text.now place.old pos.old result place.new pos.new }
+    ensures lent { IfOk result (λ found. IfSome found (λ s. S.lent text.now s)) }
+{
+    if text.len() > MAX_TEXT {
+        return Err(Fault {
+            code: FaultCode::TooLong,
+            pos: 0,
+        });
+    }
+    let Some(read) = read_statement::<S>(*place, text, *pos)? else {
+        return Ok(None);
+    };
+    *place = read.place;
+    *pos = read.end;
+    Ok(Some(read.statement))
+}
 
 /// Gives the statements of a text in order, and then its end or its fault, for good.
 #[derive(Drop)]
@@ -48,19 +76,6 @@ impl<'l> LefEvents<'l> {
         ensures left { self.new ≡ after_next self.old }
         ensures lent { IfOk result (λ found. IfSome found (λ s. StatementIn self.old.text s)) }
     {
-        if self.text.len() > MAX_TEXT {
-            return Err(Fault {
-                code: FaultCode::TooLong,
-                pos: 0,
-            });
-        }
-        match read_lef_statement(self.block, self.text, self.pos)? {
-            Some(read) => {
-                self.block = read.place;
-                self.pos = read.end;
-                Ok(Some(read.statement))
-            }
-            None => Ok(None),
-        }
+        step::<LefStatement<'l>>(&mut self.block, self.text, &mut self.pos)
     }
 }

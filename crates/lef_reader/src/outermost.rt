@@ -1,8 +1,9 @@
 //! Statements outside of all blocks (LEF/DEF 5.8 Language Reference, "LEF Syntax").
 
-ghost use Rattle.std.specs.Prelude.{◌≡◌, IfSome};
+ghost use Rattle.std.specs.Prelude.{◌≡◌, IfSome, codes};
 ghost use Rattle.form_meanings.specs.Words.{Gives};
-ghost use Rattle.statement_model.specs.Form.{read, right};
+ghost use Rattle.statement_model.specs.Form.{◌▸◌, empty, left, read, right};
+ghost use Rattle.lef_grammar.specs.Extents.{kept_statement};
 ghost use Rattle.lef_grammar.specs.Outermost.{bare_header, is_bare_header, is_named_header, is_rule_header, named_header, outermost_ending, outermost_statement, rule_header};
 ghost use Rattle.lefdef_tokens.specs.Views.{IsLater, rest_of};
 ghost use Rattle.statement_reader.specs.Endings.{ending_view};
@@ -114,15 +115,13 @@ fn named_at<'l>(cursor: Cursor<'l>) -> Option<(NamedHeader<'l>, Cursor<'l>)>
     ensures lent { IfSome result (λ x. NamedIn cursor.entry.tokens.text.now x.0) }
 {
     let (word, later) = cursor.next()?;
+    let (name, left) = later.name()?;
     if is_word(word.bytes, b"LAYER") {
-        let (name, cursor) = later.name()?;
-        Some((NamedHeader::Layer(name), cursor))
+        Some((NamedHeader::Layer(name), left))
     } else if is_word(word.bytes, b"SITE") {
-        let (name, cursor) = later.name()?;
-        Some((NamedHeader::Site(name), cursor))
+        Some((NamedHeader::Site(name), left))
     } else if is_word(word.bytes, b"MACRO") {
-        let (name, cursor) = later.name()?;
-        Some((NamedHeader::Macro(name), cursor))
+        Some((NamedHeader::Macro(name), left))
     } else {
         rule_header_at(cursor)
     }
@@ -148,6 +147,46 @@ fn bare_at<'l>(cursor: Cursor<'l>) -> Option<(BareHeader, Cursor<'l>)>
     }
 }
 
+/// `LIBRARY`, after `END`
+fn end_library_at<'l>(cursor: Cursor<'l>) -> Option<(OutermostStatement<'l>, Cursor<'l>)>
+    ensures gives { Gives (with_rest outermost_view) result (read (left (codes "LIBRARY" ▸ empty)) (rest_of cursor.entry)) }
+    ensures later { IfSome result (λ x. IsLater cursor.entry x.1) }
+    ensures lent { IfSome result (λ x. OutermostIn cursor.entry.tokens.text.now x.0) }
+{
+    let cursor = cursor.key(b"LIBRARY")?;
+    Some((OutermostStatement::EndLibrary, cursor))
+}
+
+/// The header of a block with a name, as a statement.
+fn opens_named_at<'l>(cursor: Cursor<'l>) -> Option<(OutermostStatement<'l>, Cursor<'l>)>
+    ensures gives { Gives (with_rest outermost_view) result (read (right (left named_header)) (rest_of cursor.entry)) }
+    ensures later { IfSome result (λ x. IsLater cursor.entry x.1) }
+    ensures lent { IfSome result (λ x. OutermostIn cursor.entry.tokens.text.now x.0) }
+{
+    let (header, cursor) = named_at(cursor)?;
+    Some((OutermostStatement::Named(header), cursor))
+}
+
+/// The header of a block without a name, as a statement.
+fn opens_bare_at<'l>(cursor: Cursor<'l>) -> Option<(OutermostStatement<'l>, Cursor<'l>)>
+    ensures gives { Gives (with_rest outermost_view) result (read (right (right (left bare_header))) (rest_of cursor.entry)) }
+    ensures later { IfSome result (λ x. IsLater cursor.entry x.1) }
+    ensures lent { IfSome result (λ x. OutermostIn cursor.entry.tokens.text.now x.0) }
+{
+    let (header, cursor) = bare_at(cursor)?;
+    Some((OutermostStatement::Bare(header), cursor))
+}
+
+/// A statement without meaning.
+fn kept_outside_at<'l>(cursor: Cursor<'l>) -> Option<(OutermostStatement<'l>, Cursor<'l>)>
+    ensures gives { Gives (with_rest outermost_view) result (read (right (right (right kept_statement))) (rest_of cursor.entry)) }
+    ensures later { IfSome result (λ x. IsLater cursor.entry x.1) }
+    ensures lent { IfSome result (λ x. OutermostIn cursor.entry.tokens.text.now x.0) }
+{
+    let ((word, others), cursor) = kept_at(cursor)?;
+    Some((OutermostStatement::Kept(word, others), cursor))
+}
+
 /// A statement outside of all blocks.
 #[tactic(auto, unfolding(lef_grammar::specs::Outermost::outermost_statement, lef_grammar::specs::Extents::kept_statement))]
 pub(crate) fn outermost_at<'l>(cursor: Cursor<'l>) -> Option<(OutermostStatement<'l>, Cursor<'l>)>
@@ -157,15 +196,12 @@ pub(crate) fn outermost_at<'l>(cursor: Cursor<'l>) -> Option<(OutermostStatement
 {
     let (word, later) = cursor.next()?;
     if is_word(word.bytes, b"END") {
-        Some((OutermostStatement::EndLibrary, later.key(b"LIBRARY")?))
+        end_library_at(later)
     } else if is_named_header(word.bytes) {
-        let (header, cursor) = named_at(cursor)?;
-        Some((OutermostStatement::Named(header), cursor))
+        opens_named_at(cursor)
     } else if is_bare_header(word.bytes) {
-        let (header, cursor) = bare_at(cursor)?;
-        Some((OutermostStatement::Bare(header), cursor))
+        opens_bare_at(cursor)
     } else {
-        let ((word, others), cursor) = kept_at(cursor)?;
-        Some((OutermostStatement::Kept(word, others), cursor))
+        kept_outside_at(cursor)
     }
 }

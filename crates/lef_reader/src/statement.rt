@@ -13,6 +13,7 @@ ghost use Rattle.lef_reader.specs.OutermostViews.{outermost_view};
 ghost use Rattle.lef_reader.specs.PinViews.{pin_view};
 ghost use Rattle.lef_reader.specs.RuleViews.{rule_view};
 ghost use Rattle.lef_reader.specs.StatementViews.{StatementIn, lef_view};
+ghost use Rattle.lef_reader.specs.Stepping.{ended};
 
 use crate::block::Block;
 use crate::kept_blocks::{KeptBlock, KeptStatement, RuleHeader, kept_block_at};
@@ -217,6 +218,19 @@ fn opened<'l>(block: Block<'l>, statement: &LefStatement<'l>) -> Block<'l>
     }
 }
 
+/// What was read, where no token is left behind it, and how many were left at the first invalid number.
+#[inline(always)]
+fn ended<'l, S: Copy + Drop>(found: Option<(S, Cursor<'l>)>) -> Option<(S, Option<usize>)>
+    ensures { result ≡ ended found.entry }
+{
+    let (statement, cursor) = found?;
+    if cursor.is_done() {
+        Some((statement, cursor.bad))
+    } else {
+        None
+    }
+}
+
 impl<'l> Statement<'l> for LefStatement<'l> {
     ghost use Rattle.lef_grammar.specs.LefRecords as model;
 
@@ -244,12 +258,7 @@ impl<'l> Statement<'l> for LefStatement<'l> {
         ensures gives { Gives (λ x. (lef_view x.0, x.1)) result (whole (lef_statement (block_view block.entry)) (words_of tokens.entry)) }
         ensures lent { IfSome result (λ x. StatementIn tokens.entry.text.now x.0) }
     {
-        let (statement, cursor) = statement_at(block, Cursor::start(tokens))?;
-        if cursor.is_done() {
-            Some((statement, cursor.bad))
-        } else {
-            None
-        }
+        ended(statement_at(block, Cursor::start(tokens)))
     }
 
     fn after(block: Block<'l>, statement: &LefStatement<'l>) -> Block<'l>

@@ -22,7 +22,8 @@ pub struct Cursor<'t> {
 
 impl<'t> Cursor<'t> {
     ghost use Rattle.std.specs.Prelude.{◌∷◌, List, [], length, false, ℕ, IfSome, MatchOption};
-    ghost use Rattle.form_meanings.specs.Words.{Gives, is_done, is_plain, is_place, is_plus, is_semicolon, is_stop, is_word, key, name_at, next_passes, next_word, noted, split_rest, word_that};
+    ghost use Rattle.form_meanings.specs.Words.{Gives, is_done, is_name, is_plain, is_place, is_plus, is_semicolon, is_stop, is_word, key, name_at, next_passes, next_word, noted, split_rest, word_that};
+    ghost use Rattle.statement_model.specs.Form.{◌▸◌, read, word};
     ghost use Rattle.lefdef_tokens.specs.Pieces.{StandsFirst};
     ghost use Rattle.lefdef_tokens.specs.Unseens.{IsFurther, unseen_rest};
     ghost use Rattle.lefdef_tokens.specs.Views.{IsIn, IsLater, rest_of, run_of, word_of, words_of};
@@ -155,6 +156,26 @@ impl<'t> Cursor<'t> {
         } else {
             None
         }
+    }
+
+    /// A name behind this very word.
+    #[inline(always)]
+    pub fn name_behind(self, keyword: &[u8]) -> Option<(Token<'t>, Cursor<'t>)>
+        ensures gives { Gives word_of result (read (keyword.now ▸ word is_name) (rest_of self.entry)) }
+        ensures slice { IfSome result (λ x. IsIn self.entry.tokens.text.now x.0) }
+        ensures later { IfSome result (λ x. IsLater self.entry x.1) }
+    {
+        self.key(keyword)?.name()
+    }
+
+    /// A word that begins no clause and ends no statement, behind this very word.
+    #[inline(always)]
+    pub fn plain_word_behind(self, keyword: &[u8]) -> Option<(Token<'t>, Cursor<'t>)>
+        ensures gives { Gives word_of result (read (keyword.now ▸ word is_plain) (rest_of self.entry)) }
+        ensures slice { IfSome result (λ x. IsIn self.entry.tokens.text.now x.0) }
+        ensures later { IfSome result (λ x. IsLater self.entry x.1) }
+    {
+        self.key(keyword)?.plain_word()
     }
 
     /// A word in the place of a number.

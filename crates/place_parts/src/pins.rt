@@ -1,8 +1,10 @@
 //! Entries of PINS (LEF/DEF 5.8 Language Reference, "Pins").
 
-ghost use Rattle.std.specs.Prelude.{◌≡◌, IfSome};
+ghost use Rattle.std.specs.Prelude.{◌≡◌, IfSome, codes};
 ghost use Rattle.form_meanings.specs.Words.{Gives, is_plus, next_passes};
-ghost use Rattle.statement_model.specs.Form.{read, right, spell};
+ghost use Rattle.statement_model.specs.Form.{◌▸◌, ◌⨟◌, empty, left, read, right, spell};
+ghost use Rattle.def_grammar.specs.Parts.{name, rest};
+ghost use Rattle.def_grammar.specs.Clauses.{kept_clause};
 ghost use Rattle.def_grammar.specs.Components.{is_status, placement};
 ghost use Rattle.def_grammar.specs.Pins.{clearance, pin_clause, pin_form, pin_rectangle, pin_shape, pin_via, pin_clause_body};
 ghost use Rattle.lefdef_tokens.specs.Views.{IsLater, rest_of};
@@ -138,6 +140,47 @@ fn pin_via_at<'t>(cursor: Cursor<'t>) -> Option<(PinVia<'t>, Cursor<'t>)>
     Some((PinVia { name, mask, at }, cursor))
 }
 
+/// `LAYER` and a rectangle
+fn rectangle_clause_at<'t>(cursor: Cursor<'t>) -> Option<(PinClause<'t>, Cursor<'t>)>
+    ensures gives { Gives (with_rest pin_clause_view) result (read (right (right (right (left (codes "LAYER" ▸ pin_rectangle))))) (rest_of cursor.entry)) }
+    ensures later { IfSome result (λ x. IsLater cursor.entry x.1) }
+    ensures lent { IfSome result (λ x. PinClauseIn cursor.entry.tokens.text.now x.0) }
+{
+    let (rectangle, cursor) = pin_rectangle_at(cursor.key(b"LAYER")?)?;
+    Some((PinClause::Rectangle(rectangle), cursor))
+}
+
+/// `VIA` and a via
+fn via_clause_at<'t>(cursor: Cursor<'t>) -> Option<(PinClause<'t>, Cursor<'t>)>
+    ensures gives { Gives (with_rest pin_clause_view) result (read (right (right (right (right (left (codes "VIA" ▸ pin_via)))))) (rest_of cursor.entry)) }
+    ensures later { IfSome result (λ x. IsLater cursor.entry x.1) }
+    ensures lent { IfSome result (λ x. PinClauseIn cursor.entry.tokens.text.now x.0) }
+{
+    let (via, cursor) = pin_via_at(cursor.key(b"VIA")?)?;
+    Some((PinClause::Via(via), cursor))
+}
+
+/// `POLYGON layer rest`
+fn polygon_clause_at<'t>(cursor: Cursor<'t>) -> Option<(PinClause<'t>, Cursor<'t>)>
+    ensures gives { Gives (with_rest pin_clause_view) result (read (right (right (right (right (right (left (codes "POLYGON" ▸ name ⨟ rest))))))) (rest_of cursor.entry)) }
+    ensures later { IfSome result (λ x. IsLater cursor.entry x.1) }
+    ensures lent { IfSome result (λ x. PinClauseIn cursor.entry.tokens.text.now x.0) }
+{
+    let (layer, cursor) = cursor.key(b"POLYGON")?.name()?;
+    let (rest, cursor) = cursor.rest();
+    Some((PinClause::Polygon(layer, rest), cursor))
+}
+
+/// `word rest`
+fn other_clause_at<'t>(cursor: Cursor<'t>) -> Option<(PinClause<'t>, Cursor<'t>)>
+    ensures gives { Gives (with_rest pin_clause_view) result (read (right (right (right (right (right (right kept_clause)))))) (rest_of cursor.entry)) }
+    ensures later { IfSome result (λ x. IsLater cursor.entry x.1) }
+    ensures lent { IfSome result (λ x. PinClauseIn cursor.entry.tokens.text.now x.0) }
+{
+    let (kept, cursor) = kept_clause_at(cursor)?;
+    Some((PinClause::Kept(kept), cursor))
+}
+
 /// A rectangle, a via, `POLYGON layer rest` or `word rest`
 #[tactic(auto, unfolding(def_grammar::specs::Pins::pin_shape))]
 fn pin_shape_at<'t>(cursor: Cursor<'t>) -> Option<(PinClause<'t>, Cursor<'t>)>
@@ -146,19 +189,44 @@ fn pin_shape_at<'t>(cursor: Cursor<'t>) -> Option<(PinClause<'t>, Cursor<'t>)>
     ensures lent { IfSome result (λ x. PinClauseIn cursor.entry.tokens.text.now x.0) }
 {
     if cursor.next_is(b"LAYER") {
-        let (rectangle, cursor) = pin_rectangle_at(cursor.key(b"LAYER")?)?;
-        Some((PinClause::Rectangle(rectangle), cursor))
+        rectangle_clause_at(cursor)
     } else if cursor.next_is(b"VIA") {
-        let (via, cursor) = pin_via_at(cursor.key(b"VIA")?)?;
-        Some((PinClause::Via(via), cursor))
+        via_clause_at(cursor)
     } else if cursor.next_is(b"POLYGON") {
-        let (layer, cursor) = cursor.key(b"POLYGON")?.name()?;
-        let (rest, cursor) = cursor.rest();
-        Some((PinClause::Polygon(layer, rest), cursor))
+        polygon_clause_at(cursor)
     } else {
-        let (kept, cursor) = kept_clause_at(cursor)?;
-        Some((PinClause::Kept(kept), cursor))
+        other_clause_at(cursor)
     }
+}
+
+/// `status ( x y ) orient`, as a clause
+fn placed_clause_at<'t>(cursor: Cursor<'t>) -> Option<(PinClause<'t>, Cursor<'t>)>
+    ensures gives { Gives (with_rest pin_clause_view) result (read (left placement) (rest_of cursor.entry)) }
+    ensures later { IfSome result (λ x. IsLater cursor.entry x.1) }
+    ensures lent { IfSome result (λ x. PinClauseIn cursor.entry.tokens.text.now x.0) }
+{
+    let (placement, cursor) = placement_at(cursor)?;
+    Some((PinClause::Placed(placement), cursor))
+}
+
+/// `NET name`
+fn net_clause_at<'t>(cursor: Cursor<'t>) -> Option<(PinClause<'t>, Cursor<'t>)>
+    ensures gives { Gives (with_rest pin_clause_view) result (read (right (left (codes "NET" ▸ name))) (rest_of cursor.entry)) }
+    ensures later { IfSome result (λ x. IsLater cursor.entry x.1) }
+    ensures lent { IfSome result (λ x. PinClauseIn cursor.entry.tokens.text.now x.0) }
+{
+    let (net, cursor) = cursor.name_behind(b"NET")?;
+    Some((PinClause::Net(net), cursor))
+}
+
+/// `PORT`
+fn port_clause_at<'t>(cursor: Cursor<'t>) -> Option<(PinClause<'t>, Cursor<'t>)>
+    ensures gives { Gives (with_rest pin_clause_view) result (read (right (right (left (codes "PORT" ▸ empty)))) (rest_of cursor.entry)) }
+    ensures later { IfSome result (λ x. IsLater cursor.entry x.1) }
+    ensures lent { IfSome result (λ x. PinClauseIn cursor.entry.tokens.text.now x.0) }
+{
+    let cursor = cursor.key(b"PORT")?;
+    Some((PinClause::Port, cursor))
 }
 
 /// A clause without its `+`
@@ -168,14 +236,11 @@ fn pin_clause_body_at<'t>(cursor: Cursor<'t>) -> Option<(PinClause<'t>, Cursor<'
     ensures lent { IfSome result (λ x. PinClauseIn cursor.entry.tokens.text.now x.0) }
 {
     if next_is_status(cursor) {
-        let (placement, cursor) = placement_at(cursor)?;
-        Some((PinClause::Placed(placement), cursor))
+        placed_clause_at(cursor)
     } else if cursor.next_is(b"NET") {
-        let (net, cursor) = cursor.key(b"NET")?.name()?;
-        Some((PinClause::Net(net), cursor))
+        net_clause_at(cursor)
     } else if cursor.next_is(b"PORT") {
-        let cursor = cursor.key(b"PORT")?;
-        Some((PinClause::Port, cursor))
+        port_clause_at(cursor)
     } else {
         pin_shape_at(cursor)
     }

@@ -1,8 +1,9 @@
 //! Entries of REGIONS (LEF/DEF 5.8 Language Reference, "Regions").
 
-ghost use Rattle.std.specs.Prelude.{◌≡◌, IfSome};
+ghost use Rattle.std.specs.Prelude.{◌≡◌, IfSome, codes};
 ghost use Rattle.form_meanings.specs.Words.{Gives, is_plus};
-ghost use Rattle.statement_model.specs.Form.{one_of, read, spell};
+ghost use Rattle.statement_model.specs.Form.{◌▸◌, left, on, one_of, read, right, spell};
+ghost use Rattle.def_grammar.specs.Clauses.{kept_clause};
 ghost use Rattle.def_grammar.specs.Points.{is_open};
 ghost use Rattle.def_grammar.specs.Regions.{later_corners, region_clause, region_form, region_kind_word, region_kinds};
 ghost use Rattle.lefdef_tokens.specs.Views.{IsLater, rest_of};
@@ -61,6 +62,39 @@ fn region_kind_at<'t>(cursor: Cursor<'t>) -> Option<(RegionKind, Cursor<'t>)>
     }
 }
 
+/// `TYPE kind`
+fn type_clause_at<'t>(cursor: Cursor<'t>) -> Option<(RegionClause<'t>, Cursor<'t>)>
+    ensures gives { Gives (with_rest region_clause_view) result (read (left (codes "TYPE" ▸ one_of region_kind_word region_kinds)) (rest_of cursor.entry)) }
+    ensures later { IfSome result (λ x. IsLater cursor.entry x.1) }
+    ensures lent { IfSome result (λ x. RegionClauseIn cursor.entry.tokens.text.now x.0) }
+{
+    let (kind, cursor) = region_kind_at(cursor.key(b"TYPE")?)?;
+    Some((RegionClause::Kind(kind), cursor))
+}
+
+/// `word rest`
+fn other_clause_at<'t>(cursor: Cursor<'t>) -> Option<(RegionClause<'t>, Cursor<'t>)>
+    ensures gives { Gives (with_rest region_clause_view) result (read (right kept_clause) (rest_of cursor.entry)) }
+    ensures later { IfSome result (λ x. IsLater cursor.entry x.1) }
+    ensures lent { IfSome result (λ x. RegionClauseIn cursor.entry.tokens.text.now x.0) }
+{
+    let (kept, cursor) = kept_clause_at(cursor)?;
+    Some((RegionClause::Kept(kept), cursor))
+}
+
+/// `TYPE kind`, or `word rest`
+fn region_clause_body_at<'t>(cursor: Cursor<'t>) -> Option<(RegionClause<'t>, Cursor<'t>)>
+    ensures gives { Gives (with_rest region_clause_view) result (read (on (codes "TYPE") (one_of region_kind_word region_kinds) kept_clause) (rest_of cursor.entry)) }
+    ensures later { IfSome result (λ x. IsLater cursor.entry x.1) }
+    ensures lent { IfSome result (λ x. RegionClauseIn cursor.entry.tokens.text.now x.0) }
+{
+    if cursor.next_is(b"TYPE") {
+        type_clause_at(cursor)
+    } else {
+        other_clause_at(cursor)
+    }
+}
+
 /// `+ TYPE kind`, or `+ word rest`, before a `+` or `;`
 #[tactic(auto, unfolding(def_grammar::specs::Regions::region_clause))]
 fn region_clause_at<'t>(cursor: Cursor<'t>) -> Option<(RegionClause<'t>, Cursor<'t>)>
@@ -68,14 +102,7 @@ fn region_clause_at<'t>(cursor: Cursor<'t>) -> Option<(RegionClause<'t>, Cursor<
     ensures later { IfSome result (λ x. IsLater cursor.entry x.1) }
     ensures lent { IfSome result (λ x. RegionClauseIn cursor.entry.tokens.text.now x.0) }
 {
-    let cursor = cursor.key(b"+")?;
-    let (clause, cursor) = if cursor.next_is(b"TYPE") {
-        let (kind, cursor) = region_kind_at(cursor.key(b"TYPE")?)?;
-        (RegionClause::Kind(kind), cursor)
-    } else {
-        let (kept, cursor) = kept_clause_at(cursor)?;
-        (RegionClause::Kept(kept), cursor)
-    };
+    let (clause, cursor) = region_clause_body_at(cursor.key(b"+")?)?;
     if cursor.next_is_stop() {
         Some((clause, cursor))
     } else {

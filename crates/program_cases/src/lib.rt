@@ -1,4 +1,4 @@
-//! Tests of the command line and of the lines on standard error, which no stored run shows, and nothing else.
+//! Tests of the command line and of the lines on standard error, as values. Runs of the program are cases.
 //!
 //! `command_lines` tries requests, and what clap says of those that are none; `outcomes` has the status of each outcome
 //! and the line of each reason to stop.

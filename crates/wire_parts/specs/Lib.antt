@@ -1,10 +1,8 @@
 pub mod NetViews
 pub mod NetWireViews
 pub mod PathViews
-pub mod RuleViews
 pub mod SpecialNetViews
 pub mod SpecialWireViews
 pub mod TerminalViews
-pub mod ViaViews
 pub mod WiresLeft
 pub mod WiringViews

@@ -2,8 +2,8 @@
 use Rattle.std.specs.Prelude.{ℕ, List, codes}
 use Rattle.form_meanings.specs.Words.{is_plain, is_plus}
 use Rattle.form_meanings.specs.Meaning.{items}
-use Rattle.statement_model.specs.Form.{Form, on, read, word}
-use Rattle.def_grammar.specs.SpecialNets.{PlacedVia, SpecialListed, SpecialClause, special_subnet, special_use, special_shape_word, special_mask, special_rectangle, special_vias, special_polygon, special_has_wiring, special_kept, special_shape, special_clause, SpecialNet}
+use Rattle.statement_model.specs.Form.{Form, left, on, read, right, word}
+use Rattle.def_grammar.specs.SpecialNets.{PlacedVia, SpecialShape, SpecialListed, SpecialClause, special_subnet, special_use, special_shape_word, special_mask, special_rectangle, special_vias, special_polygon, special_has_wiring, special_kept, special_shape, special_clause, SpecialNet}
 use Rattle.lefdef_tokens.specs.Views.{IsIn, rest_of, words_of}
 use Rattle.statement_reader.specs.declared.parts.Parts.{Parts}
 use Rattle.def_parts.specs.ClauseViews.{KeptIn, RunIn, kept_view}
@@ -18,6 +18,14 @@ use Rattle.wire_parts.specs.declared.special_nets.SpecialNetParts as code_net
 
 abbrev pub placed_via_view : code_via.PlacedVia → PlacedVia
 placed_via_view v = record { via = wire_via_view v.via; first = point_view v.first; others = later_points v.others }
+
+-- one that has its form, as a clause
+abbrev pub of_listed : Form SpecialListed → Form SpecialClause
+of_listed f = right (left f)
+
+-- a shape or a path, as a clause
+abbrev pub of_shape : Form SpecialShape → Form SpecialClause
+of_shape f = of_listed (right (right (right f)))
 
 -- a clause that has its form, whatever stands behind it
 abbrev pub special_by_word : Form SpecialListed

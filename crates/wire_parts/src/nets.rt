@@ -65,10 +65,10 @@ fn clause_by_word_at<'t>(cursor: Cursor<'t>) -> Option<(NetClause<'t>, Cursor<'t
     ensures lent { IfSome result (λ x. NetClauseIn cursor.entry.tokens.text.now x.0) }
 {
     if cursor.next_is(b"USE") {
-        let (word, cursor) = cursor.key(b"USE")?.plain_word()?;
+        let (word, cursor) = cursor.plain_word_behind(b"USE")?;
         Some((NetClause::Use(word), cursor))
     } else if cursor.next_is(b"NONDEFAULTRULE") {
-        let (name, cursor) = cursor.key(b"NONDEFAULTRULE")?.name()?;
+        let (name, cursor) = cursor.name_behind(b"NONDEFAULTRULE")?;
         Some((NetClause::Rule(name), cursor))
     } else {
         let (wiring, cursor) = wiring_at(cursor)?;

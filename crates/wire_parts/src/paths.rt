@@ -2,9 +2,10 @@
 //! Wiring Statement").
 
 ghost use Rattle.std.specs.Prelude.{◌≡◌, ℕ, List, codes, true, IfSome};
-ghost use Rattle.form_meanings.specs.Words.{Gives, is_place, next_passes};
-ghost use Rattle.statement_model.specs.Form.{Form, ◌◂◌, opt, read, spell};
+ghost use Rattle.form_meanings.specs.Words.{Gives, is_place, is_plain, next_passes};
+ghost use Rattle.statement_model.specs.Form.{Form, ◌▸◌, ◌◂◌, alt, left, opt, read, right, spell, word};
 ghost use Rattle.def_grammar.specs.Parts.{orient};
+ghost use Rattle.def_grammar.specs.Points.{is_open, later_point};
 ghost use Rattle.def_grammar.specs.Wiring.{array_size, extension, goes_on, is_orient, net_path, special_path, path_item, special_via, via_array, wire_point, wire_rectangle, wire_start, wire_via};
 ghost use Rattle.lefdef_tokens.specs.Unseens.{Finds, IsFurther, unseen_rest};
 ghost use Rattle.lefdef_tokens.specs.Views.{IsIn, IsLater, rest_of};
@@ -372,6 +373,57 @@ fn goes_on(word: &[u8]) -> bool
     is_open(word) || (is_name(word) && !is_word(word, b"NEW") && !is_word(word, b"DO"))
 }
 
+/// `MASK word`
+#[inline(always)]
+fn mask_item_at<'t, V: PathVia<'t>>(cursor: Cursor<'t>) -> Option<(PathItem<'t, V>, Cursor<'t>)>
+    ensures gives { Gives (with_rest (item_view V.view)) result (read (left (codes "MASK" ▸ word is_plain)) (rest_of cursor.entry)) }
+    ensures later { IfSome result (λ x. IsLater cursor.entry x.1) }
+    ensures lent { IfSome result (λ x. ItemIn V.lent cursor.entry.tokens.text.now x.0) }
+{
+    let (word, cursor) = cursor.plain_word_behind(b"MASK")?;
+    Some((PathItem::Mask(word), cursor))
+}
+
+/// `VIRTUAL ( x y )`, a point without wire
+#[inline(always)]
+fn virtual_item_at<'t, V: PathVia<'t>>(cursor: Cursor<'t>) -> Option<(PathItem<'t, V>, Cursor<'t>)>
+    ensures gives { Gives (with_rest (item_view V.view)) result (read (right (left (codes "VIRTUAL" ▸ later_point))) (rest_of cursor.entry)) }
+    ensures later { IfSome result (λ x. IsLater cursor.entry x.1) }
+    ensures lent { IfSome result (λ x. ItemIn V.lent cursor.entry.tokens.text.now x.0) }
+{
+    let (point, cursor) = later_point_at(cursor.key(b"VIRTUAL")?)?;
+    Some((PathItem::Virtual(point.at), cursor))
+}
+
+/// `RECT ( x1 y1 x2 y2 )`
+#[inline(always)]
+fn rectangle_item_at<'t, V: PathVia<'t>>(
+    cursor: Cursor<'t>,
+) -> Option<(PathItem<'t, V>, Cursor<'t>)>
+    ensures gives { Gives (with_rest (item_view V.view)) result (read (right (right (left (codes "RECT" ▸ wire_rectangle)))) (rest_of cursor.entry)) }
+    ensures later { IfSome result (λ x. IsLater cursor.entry x.1) }
+    ensures lent { IfSome result (λ x. ItemIn V.lent cursor.entry.tokens.text.now x.0) }
+{
+    let (corners, cursor) = wire_rectangle_at(cursor.key(b"RECT")?)?;
+    Some((PathItem::Rectangle(corners), cursor))
+}
+
+/// A point, or a via
+#[inline(always)]
+fn point_or_via_at<'t, V: PathVia<'t>>(cursor: Cursor<'t>) -> Option<(PathItem<'t, V>, Cursor<'t>)>
+    ensures gives { Gives (with_rest (item_view V.view)) result (read (right (right (right (alt is_open wire_point V.form)))) (rest_of cursor.entry)) }
+    ensures later { IfSome result (λ x. IsLater cursor.entry x.1) }
+    ensures lent { IfSome result (λ x. ItemIn V.lent cursor.entry.tokens.text.now x.0) }
+{
+    if next_is_open(cursor) {
+        let (at, cursor) = wire_point_at(cursor)?;
+        Some((PathItem::Point(at), cursor))
+    } else {
+        let (via, cursor) = V::read(cursor)?;
+        Some((PathItem::Via(via), cursor))
+    }
+}
+
 /// A mask, a point, a point without wire, a rectangle, or a via
 #[inline(always)]
 fn path_item_at<'t, V: PathVia<'t>>(cursor: Cursor<'t>) -> Option<(PathItem<'t, V>, Cursor<'t>)>
@@ -380,20 +432,13 @@ fn path_item_at<'t, V: PathVia<'t>>(cursor: Cursor<'t>) -> Option<(PathItem<'t, 
     ensures lent { IfSome result (λ x. ItemIn V.lent cursor.entry.tokens.text.now x.0) }
 {
     if cursor.next_is(b"MASK") {
-        let (word, cursor) = cursor.key(b"MASK")?.plain_word()?;
-        Some((PathItem::Mask(word), cursor))
+        mask_item_at(cursor)
     } else if cursor.next_is(b"VIRTUAL") {
-        let (point, cursor) = later_point_at(cursor.key(b"VIRTUAL")?)?;
-        Some((PathItem::Virtual(point.at), cursor))
+        virtual_item_at(cursor)
     } else if cursor.next_is(b"RECT") {
-        let (corners, cursor) = wire_rectangle_at(cursor.key(b"RECT")?)?;
-        Some((PathItem::Rectangle(corners), cursor))
-    } else if next_is_open(cursor) {
-        let (at, cursor) = wire_point_at(cursor)?;
-        Some((PathItem::Point(at), cursor))
+        rectangle_item_at(cursor)
     } else {
-        let (via, cursor) = V::read(cursor)?;
-        Some((PathItem::Via(via), cursor))
+        point_or_via_at(cursor)
     }
 }
 

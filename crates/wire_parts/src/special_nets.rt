@@ -1,13 +1,16 @@
 //! Entries of SPECIALNETS (LEF/DEF 5.8 Language Reference, "Special Nets").
 
-ghost use Rattle.std.specs.Prelude.{◌≡◌, IfSome};
-ghost use Rattle.form_meanings.specs.Words.{Gives, is_plus};
-ghost use Rattle.statement_model.specs.Form.{left, or_else, read, right, spell};
+ghost use Rattle.std.specs.Prelude.{◌≡◌, codes, IfSome};
+ghost use Rattle.form_meanings.specs.Words.{Gives, is_plain, is_plus};
+ghost use Rattle.statement_model.specs.Form.{◌▸◌, ◌⨟◌, left, or_else, read, right, spell, word};
 ghost use Rattle.def_grammar.specs.Clauses.{kept_clause};
+ghost use Rattle.def_grammar.specs.Parts.{name};
+ghost use Rattle.def_grammar.specs.Points.{corners, polygon};
 ghost use Rattle.def_grammar.specs.SpecialNets.{placed_via, special_clause, special_listed, special_net_form, special_shape};
+ghost use Rattle.def_grammar.specs.Wiring.{special_wiring};
 ghost use Rattle.lefdef_tokens.specs.Views.{IsLater, rest_of};
 ghost use Rattle.def_parts.specs.PointViews.{with_rest};
-ghost use Rattle.wire_parts.specs.SpecialNetViews.{PlacedViaIn, SpecialClauseIn, SpecialNetIn, placed_via_view, special_by_word, special_clause_view, special_net_view};
+ghost use Rattle.wire_parts.specs.SpecialNetViews.{PlacedViaIn, SpecialClauseIn, SpecialNetIn, of_listed, of_shape, placed_via_view, special_by_word, special_clause_view, special_net_view};
 
 use crate::paths::{WireVia, wire_via_at};
 use crate::terminals::Terminal;
@@ -65,45 +68,108 @@ fn placed_via_at<'t>(cursor: Cursor<'t>) -> Option<(PlacedVia<'t>, Cursor<'t>)>
     Some((PlacedVia { via, first, others }, cursor))
 }
 
+/// `RECT layer ..`
+fn rectangle_clause_at<'t>(cursor: Cursor<'t>) -> Option<(SpecialClause<'t>, Cursor<'t>)>
+    ensures gives { Gives (with_rest special_clause_view) result (read (of_shape (left (codes "RECT" ▸ name ⨟ corners))) (rest_of cursor.entry)) }
+    ensures later { IfSome result (λ x. IsLater cursor.entry x.1) }
+    ensures lent { IfSome result (λ x. SpecialClauseIn cursor.entry.tokens.text.now x.0) }
+{
+    let (layer, cursor) = cursor.name_behind(b"RECT")?;
+    let (corners, cursor) = corners_at(cursor)?;
+    Some((SpecialClause::Rectangle(layer, corners), cursor))
+}
+
+/// `VIA ..`
+fn vias_clause_at<'t>(cursor: Cursor<'t>) -> Option<(SpecialClause<'t>, Cursor<'t>)>
+    ensures gives { Gives (with_rest special_clause_view) result (read (of_shape (right (left (codes "VIA" ▸ placed_via)))) (rest_of cursor.entry)) }
+    ensures later { IfSome result (λ x. IsLater cursor.entry x.1) }
+    ensures lent { IfSome result (λ x. SpecialClauseIn cursor.entry.tokens.text.now x.0) }
+{
+    let (via, cursor) = placed_via_at(cursor.key(b"VIA")?)?;
+    Some((SpecialClause::Vias(via), cursor))
+}
+
+/// `POLYGON layer ..`
+fn polygon_clause_at<'t>(cursor: Cursor<'t>) -> Option<(SpecialClause<'t>, Cursor<'t>)>
+    ensures gives { Gives (with_rest special_clause_view) result (read (of_shape (right (right (left (codes "POLYGON" ▸ name ⨟ polygon))))) (rest_of cursor.entry)) }
+    ensures later { IfSome result (λ x. IsLater cursor.entry x.1) }
+    ensures lent { IfSome result (λ x. SpecialClauseIn cursor.entry.tokens.text.now x.0) }
+{
+    let (layer, cursor) = cursor.name_behind(b"POLYGON")?;
+    let (polygon, cursor) = polygon_at(cursor)?;
+    Some((SpecialClause::Polygon(layer, polygon), cursor))
+}
+
+/// A wiring clause
+fn wiring_clause_at<'t>(cursor: Cursor<'t>) -> Option<(SpecialClause<'t>, Cursor<'t>)>
+    ensures gives { Gives (with_rest special_clause_view) result (read (of_shape (right (right (right special_wiring)))) (rest_of cursor.entry)) }
+    ensures later { IfSome result (λ x. IsLater cursor.entry x.1) }
+    ensures lent { IfSome result (λ x. SpecialClauseIn cursor.entry.tokens.text.now x.0) }
+{
+    let (wiring, cursor) = special_wiring_at(cursor)?;
+    Some((SpecialClause::Wiring(wiring), cursor))
+}
+
 /// `RECT layer ..`, `VIA ..`, `POLYGON layer ..`, or wiring
 #[tactic(auto, unfolding(def_grammar::specs::SpecialNets::special_shape))]
 fn shape_at<'t>(cursor: Cursor<'t>) -> Option<(SpecialClause<'t>, Cursor<'t>)>
-    ensures gives { Gives (with_rest special_clause_view) result (read (right (left (right (right (right special_shape))))) (rest_of cursor.entry)) }
+    ensures gives { Gives (with_rest special_clause_view) result (read (of_shape special_shape) (rest_of cursor.entry)) }
     ensures later { IfSome result (λ x. IsLater cursor.entry x.1) }
     ensures lent { IfSome result (λ x. SpecialClauseIn cursor.entry.tokens.text.now x.0) }
 {
     if cursor.next_is(b"RECT") {
-        let (layer, cursor) = cursor.key(b"RECT")?.name()?;
-        let (corners, cursor) = corners_at(cursor)?;
-        Some((SpecialClause::Rectangle(layer, corners), cursor))
+        rectangle_clause_at(cursor)
     } else if cursor.next_is(b"VIA") {
-        let (via, cursor) = placed_via_at(cursor.key(b"VIA")?)?;
-        Some((SpecialClause::Vias(via), cursor))
+        vias_clause_at(cursor)
     } else if cursor.next_is(b"POLYGON") {
-        let (layer, cursor) = cursor.key(b"POLYGON")?.name()?;
-        let (polygon, cursor) = polygon_at(cursor)?;
-        Some((SpecialClause::Polygon(layer, polygon), cursor))
+        polygon_clause_at(cursor)
     } else {
-        let (wiring, cursor) = special_wiring_at(cursor)?;
-        Some((SpecialClause::Wiring(wiring), cursor))
+        wiring_clause_at(cursor)
     }
+}
+
+/// `USE word`
+fn use_clause_at<'t>(cursor: Cursor<'t>) -> Option<(SpecialClause<'t>, Cursor<'t>)>
+    ensures gives { Gives (with_rest special_clause_view) result (read (of_listed (left (codes "USE" ▸ word is_plain))) (rest_of cursor.entry)) }
+    ensures later { IfSome result (λ x. IsLater cursor.entry x.1) }
+    ensures lent { IfSome result (λ x. SpecialClauseIn cursor.entry.tokens.text.now x.0) }
+{
+    let (word, cursor) = cursor.plain_word_behind(b"USE")?;
+    Some((SpecialClause::Use(word), cursor))
+}
+
+/// `SHAPE word`
+fn shape_clause_at<'t>(cursor: Cursor<'t>) -> Option<(SpecialClause<'t>, Cursor<'t>)>
+    ensures gives { Gives (with_rest special_clause_view) result (read (of_listed (right (left (codes "SHAPE" ▸ word is_plain)))) (rest_of cursor.entry)) }
+    ensures later { IfSome result (λ x. IsLater cursor.entry x.1) }
+    ensures lent { IfSome result (λ x. SpecialClauseIn cursor.entry.tokens.text.now x.0) }
+{
+    let (word, cursor) = cursor.plain_word_behind(b"SHAPE")?;
+    Some((SpecialClause::Shape(word), cursor))
+}
+
+/// `MASK word`
+fn mask_clause_at<'t>(cursor: Cursor<'t>) -> Option<(SpecialClause<'t>, Cursor<'t>)>
+    ensures gives { Gives (with_rest special_clause_view) result (read (of_listed (right (right (left (codes "MASK" ▸ word is_plain))))) (rest_of cursor.entry)) }
+    ensures later { IfSome result (λ x. IsLater cursor.entry x.1) }
+    ensures lent { IfSome result (λ x. SpecialClauseIn cursor.entry.tokens.text.now x.0) }
+{
+    let (word, cursor) = cursor.plain_word_behind(b"MASK")?;
+    Some((SpecialClause::Mask(word), cursor))
 }
 
 /// `USE word`, `SHAPE word`, `MASK word`, a shape, or wiring
 fn clause_by_word_at<'t>(cursor: Cursor<'t>) -> Option<(SpecialClause<'t>, Cursor<'t>)>
-    ensures gives { Gives (with_rest special_clause_view) result (read (right (left special_by_word)) (rest_of cursor.entry)) }
+    ensures gives { Gives (with_rest special_clause_view) result (read (of_listed special_by_word) (rest_of cursor.entry)) }
     ensures later { IfSome result (λ x. IsLater cursor.entry x.1) }
     ensures lent { IfSome result (λ x. SpecialClauseIn cursor.entry.tokens.text.now x.0) }
 {
     if cursor.next_is(b"USE") {
-        let (word, cursor) = cursor.key(b"USE")?.plain_word()?;
-        Some((SpecialClause::Use(word), cursor))
+        use_clause_at(cursor)
     } else if cursor.next_is(b"SHAPE") {
-        let (word, cursor) = cursor.key(b"SHAPE")?.plain_word()?;
-        Some((SpecialClause::Shape(word), cursor))
+        shape_clause_at(cursor)
     } else if cursor.next_is(b"MASK") {
-        let (word, cursor) = cursor.key(b"MASK")?.plain_word()?;
-        Some((SpecialClause::Mask(word), cursor))
+        mask_clause_at(cursor)
     } else {
         shape_at(cursor)
     }
@@ -112,7 +178,7 @@ fn clause_by_word_at<'t>(cursor: Cursor<'t>) -> Option<(SpecialClause<'t>, Curso
 /// A clause that has its form, before a `+` or a `;`
 #[tactic(auto, unfolding(def_grammar::specs::SpecialNets::special_listed))]
 fn listed_at<'t>(cursor: Cursor<'t>) -> Option<(SpecialClause<'t>, Cursor<'t>)>
-    ensures gives { Gives (with_rest special_clause_view) result (read (right (left special_listed)) (rest_of cursor.entry)) }
+    ensures gives { Gives (with_rest special_clause_view) result (read (of_listed special_listed) (rest_of cursor.entry)) }
     ensures later { IfSome result (λ x. IsLater cursor.entry x.1) }
     ensures lent { IfSome result (λ x. SpecialClauseIn cursor.entry.tokens.text.now x.0) }
 {
@@ -193,7 +259,7 @@ pub fn special_net_at<'t>(cursor: Cursor<'t>) -> Option<(SpecialNetParts<'t>, Cu
     ensures later { IfSome result (λ x. IsLater cursor.entry x.1) }
     ensures lent { IfSome result (λ x. SpecialNetIn cursor.entry.tokens.text.now x.0) }
 {
-    let (name, cursor) = cursor.key(b"-")?.name()?;
+    let (name, cursor) = cursor.name_behind(b"-")?;
     let (terminals, cursor) = read_usual_parts::<Terminal<'t>>(cursor)?;
     let (clauses, cursor) = read_parts::<SpecialClause<'t>>(cursor)?;
     let cursor = cursor.key(b";")?;

@@ -3,9 +3,9 @@
 
 ghost use Rattle.std.specs.Prelude.{◌≡◌, codes, not, true, IfSome};
 ghost use Rattle.std.specs.Option.{option_map};
-ghost use Rattle.form_meanings.specs.Words.{Gives, is_plus, is_stop, next_passes};
+ghost use Rattle.form_meanings.specs.Words.{Gives, is_plain, is_plus, is_stop, next_passes};
 ghost use Rattle.form_meanings.specs.Meaning.{find};
-ghost use Rattle.statement_model.specs.Form.{◌⨟◌, empty, many, on, opt_on, read, spell};
+ghost use Rattle.statement_model.specs.Form.{◌▸◌, ◌⨟◌, empty, left, many, on, opt_on, read, right, spell, word};
 ghost use Rattle.def_grammar.specs.Parts.{int, name};
 ghost use Rattle.def_grammar.specs.Wiring.{is_new, new_special_wire, new_wire, special_wire, special_wires, special_wiring, taper, wire, wire_mark, wiring, wiring_status, wiring_statuses, wiring_word};
 ghost use Rattle.lefdef_tokens.specs.Unseens.{Finds};
@@ -147,7 +147,7 @@ pub fn taper_at<'t>(cursor: Cursor<'t>) -> Option<(Taper<'t>, Cursor<'t>)>
         let cursor = cursor.key(b"TAPER")?;
         Some((Taper::Layer, cursor))
     } else if cursor.next_is(b"TAPERRULE") {
-        let (rule, cursor) = cursor.key(b"TAPERRULE")?.name()?;
+        let (rule, cursor) = cursor.name_behind(b"TAPERRULE")?;
         Some((Taper::Rule(rule), cursor))
     } else {
         Some((Taper::Net, cursor))
@@ -247,7 +247,7 @@ fn usual_wire_past<'t>(cursor: Cursor<'t>) -> Option<Cursor<'t>>
     if !cursor.next_is(b"NEW") {
         return None;
     }
-    let (_, cursor) = cursor.key(b"NEW")?.name()?;
+    let (_, cursor) = cursor.name_behind(b"NEW")?;
     let (_, cursor) = taper_at(cursor)?;
     let (_, cursor) = style_at(cursor)?;
     usual_net_path_past(cursor)
@@ -297,6 +297,36 @@ pub fn wiring_at<'t>(cursor: Cursor<'t>) -> Option<(Wiring<'t>, Cursor<'t>)>
     Some((wiring, cursor))
 }
 
+/// `SHAPE word`
+fn shape_mark_at<'t>(cursor: Cursor<'t>) -> Option<(WireMark<'t>, Cursor<'t>)>
+    ensures gives { Gives (with_rest mark_view) result (read (left (codes "SHAPE" ▸ word is_plain)) (rest_of cursor.entry)) }
+    ensures later { IfSome result (λ x. IsLater cursor.entry x.1) }
+    ensures lent { IfSome result (λ x. MarkIn cursor.entry.tokens.text.now x.0) }
+{
+    let (word, cursor) = cursor.plain_word_behind(b"SHAPE")?;
+    Some((WireMark::Shape(word), cursor))
+}
+
+/// `STYLE number`
+fn style_mark_at<'t>(cursor: Cursor<'t>) -> Option<(WireMark<'t>, Cursor<'t>)>
+    ensures gives { Gives (with_rest mark_view) result (read (right (left (codes "STYLE" ▸ int))) (rest_of cursor.entry)) }
+    ensures later { IfSome result (λ x. IsLater cursor.entry x.1) }
+    ensures lent { IfSome result (λ x. MarkIn cursor.entry.tokens.text.now x.0) }
+{
+    let (number, cursor) = int_at(cursor.key(b"STYLE")?)?;
+    Some((WireMark::Style(number), cursor))
+}
+
+/// `MASK word`
+fn mask_mark_at<'t>(cursor: Cursor<'t>) -> Option<(WireMark<'t>, Cursor<'t>)>
+    ensures gives { Gives (with_rest mark_view) result (read (right (right (codes "MASK" ▸ word is_plain))) (rest_of cursor.entry)) }
+    ensures later { IfSome result (λ x. IsLater cursor.entry x.1) }
+    ensures lent { IfSome result (λ x. MarkIn cursor.entry.tokens.text.now x.0) }
+{
+    let (word, cursor) = cursor.plain_word_behind(b"MASK")?;
+    Some((WireMark::Mask(word), cursor))
+}
+
 /// `+ SHAPE word`, `+ STYLE number`, or `+ MASK word`
 #[tactic(auto, unfolding(def_grammar::specs::Wiring::wire_mark))]
 fn wire_mark_at<'t>(cursor: Cursor<'t>) -> Option<(WireMark<'t>, Cursor<'t>)>
@@ -306,14 +336,11 @@ fn wire_mark_at<'t>(cursor: Cursor<'t>) -> Option<(WireMark<'t>, Cursor<'t>)>
 {
     let cursor = cursor.key(b"+")?;
     if cursor.next_is(b"SHAPE") {
-        let (word, cursor) = cursor.key(b"SHAPE")?.plain_word()?;
-        Some((WireMark::Shape(word), cursor))
+        shape_mark_at(cursor)
     } else if cursor.next_is(b"STYLE") {
-        let (number, cursor) = int_at(cursor.key(b"STYLE")?)?;
-        Some((WireMark::Style(number), cursor))
+        style_mark_at(cursor)
     } else {
-        let (word, cursor) = cursor.key(b"MASK")?.plain_word()?;
-        Some((WireMark::Mask(word), cursor))
+        mask_mark_at(cursor)
     }
 }
 
@@ -459,7 +486,7 @@ fn special_kind_at<'t>(cursor: Cursor<'t>) -> Option<(SpecialWiringKind<'t>, Cur
     ensures lent { IfSome result (λ x. SpecialKindIn cursor.entry.tokens.text.now x.0) }
 {
     if cursor.next_is(b"SHIELD") {
-        let (net, cursor) = cursor.key(b"SHIELD")?.name()?;
+        let (net, cursor) = cursor.name_behind(b"SHIELD")?;
         Some((SpecialWiringKind::Shield(net), cursor))
     } else {
         let (status, cursor) = wiring_status_at(cursor)?;

@@ -1,5 +1,5 @@
 use Rattle.std.proofs.Common.{ap, ◌∙◌}
-use Rattle.wire_parts.specs.RuleViews.{rule_clauses_of, rule_view}
+use Rattle.via_parts.specs.RuleViews.{rule_clauses_of, rule_view}
 use Rattle.design_wires.specs.RuleLayers.{first_width}
 use Rattle.design_wires.proofs.FirstLemmas.{first_is_rule_width}
 use Rattle.design_wires.proofs.rule_widths.def_rule_width.Goals as goal

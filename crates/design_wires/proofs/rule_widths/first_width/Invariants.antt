@@ -1,5 +1,5 @@
 use Rattle.std.proofs.Common.{◌≡◌}
-use Rattle.wire_parts.specs.RuleViews.{rule_clauses_of}
+use Rattle.via_parts.specs.RuleViews.{rule_clauses_of}
 use Rattle.design_wires.specs.RuleLayers.{first_width}
 use Rattle.design_wires.proofs.rule_widths.first_width.Given as goal
 

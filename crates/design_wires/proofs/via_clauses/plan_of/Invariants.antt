@@ -1,4 +1,4 @@
-use Rattle.wire_parts.specs.ViaViews.{via_clauses_of}
+use Rattle.via_parts.specs.ViaViews.{via_clauses_of}
 use Rattle.design_wires.proofs.ClauseLemmas.{Going}
 use Rattle.design_wires.proofs.via_clauses.plan_of.Given as goal
 

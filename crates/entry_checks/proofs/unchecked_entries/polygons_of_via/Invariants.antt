@@ -1,5 +1,5 @@
 use Rattle.std.proofs.Common.{◌≡◌, ◌≤◌, ◌+◌, filter, length}
-use Rattle.wire_parts.specs.ViaViews.{via_clauses_of}
+use Rattle.via_parts.specs.ViaViews.{via_clauses_of}
 use Rattle.entry_rules.specs.Unchecked.{is_polygon_of_via}
 use Rattle.entry_checks.proofs.unchecked_entries.polygons_of_via.Given as goal
 

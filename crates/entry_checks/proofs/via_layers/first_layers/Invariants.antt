@@ -1,6 +1,6 @@
 use Rattle.std.proofs.Common.{◌≡◌}
 use Rattle.lef_grammar.specs.Firsts.{first_of}
-use Rattle.wire_parts.specs.ViaViews.{via_clauses_of}
+use Rattle.via_parts.specs.ViaViews.{via_clauses_of}
 use Rattle.entry_rules.specs.References.{layers_of_clause}
 use Rattle.entry_checks.proofs.via_layers.first_layers.Given as goal
 

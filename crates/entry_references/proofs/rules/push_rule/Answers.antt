@@ -1,6 +1,6 @@
 use Rattle.std.proofs.Common.{◌∷◌, ◌∙◌, ap, sym}
 use Rattle.std.proofs.lemmas.List.{take_rest}
-use Rattle.wire_parts.specs.RuleViews.{rule_clause_view, rule_clauses_of, rule_layer_view}
+use Rattle.via_parts.specs.RuleViews.{rule_clause_view, rule_clauses_of, rule_layer_view}
 use Rattle.entry_references.proofs.RuleLemmas.{all_listed, listed_already, listed_now, no_fewer}
 use Rattle.entry_references.proofs.rules.push_rule.Goals as goal
 

@@ -1,5 +1,5 @@
 use Rattle.std.proofs.Common.{◌≡◌, ◌≤◌, length}
-use Rattle.wire_parts.specs.RuleViews.{rule_clauses_of}
+use Rattle.via_parts.specs.RuleViews.{rule_clauses_of}
 use Rattle.entry_references.proofs.RuleLemmas.{Listed}
 use Rattle.entry_references.proofs.rules.push_rule.Given as goal
 

@@ -1,6 +1,6 @@
 use Rattle.std.proofs.Common.{◌≡◌, ◌++◌, map}
 use Rattle.std.specs.List.{filter_map}
-use Rattle.wire_parts.specs.ViaViews.{via_clauses_of}
+use Rattle.via_parts.specs.ViaViews.{via_clauses_of}
 use Rattle.entry_rules.specs.References.{layer_of_shape, to_layer}
 use Rattle.entry_references.specs.ReferenceViews.{references_view}
 use Rattle.entry_references.proofs.vias.push_shape_layers.Given as goal

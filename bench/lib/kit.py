@@ -1,0 +1,58 @@
+"""The kit's command rt as a module, and the crates of this repository as it sees them."""
+import importlib.machinery
+import importlib.util
+import os
+import shutil
+import sys
+import tempfile
+
+sys.dont_write_bytecode = True
+TOP = os.path.dirname(os.path.dirname(os.path.dirname(os.path.realpath(__file__))))
+
+
+def load_rt():
+    """Returns rt, which is a script in Python, as a module."""
+    file = shutil.which("rt") or sys.exit("there is no rt on PATH")
+    loader = importlib.machinery.SourceFileLoader("rt", os.path.realpath(file))
+    module = importlib.util.module_from_spec(importlib.util.spec_from_loader("rt", loader))
+    loader.exec_module(module)
+    return module
+
+
+rt = load_rt()
+
+
+def kit_line():
+    """Returns the kit's one-line identity."""
+    with open(f"{rt.KIT}/KIT-ID", encoding="utf-8") as file:
+        return file.read().strip()
+
+
+def crates(top=TOP):
+    """Returns the crates of a repository by their names, lowest first."""
+    return {it.name: it for it in rt.rtlib.crates_below(top)}
+
+
+def lines_of(crate):
+    """Returns how many lines of code, specs and proofs a crate has."""
+    return sum((rt.rtlib.text_of(it) or "").count("\n") for it in rt.rtlib.files_of(crate.folder))
+
+
+def build_side_by_side(wanted):
+    """Builds the libraries of these crates that aren't built, over kept work, each once those below it are. Returns whether all stand."""
+
+    def build(crate, given, jobs):
+        if not all(given[it.name, "proof"] for it in crate.deps):
+            return False
+        with tempfile.TemporaryFile("w+", errors="replace") as crate.out:
+            is_built = not crate.build_rlib(["--jobs", str(jobs)], anew=False)
+            if not is_built:
+                crate.out.seek(0)
+                print(f"{crate.out.read()[-3000:]}\n{crate.name} isn't built", file=sys.stderr, flush=True)
+        return is_built
+
+    tasks = {}
+    for crate in wanted:
+        waits = [(it.name, "proof") for it in crate.deps]
+        tasks[crate.name, "proof"] = (waits, lines_of(crate), rt.need(crate), lambda given, jobs, it=crate: build(it, given, jobs))
+    return all(rt.in_lanes(tasks).values())

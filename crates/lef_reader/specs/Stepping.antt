@@ -1,0 +1,29 @@
+-- One statement of a text after another.
+use Rattle.std.specs.Prelude.{◌≡◌, ℕ, nat_lt, List, length, Option, Some, None, Result, Ok, Err, MatchOption, MatchResult, if◌then◌else◌}
+use Rattle.design_model.specs.declared.TheConstants.{MAX_TEXT}
+use Rattle.design_model.specs.declared.fault.Fault.{Fault}
+use Rattle.design_model.specs.declared.fault.FaultCode.TheVariants.{TooLong}
+use Rattle.form_meanings.specs.Words.{ends}
+use Rattle.statement_model.specs.Grammar.{Grammar}
+use Rattle.statement_model.specs.Tokens.{Lexed, left_from}
+use Rattle.statement_model.specs.Reading.{fault_at, read_at}
+use Rattle.lefdef_tokens.specs.Views.{rest_of}
+use Rattle.lefdef_tokens.specs.declared.cursor.Cursor.{Cursor}
+
+module _ {M R S P : Type 0} (g : Grammar M R) (where_is : P → M) (says : S → R) (text : List ℕ) where
+  -- what stands next in a text that may be too long
+  abbrev pub next_from : P → ℕ → Result (Option (R × M × Lexed)) Fault
+  next_from place pos = if nat_lt MAX_TEXT (length text) then Err (fault_at TooLong 0) else read_at g (where_is place) (left_from text pos)
+
+  -- a statement was read, and the next one stands there; at the end and at a fault nothing moves
+  abbrev pub Steps : P → ℕ → Result (Option S) Fault → P → ℕ → Type 0
+  Steps place pos r after end =
+      MatchResult r
+      (λ found. MatchOption found ((next_from place pos ≡ Ok None) × (after ≡ place) × (end ≡ pos))
+      (λ s. next_from place pos ≡ Ok (Some (says s, where_is after, left_from text end))))
+      (λ f. (next_from place pos ≡ Err f) × (after ≡ place) × (end ≡ pos))
+
+-- what was read, where no token is left behind it
+abbrev pub ended : {S : Type 0} → Option (S × Cursor) → Option (S × Option ℕ)
+ended (Some x) = ends x.0 (rest_of x.1)
+ended None = None
