@@ -2,11 +2,15 @@
 import hashlib
 import subprocess
 
+from lib.checks import How
+from lib.edits import rounds_of
 from lib.kit import TOP, lines_of
 
-# Measured from nothing: a batch proves what the edited functions call, and then searches for each edit.
+# Measured from nothing: a batch proves what the edited functions call, and then searches for each edit; a further round loads
+# the libraries below once more.
 MINUTES_A_LINE = 0.0014
 MINUTES_AN_EDIT = 0.06
+MINUTES_A_FURTHER_ROUND = 2.0
 
 
 def commit():
@@ -17,7 +21,8 @@ def commit():
 
 def expected_minutes(crate, edits):
     """Returns about how many processor minutes it takes to try these edits of a crate from nothing."""
-    return MINUTES_A_LINE * lines_of(crate) + MINUTES_AN_EDIT * len(edits)
+    rounds = len(rounds_of([it for it in edits if not it.why], How.most))
+    return MINUTES_A_LINE * lines_of(crate) + MINUTES_AN_EDIT * len(edits) + MINUTES_A_FURTHER_ROUND * max(0, rounds - 1)
 
 
 def picked(edits_of, seed, minutes):
