@@ -13,4 +13,4 @@ EndsWhole lefs def input o o' e = (counts : Counts) × RunsWhole lefs def input 
 
 -- a run that stops: the output file gets nothing
 abbrev pub EndsBy : List (List ℕ) → List ℕ → Known → Known → Known → RunFault → Type 0
-EndsBy lefs def input o o' fault = (kept : List ℕ) × StopsBy lefs def input o o' (Some []) (Some kept) fault
+EndsBy lefs def input o o' fault = StopsBy lefs def input o o' (Some []) (Some []) fault

@@ -5,8 +5,9 @@ ghost use Rattle.defedit_program.specs.Endings.{EndsBy, EndsWhole};
 
 use crate::outcome::Outcome;
 use cell_library::lef_texts::LefTexts;
-use counted_devices::counted::{Counted, CountedRead, CountedWrite, Failures};
-use edit_script::run::{RunFault, run};
+use counted_devices::counted::{CountedRead, CountedWrite, Failures};
+use edit_script::finished::run_owned;
+use edit_script::run::RunFault;
 use std::alloc::Global;
 use std::io::{Read, Write};
 
@@ -19,23 +20,22 @@ pub struct Ended {
     pub text: Vec<u8>,
 }
 
-/// Runs a script over a DEF text and the library of LEF texts. The answers go to `out`.
+/// Runs a script over a DEF text, which it takes, and the library of LEF texts. The answers go to `out`.
 pub fn run_to_end<R: CountedRead, W: CountedWrite>(
     alloc: Global,
     lefs: &LefTexts,
-    def: &[u8],
+    def: Vec<u8>,
     script: &mut R,
     out: &mut W,
 ) -> Result<Ended, RunFault>
     requires script { R.failed script.old < 2 ^ 63 }
     requires out { W.failed out.old < 2 ^ 63 }
-    ensures ok { IfOk result (λ e. EndsWhole lefs.now def.now (R.remaining script.old) (W.contents out.old) (W.contents out.new) e) }
-    ensures fault { IfErr result (λ e. EndsBy lefs.now def.now (R.remaining script.old) (W.contents out.old) (W.contents out.new) e) }
+    ensures ok { IfOk result (λ e. EndsWhole lefs.now def.items (R.remaining script.old) (W.contents out.old) (W.contents out.new) e) }
+    ensures fault { IfErr result (λ e. EndsBy lefs.now def.items (R.remaining script.old) (W.contents out.old) (W.contents out.new) e) }
 {
-    let mut text = Counted::new(Vec::new(alloc));
-    let tally = run(alloc, lefs, def, script, out, &mut text)?;
+    let finished = run_owned(alloc, lefs, def, script, out)?;
     Ok(Ended {
-        outcome: Outcome::of_tally(tally),
-        text: text.into_inner(),
+        outcome: Outcome::of_tally(finished.tally),
+        text: finished.text,
     })
 }

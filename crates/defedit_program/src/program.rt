@@ -58,7 +58,7 @@ fn run_request<'a, R: Files + Print>(
     };
     let mut script = Counted::new(script);
     let mut out = Counted::new(io::writer(rt));
-    let ended = match run_to_end(alloc, &lefs, def.as_slice(), &mut script, &mut out) {
+    let ended = match run_to_end(alloc, &lefs, def, &mut script, &mut out) {
         Ok(ended) => ended,
         Err(fault) => return Err(Stop::Run(fault)),
     };

@@ -1,14 +1,15 @@
 -- How the ends of a run follow from those of its parts.
 use Rattle.std.proofs.Common.{◌≡◌, ℕ, List, [], ◌++◌, Result, Ok, Err, refl, inl, inr, sym, ap, ◌∙◌, append_assoc, append-nil}
-use Rattle.std.specs.Prelude.{IfErr, IfOk}
+use Rattle.std.specs.Prelude.{IfErr, IfOk, IsOk}
 use Rattle.counted_devices.specs.Known.{WritesPart}
 use Rattle.std.proofs.KnownBytes.{Appends-nil}
 use Rattle.lef_grammar.specs.Library.{Library, library_of}
+use Rattle.def_grammar.specs.Records.{read_def}
 use Rattle.design_rules.specs.Script.{script_lines}
 use Rattle.design_rules.specs.Output.{Counts}
 use Rattle.edit_script.specs.declared.run.RunFault.{RunFault}
 use Rattle.edit_script.specs.declared.run.RunFault.TheVariants as faults
-use Rattle.edit_script.specs.Ends.{Known, WritesRun, WritesRunPart, AnswersCut, StopsBy, StopsOver}
+use Rattle.edit_script.specs.Ends.{Known, WritesNothing, WritesRun, WritesRunPart, AnswersCut, StopsBy, StopsOver, StopsUnread}
 
 pub stopped_by_out : (library : Library) (text script : List ℕ) (o o' d : Known) → WritesRunPart library text (script_lines script) o o' → AnswersCut library text script o o' d d
 stopped_by_out library text script o o' d (part, rest, last, counts, run, w) =
@@ -42,3 +43,16 @@ stops_by lefs library def input o o' d d' faults.Read is h = (library, is, h)
 stops_by lefs library def input o o' d d' faults.Endless is h = (library, is, h)
 stops_by lefs library def input o o' d d' faults.Memory is h = inr (library, is, h)
 stops_by lefs library def input o o' d d' faults.Write is h = (library, is, h)
+
+wrote_nothing : (o d : Known) → WritesNothing o o d d
+wrote_nothing o d = record { out = Appends-nil o; def_out = Appends-nil d }
+
+-- a run that stops before the script is read
+pub stops_unread : (library : Library) (def : List ℕ) (input o d : Known) (fault : RunFault) → IsOk (read_def def) → StopsUnread input fault → StopsOver library def input o o d d fault
+stops_unread library def input o d faults.TooLong reads is = (reads, is, wrote_nothing o d)
+stops_unread library def input o d faults.Memory reads is = inl (wrote_nothing o d)
+stops_unread library def input o d faults.Read reads is = (reads, wrote_nothing o d)
+stops_unread library def input o d faults.Endless reads is = (reads, wrote_nothing o d)
+stops_unread library def input o d (faults.Lef file fault) reads is = absurd is
+stops_unread library def input o d (faults.Def fault) reads is = absurd is
+stops_unread library def input o d faults.Write reads is = absurd is

@@ -46,11 +46,25 @@ abbrev pub AnswersPart : Library → List ℕ → List ℕ → Known → Known �
 AnswersPart library text script o o' d d' stop.Memory = AnswersSome library text script o o' d d'
 AnswersPart library text script o o' d d' stop.Write = AnswersCut library text script o o' d d'
 
--- the DEF text reads, and the script has these bytes, at most 16777216
-pub record HasRead (def : List ℕ) (input : Known) (script : List ℕ) : Type 0 where
-  pub def_reads : IsOk (read_def def)
+-- the script has these bytes, at most 16777216
+pub record IsScript (input : Known) (script : List ℕ) : Type 0 where
   pub script_is : IfSome input (λ xs. xs ≡ script)
   pub script_fits : length script ≤ 16777216
+
+-- a script isn't read: for want of memory, since it is longer, or by its reader
+abbrev pub StopsUnread : Known → RunFault → Type 0
+StopsUnread input TooLong = IfSome input (λ xs. 16777216 < length xs)
+StopsUnread input Memory = Unit {0}
+StopsUnread input Read = Unit {0}
+StopsUnread input Endless = Unit {0}
+StopsUnread input (Lef file fault) = ⊥
+StopsUnread input (Def fault) = ⊥
+StopsUnread input Write = ⊥
+
+-- the DEF text reads, and so does the script
+pub record HasRead (def : List ℕ) (input : Known) (script : List ℕ) : Type 0 where
+  pub def_reads : IsOk (read_def def)
+  pub script : IsScript input script
 
 -- a run over a library to its end: the writers got an output of the script over the text, and nothing else
 abbrev pub RunsOver : Library → List ℕ → Known → Known → Known → Known → Known → Counts → Type 0
@@ -61,7 +75,7 @@ RunsOver library def input o o' d d' counts = (script : List ℕ) × HasRead def
 abbrev pub StopsOver : Library → List ℕ → Known → Known → Known → Known → Known → RunFault → Type 0
 StopsOver library def input o o' d d' (Lef file fault) = ⊥
 StopsOver library def input o o' d d' (Def fault) = (read_def def ≡ Err fault) × WritesNothing o o' d d'
-StopsOver library def input o o' d d' TooLong = IsOk (read_def def) × IfSome input (λ xs. 16777216 < length xs) × WritesNothing o o' d d'
+StopsOver library def input o o' d d' TooLong = IsOk (read_def def) × StopsUnread input TooLong × WritesNothing o o' d d'
 StopsOver library def input o o' d d' Read = IsOk (read_def def) × WritesNothing o o' d d'
 StopsOver library def input o o' d d' Endless = IsOk (read_def def) × WritesNothing o o' d d'
 StopsOver library def input o o' d d' Memory = WritesNothing o o' d d' ⊎ ((script : List ℕ) × HasRead def input script × AnswersSome library def script o o' d d')

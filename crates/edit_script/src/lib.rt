@@ -1,6 +1,6 @@
 //! Running a script of edits and queries over LEF and DEF texts.
 //!
-//! Begin with `run::run`. The LEF texts, the DEF text and the script are read in this order and to the end before the
+//! Begin with `run::run`, or with `finished::run_owned`, which takes the DEF text and gives it back in the end. The LEF texts, the DEF text and the script are read in this order and to the end before the
 //! first line is run; the answers go to one writer, and the text in the end to another. What is written is `Output` of
 //! `design_rules`, and how a run ends is `specs/Ends`; `docs/SCRIPT.md` says it to those who write scripts.
 //!
@@ -10,4 +10,5 @@
 //! `TooLong`, `Endless`), and then nothing was written; or `Memory` or `Write`, after a first part of the output.
 #![tactic(auto)]
 
+pub mod finished;
 pub mod run;

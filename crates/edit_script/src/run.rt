@@ -7,7 +7,7 @@ ghost use Rattle.design_rules.specs.Script.{ask, order_of, script_lines, unescap
 ghost use Rattle.def_grammar.specs.Records.{read_def};
 ghost use Rattle.edit_script.specs.Answered.{AnswersText, Grows, HasRoom, RefusesText, counts_of};
 ghost use Rattle.script_lines.specs.Orders.{question_seen};
-ghost use Rattle.edit_script.specs.Ends.{AnswersPart, AnswersWhole, RunsOver, RunsWhole, StopsBy, StopsOver, WritesRun, WritesRunPart, hard_after_run};
+ghost use Rattle.edit_script.specs.Ends.{AnswersPart, AnswersWhole, IsScript, RunsOver, RunsWhole, StopsBy, StopsOver, StopsUnread, WritesRun, WritesRunPart, hard_after_run};
 
 use cell_library::lef_texts::LefTexts;
 use cell_library::library::{Library, LibraryError};
@@ -60,7 +60,7 @@ pub enum RunFault {
 
 /// Why the answers stop.
 #[derive(Clone, Copy, Debug, PartialEq, Eq)]
-enum Stop {
+pub(crate) enum Stop {
     Memory,
     Write,
 }
@@ -185,7 +185,7 @@ fn answer<A: Allocator + Copy>(
 }
 
 /// Answers the lines of a script in order.
-fn answer_lines<A: Allocator + Copy, W: CountedWrite>(
+pub(crate) fn answer_lines<A: Allocator + Copy, W: CountedWrite>(
     alloc: A,
     session: &mut Session<'_, '_, A>,
     script: &[u8],
@@ -250,6 +250,28 @@ fn answer_all<A: Allocator + Copy, W: CountedWrite, V: CountedWrite>(
     }
 }
 
+/// Reads a script to its end.
+pub(crate) fn read_script<A: Allocator + Copy, R: CountedRead>(
+    alloc: A,
+    script: &mut R,
+) -> Result<Vec<u8, A>, RunFault>
+    requires { R.failed script.old < 2 ^ 63 }
+    ensures ok { IfOk result (λ v. IsScript (R.remaining script.old) v.items) }
+    ensures fault { IfErr result (λ e. StopsUnread (R.remaining script.old) e) }
+    ensures read { IsErrOf result RunFault.Read → R.failed script.old < R.failed script.new }
+    ensures read_hard { R.failed_hard script.new ≡ hard_after_run result (R.failed_hard script.old) }
+    ensures read_few { R.failed script.new ≤ R.failed script.old + 33554432 }
+    ensures endless { IsErrOf result RunFault.Endless → R.failed script.old + 16777216 ≤ R.failed script.new }
+{
+    match read_whole(alloc, script, MAX_SCRIPT, MAX_TURNS) {
+        Ok(bytes) => Ok(bytes),
+        Err(InputError::Memory) => Err(RunFault::Memory),
+        Err(InputError::Read) => Err(RunFault::Read),
+        Err(InputError::TooLong) => Err(RunFault::TooLong),
+        Err(InputError::Endless) => Err(RunFault::Endless),
+    }
+}
+
 /// Runs a script over a DEF text and a library.
 fn run_over<A, R, W, V>(
     alloc: A,
@@ -282,13 +304,7 @@ where
         Err(ReadError::Fault(fault)) => return Err(RunFault::Def(fault)),
         Err(ReadError::Memory) => return Err(RunFault::Memory),
     };
-    let bytes = match read_whole(alloc, script, MAX_SCRIPT, MAX_TURNS) {
-        Ok(bytes) => bytes,
-        Err(InputError::Memory) => return Err(RunFault::Memory),
-        Err(InputError::Read) => return Err(RunFault::Read),
-        Err(InputError::TooLong) => return Err(RunFault::TooLong),
-        Err(InputError::Endless) => return Err(RunFault::Endless),
-    };
+    let bytes = read_script(alloc, script)?;
     match answer_all(alloc, &mut session, bytes.as_slice(), out, def_out) {
         Ok(tally) => Ok(tally),
         Err(Stop::Memory) => Err(RunFault::Memory),

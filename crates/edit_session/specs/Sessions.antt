@@ -1,12 +1,10 @@
 -- What the calls of a session say.
 use Rattle.std.specs.Prelude.{◌≡◌, ◌≤◌, ℕ, false, List, length, Option, Some, None, Result, Ok, Err, IsOk, MatchOption}
-use Rattle.std.specs.List.{All}
 use Rattle.design_model.specs.declared.diagnostic.DiagLine.{DiagLine}
 use Rattle.design_model.specs.declared.edit.EditRefusal.{EditRefusal}
 use Rattle.design_model.specs.declared.edit.EditRefusal.TheVariants.{Refused, Unreadable, Memory}
 use Rattle.design_model.specs.declared.fault.ReadError as error
 use Rattle.design_model.specs.declared.fault.ReadError.{ReadError}
-use Rattle.design_model.specs.Lines.{IsOfItsKind}
 use Rattle.design_model.specs.Order.{texts}
 use Rattle.design_model.specs.declared.mode.Mode.TheVariants.{In}
 use Rattle.design_model.specs.declared.mode.Section.{Section}
@@ -34,16 +32,12 @@ OpensAs text (Err error.TheVariants.Memory) = Unit {0}
 abbrev pub Reports : {A : Type 0} → Library → List ℕ → List (DiagLine A) → Type 0
 Reports library text lines = (design : List Record) × (read_def text ≡ Ok design) × (texts lines ≡ diagnostics library design)
 
--- each printed line is of the kind that it has
-pub record HaveTheirKinds {A : Type 0} (lines : List (DiagLine A)) : Type 0 where
-  pub each : All IsOfItsKind lines
-
--- what making the text after an edit says: it is that of the edit's cuts, or refused as the edit is
-abbrev pub MakesText : {V : Type 0} → (V → List ℕ) → Library → List ℕ → Change → Result V EditRefusal → Type 0
-MakesText items library old change (Ok v) = (cuts : List Cut) × Makes library old change (Ok cuts) × (items v ≡ with_cuts cuts old)
-MakesText items library old change (Err (Refused code)) = Makes library old change (Err code)
-MakesText items library old change (Err (Unreadable fault)) = ⊥
-MakesText items library old change (Err Memory) = WantsMemory library old change
+-- what editing a text says: it has the edit's cuts made, or is as it was and refused as the edit is
+abbrev pub EditsText : {T : Type 0} → Library → List ℕ → Change → Result T EditRefusal → List ℕ → Type 0
+EditsText library old change (Ok t) new = (cuts : List Cut) × Makes library old change (Ok cuts) × (new ≡ with_cuts cuts old)
+EditsText library old change (Err (Refused code)) new = (new ≡ old) × Makes library old change (Err code)
+EditsText library old change (Err (Unreadable fault)) new = ⊥
+EditsText library old change (Err Memory) new = (new ≡ old) × WantsMemory library old change
 
 -- the text after an accepted edit reads as the edited design
 abbrev pub ReadsEdited : List ℕ → Change → List ℕ → Type 0

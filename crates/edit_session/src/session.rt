@@ -8,7 +8,8 @@ ghost use Rattle.def_grammar.specs.Records.{read_def};
 ghost use Rattle.design_rules.specs.Edits.{change_of};
 ghost use Rattle.design_rules.specs.Runs.{Answers, design_edit, text_edit};
 ghost use Rattle.def_reader.specs.EntryViews.{EntryIn};
-ghost use Rattle.edit_session.specs.Sessions.{HaveTheirKinds, KeepsTheRest, MakesText, OpensAs, ReadsEdited, ReplacesText, Reports, Views};
+ghost use Rattle.report_lines.specs.Kinds.{HaveTheirKinds};
+ghost use Rattle.edit_session.specs.Sessions.{EditsText, KeepsTheRest, OpensAs, ReadsEdited, ReplacesText, Reports, Views};
 
 use crate::report::report;
 use crate::view::{View, view_of};
@@ -16,7 +17,7 @@ use cell_library::library::Library;
 use counted_devices::counted::{CountedWrite, Failures};
 use counted_devices::output::{MAX_INTERRUPTIONS, WriteFault, write_whole};
 use def_reader::read_def::read_def;
-use def_splice::spliced::spliced;
+use def_splice::in_place::make_splices;
 use def_splice::splices::splices;
 use design_model::MAX_TEXT;
 use design_model::diagnostic::DiagLines;
@@ -64,6 +65,26 @@ impl<'s, 'l, A: Allocator + Copy> Session<'s, 'l, A> {
         Ok(Session { library, text })
     }
 
+    /// Opens a session on a text, which it takes. One that doesn't read is let go.
+    pub fn open_owned(
+        library: &'s Library<'l, A>,
+        text: Vec<u8, A>,
+    ) -> Result<Session<'s, 'l, A>, ReadError>
+        ensures opens { OpensAs text.items result }
+        ensures text { IfOk result (λ s. s.text ≡ text.items) }
+        ensures library { IfOk result (λ s. s.library ≡ library.now) }
+    {
+        read_def(*text.allocator(), &text)?;
+        Ok(Session { library, text })
+    }
+
+    /// The present text.
+    pub fn into_text(self) -> Vec<u8, A>
+        ensures { result.items ≡ self.text }
+    {
+        self.text
+    }
+
     /// Makes an edit, or refuses it and leaves the text as it was.
     pub fn edit(&mut self, edit: &Edit<'_>) -> Result<Done, EditRefusal>
         ensures answer { Answers self.old.library self.old.text (design_edit (change_of edit.now)) result self.new.text }
@@ -72,8 +93,7 @@ impl<'s, 'l, A: Allocator + Copy> Session<'s, 'l, A> {
         ensures library { self.new.library ≡ self.old.library }
         ensures reads { IsOk (read_def self.new.text) }
     {
-        let new = edited_text(*self.text.allocator(), self.library, &self.text, edit)?;
-        self.text = new;
+        edit_text(self.library, &mut self.text, edit)?;
         Ok(Done { reads: 0, tests: 0 })
     }
 
@@ -125,26 +145,25 @@ impl<'s, 'l, A: Allocator + Copy> Session<'s, 'l, A> {
     }
 }
 
-/// The text after an edit of a text that reads.
-fn edited_text<A: Allocator + Copy>(
-    alloc: A,
+/// Makes an edit of a text that reads, or refuses it and leaves the text as it was.
+fn edit_text<A: Allocator + Copy>(
     library: &Library<'_, A>,
-    text: &[u8],
+    text: &mut Vec<u8, A>,
     edit: &Edit<'_>,
-) -> Result<Vec<u8, A>, EditRefusal>
-    requires fits { length text.now ≤ MAX_TEXT }
-    requires reads { IsOk (read_def text.now) }
-    ensures makes { MakesText (λ v. v.items) library.now text.now (change_of edit.now) result }
-    ensures applied { IfOk result (λ v. ReadsEdited text.now (change_of edit.now) v.items) }
-    ensures keeps { IfOk result (λ v. KeepsTheRest library.now text.now (change_of edit.now) v.items) }
-    ensures fits { IfOk result (λ v. length v.items ≤ MAX_TEXT) }
-    ensures reads { IfOk result (λ v. IsOk (read_def v.items)) }
+) -> Result<(), EditRefusal>
+    requires fits { length text.old.items ≤ MAX_TEXT }
+    requires reads { IsOk (read_def text.old.items) }
+    ensures edits { EditsText library.now text.old.items (change_of edit.now) result text.new.items }
+    ensures applied { IfOk result (λ _. ReadsEdited text.old.items (change_of edit.now) text.new.items) }
+    ensures keeps { IfOk result (λ _. KeepsTheRest library.now text.old.items (change_of edit.now) text.new.items) }
+    ensures fits { length text.new.items ≤ MAX_TEXT }
+    ensures reads { IsOk (read_def text.new.items) }
 {
     edits_are_applied();
     edits_keep_the_rest();
-    let splices = splices(alloc, library, text, edit)?;
-    let new = spliced(alloc, text, splices.as_slice())?;
-    Ok(new)
+    let splices = splices(*text.allocator(), library, text.as_slice(), edit)?;
+    make_splices(text, splices)?;
+    Ok(())
 }
 
 /// The text after bytes took the place of those from `a` up to `b`.
