@@ -19,7 +19,7 @@ END DESIGN
 ";
 
 /// The statements of a text that reads.
-fn records_of<'t, A: Allocator + Copy>(
+pub fn records_of<'t, A: Allocator + Copy>(
     alloc: A,
     text: &'t [u8],
 ) -> Result<Vec<Statement<'t>, A>, &'static str> {

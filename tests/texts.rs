@@ -13,3 +13,11 @@ UNITS DISTANCE MICRONS 1000 ;\nDIEAREA ( 0 0 ) ( 9200 2720 ) ;\n\
 ROW r0 core 0 0 N DO 20 BY 1 STEP 460 0 ;\n\
 COMPONENTS 2 ;\n- u1 INV ;\n- u2 INV + PLACED ( 920 0 ) N ;\nEND COMPONENTS\n\
 END DESIGN\n";
+
+/// Two layers of metal with a via, and wires of 0.14 microns.
+pub const METALS: &[u8] = b"VERSION 5.8 ;\n\
+LAYER met1\n  TYPE ROUTING ;\n  WIDTH 0.14 ;\n  SPACING 0.14 ;\nEND met1\n\
+LAYER via1\n  TYPE CUT ;\nEND via1\n\
+LAYER met2\n  TYPE ROUTING ;\n  WIDTH 0.14 ;\n  SPACING 0.14 ;\nEND met2\n\
+VIA M1M2 DEFAULT\n  LAYER met1 ;\n    RECT -0.1 -0.1 0.1 0.1 ;\n  LAYER via1 ;\n    RECT -0.05 -0.05 0.05 0.05 ;\n\
+  LAYER met2 ;\n    RECT -0.1 -0.1 0.1 0.1 ;\nEND M1M2\n";

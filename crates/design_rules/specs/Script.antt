@@ -1,5 +1,5 @@
 -- The lines of a script, and what each asks (own).
-use Rattle.std.specs.Prelude.{ℕ, Bool, true, false, not, ◌||◌, ◌==◌, List, [], ◌∷◌, length, filter, drop, take_while, Option, Some, None, Result, Ok, Err, ℤ, pos, codes, if◌then◌else◌}
+use Rattle.std.specs.Prelude.{ℕ, Bool, true, false, not, ◌||◌, ◌==◌, List, [], ◌∷◌, length, filter, drop, take_while, Option, Some, None, unwrap_or, Result, Ok, Err, ℤ, pos, codes, if◌then◌else◌}
 use Rattle.std.specs.List.{slice_split}
 use Rattle.design_model.specs.declared.geometry.Orient.{Orient}
 use Rattle.design_model.specs.declared.number.NumFault.{NumFault}
@@ -8,7 +8,7 @@ use Rattle.design_model.specs.declared.edit.EditCode.TheVariants.{Number, Range}
 use Rattle.design_model.specs.declared.mode.Section.{Section}
 use Rattle.design_model.specs.EnumWords.{orient_word, orients, section_word, sections}
 use Rattle.design_model.specs.Units.{whole}
-use Rattle.form_meanings.specs.Words.{◌>>=◌, is_word}
+use Rattle.form_meanings.specs.Words.{◌>>=◌, first}
 use Rattle.form_meanings.specs.Meaning.{find}
 use Rattle.design_rules.specs.Edits.{place}
 use Rattle.design_rules.specs.Runs.{Step, design_edit, text_edit}
@@ -41,8 +41,43 @@ abbrev pub is_some_word : List ℕ → Bool
 is_some_word [] = false
 is_some_word (b ∷ bs) = true
 
+abbrev pub is_blank : ℕ → Bool
+is_blank b = b == 32 || b == 9
+
 abbrev pub line_words : List ℕ → List (List ℕ)
-line_words line = filter is_some_word (slice_split (λ b. b == 32 || b == 9) line)
+line_words line = filter is_some_word (slice_split is_blank line)
+
+-- what is left of a line after such bytes, and after its first word
+abbrev pub past : (ℕ → Bool) → List ℕ → List ℕ
+past test line = drop (length (take_while test line)) line
+
+abbrev pub after_word : List ℕ → List ℕ
+after_word line = past (λ b. not (is_blank b)) (past is_blank line)
+
+-- the first word of a line, and what stands behind it
+abbrev pub first_word : List ℕ → Option (List ℕ × List ℕ)
+first_word line = first (line_words line) >>= λ w. Some (w, after_word line)
+
+-- a line without words, and the words of a line that has so many
+abbrev pub no_words : List (List ℕ) → Bool
+no_words [] = true
+no_words ws = false
+
+abbrev pub one_word : List (List ℕ) → Option (List ℕ)
+one_word (a ∷ []) = Some a
+one_word ws = None
+
+abbrev pub two_words : List (List ℕ) → Option (List ℕ × List ℕ)
+two_words (a ∷ b ∷ []) = Some (a, b)
+two_words ws = None
+
+abbrev pub three_words : List (List ℕ) → Option (List ℕ × List ℕ × List ℕ)
+three_words (a ∷ b ∷ c ∷ []) = Some (a, b, c)
+three_words ws = None
+
+abbrev pub four_words : List (List ℕ) → Option (List ℕ × List ℕ × List ℕ × List ℕ)
+four_words (a ∷ b ∷ c ∷ d ∷ []) = Some (a, b, c, d)
+four_words ws = None
 
 -- what a line asks of a design
 pub data Question : Type 0 where
@@ -62,37 +97,6 @@ abbrev pub number_or_out : Result ℤ NumFault → ℤ
 number_or_out (Ok n) = n
 number_or_out (Err e) = pos 2147483648
 
-abbrev pub place_or_bad : List ℕ → List ℕ → List ℕ → Option Orient → Order
-place_or_bad c x y None = bad
-place_or_bad c x y (Some o) = make (design_edit (place c (number_or_out (whole x)) (number_or_out (whole y)) o))
-
--- `place c x y o` after its first word
-abbrev pub place_order : List (List ℕ) → Order
-place_order (c ∷ x ∷ y ∷ o ∷ []) = place_or_bad c x y (find orient_word orients o)
-place_order [] = bad
-place_order (c ∷ []) = bad
-place_order (c ∷ x ∷ []) = bad
-place_order (c ∷ x ∷ y ∷ []) = bad
-place_order (c ∷ x ∷ y ∷ o ∷ w ∷ ws) = bad
-
-abbrev pub no_words : List (List ℕ) → Bool
-no_words [] = true
-no_words (w ∷ ws) = false
-
-abbrev pub is_blank : ℕ → Bool
-is_blank b = b == 32 || b == 9
-
--- what is left of a line after such bytes, and after its first word
-abbrev pub past : (ℕ → Bool) → List ℕ → List ℕ
-past test line = drop (length (take_while test line)) line
-
-abbrev pub after_word : List ℕ → List ℕ
-after_word line = past (λ b. not (is_blank b)) (past is_blank line)
-
--- what stands one byte after the third word, which may be nothing
-abbrev pub after_third : List ℕ → List ℕ
-after_third line = drop 1 (after_word (after_word (after_word line)))
-
 -- the byte that is written with a backslash and this one
 abbrev pub escaped : ℕ → Option ℕ
 escaped b =
@@ -111,43 +115,52 @@ unescaped (b ∷ c ∷ cs) =
     else (unescaped (c ∷ cs) >>= λ es. Some (b ∷ es))
 
 -- a range by its ends: an invalid number, and then one below 0, is refused
-abbrev pub text_order : List ℕ → Result ℤ NumFault → Result ℤ NumFault → Order
-text_order put (Ok (pos a)) (Ok (pos b)) = make (text_edit a b put)
-text_order put (Ok a) (Ok b) = refuse Range
-text_order put (Err e) b = refuse Number
-text_order put (Ok a) (Err e) = refuse Number
+abbrev pub range_order : List ℕ → Result ℤ NumFault → Result ℤ NumFault → Order
+range_order put (Ok (pos a)) (Ok (pos b)) = make (text_edit a b put)
+range_order put (Ok a) (Ok b) = refuse Range
+range_order put (Err e) b = refuse Number
+range_order put (Ok a) (Err e) = refuse Number
 
-abbrev pub text_or_bad : List ℕ → List ℕ → Option (List ℕ) → Order
-text_or_bad a b None = bad
-text_or_bad a b (Some put) = text_order put (whole a) (whole b)
+-- What a command asks by what stands behind its name.
+-- `place c x y o`
+abbrev pub place_order : List ℕ → Option Order
+place_order line = do
+  (c, x, y, o) ← four_words (line_words line)
+  orient ← find orient_word orients o
+  Some (make (design_edit (place c (number_or_out (whole x)) (number_or_out (whole y)) orient)))
 
--- `text a b NEW`: its words after the first, and NEW as it is written
-abbrev pub text_words : List (List ℕ) → List ℕ → Order
-text_words [] new = bad
-text_words (a ∷ []) new = bad
-text_words (a ∷ b ∷ ws) new = text_or_bad a b (unescaped new)
+-- `check`
+abbrev pub check_order : List ℕ → Option Order
+check_order line = if no_words (line_words line) then Some (ask report) else None
 
--- `show S n` after its first word
-abbrev pub show_or_bad : Option Section → List ℕ → Order
-show_or_bad None name = bad
-show_or_bad (Some s) name = ask (shown s name)
+-- `text a b NEW`, where NEW is all that stands one byte behind b, as it is written
+abbrev pub text_order : List ℕ → Option Order
+text_order line = do
+  (a, later) ← first_word line
+  (b, left) ← first_word later
+  put ← unescaped (drop 1 left)
+  Some (range_order put (whole a) (whole b))
 
-abbrev pub show_order : List (List ℕ) → Order
-show_order (s ∷ n ∷ []) = show_or_bad (find section_word sections s) n
-show_order [] = bad
-show_order (s ∷ []) = bad
-show_order (s ∷ n ∷ w ∷ ws) = bad
+-- `show S n`
+abbrev pub show_order : List ℕ → Option Order
+show_order line = do
+  (s, name) ← two_words (line_words line)
+  section ← find section_word sections s
+  Some (ask (shown section name))
 
-abbrev pub words_order : List ℕ → List (List ℕ) → Order
-words_order line [] = nothing
-words_order line (w ∷ ws) =
-    if is_word (codes "place") w then place_order ws
-    else (if is_word (codes "check") w then (if no_words ws then ask report else bad)
-    else (if is_word (codes "text") w then text_words ws (after_third line)
-    else (if is_word (codes "show") w then show_order ws
-    else bad)))
+-- the commands by their names
+abbrev pub commands : List (List ℕ × (List ℕ → Option Order))
+commands = (codes "place", place_order) ∷ (codes "check", check_order) ∷ (codes "text", text_order) ∷ (codes "show", show_order) ∷ []
+
+-- a name, and what stands behind it
+abbrev pub named_order : List ℕ → List ℕ → Option Order
+named_order name line = find (λ c. c.0) commands name >>= λ c. c.1 line
+
+abbrev pub words_order : Option (List ℕ × List ℕ) → Order
+words_order None = nothing
+words_order (Some (name, line)) = unwrap_or (named_order name line) bad
 
 -- a line that starts with # is passed over
 abbrev pub order_of : List ℕ → Order
 order_of [] = nothing
-order_of (b ∷ bs) = if b == 35 then nothing else words_order (b ∷ bs) (line_words (b ∷ bs))
+order_of (b ∷ bs) = if b == 35 then nothing else words_order (first_word (b ∷ bs))

@@ -1,8 +1,10 @@
 -- What a parsed line asks.
-use Rattle.std.specs.Prelude.{ℕ, List, Option, Some, None, if◌then◌else◌}
+use Rattle.std.specs.Prelude.{ℕ, List, Option, Some, None}
+use Rattle.design_model.specs.Units.{whole}
+use Rattle.form_meanings.specs.Words.{◌>>=◌}
 use Rattle.design_rules.specs.Edits.{change_of}
 use Rattle.design_rules.specs.Runs.{design_edit, text_edit}
-use Rattle.design_rules.specs.Script.{Question, report, shown, Order, nothing, make, refuse, ask, bad, no_words, unescaped}
+use Rattle.design_rules.specs.Script.{Question, report, shown, Order, nothing, make, refuse, ask, bad, range_order, unescaped}
 use Rattle.script_lines.specs.declared.command.Command as command
 use Rattle.script_lines.specs.declared.command.Question as code_question
 use Rattle.script_lines.specs.declared.command.Command.{Command}
@@ -24,6 +26,6 @@ order_seen (command.TheVariants.Refused code) = refuse code
 order_seen (command.TheVariants.Ask question) = ask (question_seen question)
 order_seen command.TheVariants.Bad = bad
 
--- `check` after its word
-abbrev pub check_order : List (List ℕ) → Order
-check_order ws = if no_words ws then ask report else bad
+-- `text a b NEW` with the bytes that NEW is written for, if any
+abbrev pub text_or_none : List ℕ → List ℕ → Option (List ℕ) → Option Order
+text_or_none a b new = new >>= λ put. Some (range_order put (whole a) (whole b))

@@ -1,15 +1,17 @@
 //! The lines of a script.
 
-ghost use Rattle.std.specs.Prelude.{◌≡◌, drop};
-ghost use Rattle.design_rules.specs.Script.{after_word, line_words, number_or_out, order_of, place_order, show_order, text_or_bad, text_words, unescaped, words_order};
+ghost use Rattle.std.specs.Prelude.{◌≡◌, Some, drop};
+ghost use Rattle.form_meanings.specs.Words.{Gives};
+ghost use Rattle.design_rules.specs.Script.{check_order, first_word, named_order, number_or_out, order_of, place_order, show_order, text_order, unescaped, words_order};
 ghost use Rattle.design_model.specs.Units.{whole};
-ghost use Rattle.script_lines.specs.Orders.{check_order, order_seen};
+ghost use Rattle.script_lines.specs.Orders.{order_seen, text_or_none};
 
 use crate::escape::{EscapedBytes, checked};
-use crate::line::next_word;
+use crate::line::{four_words, next_word, no_words, two_words};
 use design_model::edit::{Edit, EditCode};
 use design_model::geometry::Orient;
 use design_model::mode::Section;
+use design_model::word::is_word;
 use unit_numbers::whole;
 
 /// What a line asks of a design.
@@ -53,39 +55,34 @@ fn number_of(word: &[u8]) -> i64
     }
 }
 
-/// `place c x y o` after its first word.
-fn place(line: &[u8]) -> Command<'_>
-    ensures { order_seen result ≡ place_order (line_words line.now) }
+/// `place c x y o` behind its name.
+fn place(line: &[u8]) -> Option<Command<'_>>
+    ensures { Gives order_seen result (place_order line.now) }
 {
-    let Some((component, line)) = next_word(line) else {
-        return Command::Bad;
-    };
-    let Some((x, line)) = next_word(line) else {
-        return Command::Bad;
-    };
-    let Some((y, line)) = next_word(line) else {
-        return Command::Bad;
-    };
-    let Some((orient, line)) = next_word(line) else {
-        return Command::Bad;
-    };
-    if let Some(_) = next_word(line) {
-        return Command::Bad;
-    }
-    match Orient::of_word(orient) {
-        Some(orient) => Command::Edit(Edit::Place {
-            component,
-            x: number_of(x),
-            y: number_of(y),
-            orient,
-        }),
-        None => Command::Bad,
+    let (component, x, y, orient) = four_words(line)?;
+    let orient = Orient::of_word(orient)?;
+    Some(Command::Edit(Edit::Place {
+        component,
+        x: number_of(x),
+        y: number_of(y),
+        orient,
+    }))
+}
+
+/// `check` behind its name.
+fn check(line: &[u8]) -> Option<Command<'_>>
+    ensures { Gives order_seen result (check_order line.now) }
+{
+    if no_words(line) {
+        Some(Command::Ask(Question::Report))
+    } else {
+        None
     }
 }
 
 /// The range of `text a b NEW`.
 fn text_range<'a>(a: &[u8], b: &[u8], new: EscapedBytes<'a>) -> Command<'a>
-    ensures { order_seen result ≡ text_or_bad a.now b.now (unescaped new.entry.raw.now) }
+    ensures { Some (order_seen result) ≡ text_or_none a.now b.now (unescaped new.entry.raw.now) }
 {
     let Ok(a) = whole(a) else {
         return Command::Refused(EditCode::Number);
@@ -110,68 +107,52 @@ fn after_byte(line: &[u8]) -> &[u8]
     if line.is_empty() { line } else { &line[1..] }
 }
 
-/// `text a b NEW` after its first word: NEW is all that stands one byte after `b`.
-fn text(line: &[u8]) -> Command<'_>
-    ensures { order_seen result ≡ text_words (line_words line.now) (drop 1 (after_word (after_word line.now))) }
+/// `text a b NEW` behind its name: NEW is all that stands one byte behind `b`.
+fn text(line: &[u8]) -> Option<Command<'_>>
+    ensures { Gives order_seen result (text_order line.now) }
 {
-    let Some((a, line)) = next_word(line) else {
-        return Command::Bad;
-    };
-    let Some((b, line)) = next_word(line) else {
-        return Command::Bad;
-    };
-    match checked(after_byte(line)) {
-        Some(new) => text_range(a, b, new),
-        None => Command::Bad,
-    }
+    let (a, line) = next_word(line)?;
+    let (b, line) = next_word(line)?;
+    let new = checked(after_byte(line))?;
+    Some(text_range(a, b, new))
 }
 
-/// `check` after its word.
-fn check(line: &[u8]) -> Command<'_>
-    ensures { order_seen result ≡ check_order (line_words line.now) }
+/// `show S n` behind its name.
+fn show(line: &[u8]) -> Option<Command<'_>>
+    ensures { Gives order_seen result (show_order line.now) }
 {
-    match next_word(line) {
-        Some(_) => Command::Bad,
-        None => Command::Ask(Question::Report),
-    }
+    let (section, name) = two_words(line)?;
+    let section = Section::of_word(section)?;
+    Some(Command::Ask(Question::Show(section, name)))
 }
 
-/// `show S n` after its first word.
-fn show(line: &[u8]) -> Command<'_>
-    ensures { order_seen result ≡ show_order (line_words line.now) }
+/// The command of a name, with the line behind it.
+fn named<'a>(name: &[u8], line: &'a [u8]) -> Option<Command<'a>>
+    ensures { Gives order_seen result (named_order name.now line.now) }
 {
-    let Some((section, line)) = next_word(line) else {
-        return Command::Bad;
-    };
-    let Some((name, line)) = next_word(line) else {
-        return Command::Bad;
-    };
-    if let Some(_) = next_word(line) {
-        return Command::Bad;
-    }
-    match Section::of_word(section) {
-        Some(section) => Command::Ask(Question::Show(section, name)),
-        None => Command::Bad,
+    if is_word(name, b"place") {
+        place(line)
+    } else if is_word(name, b"check") {
+        check(line)
+    } else if is_word(name, b"text") {
+        text(line)
+    } else if is_word(name, b"show") {
+        show(line)
+    } else {
+        None
     }
 }
 
 /// What the words of a line ask.
 fn command_of(line: &[u8]) -> Command<'_>
-    ensures { order_seen result ≡ words_order line.now (line_words line.now) }
+    ensures { order_seen result ≡ words_order (first_word line.now) }
 {
-    let Some((name, rest)) = next_word(line) else {
+    let Some((name, line)) = next_word(line) else {
         return Command::Nothing;
     };
-    if name == b"place".as_slice() {
-        place(rest)
-    } else if name == b"check".as_slice() {
-        check(rest)
-    } else if name == b"text".as_slice() {
-        text(rest)
-    } else if name == b"show".as_slice() {
-        show(rest)
-    } else {
-        Command::Bad
+    match named(name, line) {
+        Some(command) => command,
+        None => Command::Bad,
     }
 }
 

@@ -2,7 +2,8 @@
 
 ghost use Rattle.std.specs.Prelude.{◌≡◌, ◌≤◌, ◌==◌, length, not};
 ghost use Rattle.std.specs.List.{prefix_len};
-ghost use Rattle.design_rules.specs.Script.{is_blank, past, trimmed};
+ghost use Rattle.form_meanings.specs.Words.{Gives};
+ghost use Rattle.design_rules.specs.Script.{four_words, is_blank, line_words, no_words, one_word, past, three_words, trimmed, two_words};
 ghost use Rattle.script_lines.specs.Parts.{IsNextLine, IsNextWord};
 
 use bstr::ByteSlice;
@@ -72,6 +73,63 @@ pub fn next_word(line: &[u8]) -> Option<(&[u8], &[u8])>
         return None;
     }
     Some((&words[..len], &words[len..]))
+}
+
+/// Whether a line has no word.
+pub fn no_words(line: &[u8]) -> bool
+    ensures { result ≡ no_words (line_words line.now) }
+{
+    next_word(line).is_none()
+}
+
+/// The word of a line that has one.
+pub fn one_word(line: &[u8]) -> Option<&[u8]>
+    ensures { Gives (λ w. w.now) result (one_word (line_words line.now)) }
+{
+    let (first, line) = next_word(line)?;
+    match next_word(line) {
+        None => Some(first),
+        Some(_) => None,
+    }
+}
+
+/// The words of a line that has two.
+pub fn two_words(line: &[u8]) -> Option<(&[u8], &[u8])>
+    ensures { Gives (λ w. (w.0.now, w.1.now)) result (two_words (line_words line.now)) }
+{
+    let (first, line) = next_word(line)?;
+    let (second, line) = next_word(line)?;
+    match next_word(line) {
+        None => Some((first, second)),
+        Some(_) => None,
+    }
+}
+
+/// The words of a line that has three.
+pub fn three_words(line: &[u8]) -> Option<(&[u8], &[u8], &[u8])>
+    ensures { Gives (λ w. (w.0.now, w.1.now, w.2.now)) result (three_words (line_words line.now)) }
+{
+    let (first, line) = next_word(line)?;
+    let (second, line) = next_word(line)?;
+    let (third, line) = next_word(line)?;
+    match next_word(line) {
+        None => Some((first, second, third)),
+        Some(_) => None,
+    }
+}
+
+/// The words of a line that has four.
+pub fn four_words(line: &[u8]) -> Option<(&[u8], &[u8], &[u8], &[u8])>
+    ensures { Gives (λ w. (w.0.now, w.1.now, w.2.now, w.3.now)) result (four_words (line_words line.now)) }
+{
+    let (first, line) = next_word(line)?;
+    let (second, line) = next_word(line)?;
+    let (third, line) = next_word(line)?;
+    let (fourth, line) = next_word(line)?;
+    match next_word(line) {
+        None => Some((first, second, third, fourth)),
+        Some(_) => None,
+    }
 }
 
 /// A line without the carriage return before its line feed.
