@@ -6,26 +6,23 @@ use Rattle.statement_model.specs.Boundaries.{Ending, statements}
 use Rattle.statement_model.specs.Folds.{◌>>◌, all_from}
 use Rattle.statement_model.specs.Grammar.{Key, Grammar}
 use Rattle.statement_model.specs.Reading.{read_one, at_last, read_from}
-use Rattle.statement_laws.specs.ReadingLaws.{ReadsAs}
 use Rattle.statement_laws.proofs.Reading.{reading_by_steps}
 use Rattle.edit_laws.proofs.CutStatements.{parted}
 use Rattle.edit_laws.proofs.SameWords.{then_goes}
-use Rattle.edit_laws.proofs.Stands.{firsts, seconds, split, whole_text, cut_reads}
+use Rattle.edit_laws.proofs.Stands.{firsts, split, whole_text}
 
 pair_same : {A B : Type 0} (a b : A) (c d : B) → a ≡ b → c ≡ d → ◌≡◌ {A = A × B} (a, c) (b, d)
 pair_same a b c d e f = cc
 
 module _ {M R : Type 0} (g : Grammar M R) (ending : List ℕ → Ending) (ends : (m : M) → g.ending m ≡ ending) where
-  -- a statement among those of a text that reads: the tokens before and after it, and what they read as
-  pub record Stands (state : M × List Key) (l : Lexed) (first : List R) (s : List Piece) (rec : R) (others : List R) : Type 0 where
+  -- a statement among those of a text that reads: the tokens before and after it, and the state from which it is read
+  pub record Stands (l : Lexed) (s : List Piece) (rec : R) : Type 0 where
     pub front : List Piece
     pub behind : List Piece
     pub at : M × List Key
     pub after : M × List Key
     pub pieces : l.pieces ≡ front ++ (s ++ behind)
-    pub first_read : ReadsAs g state front first at
     pub one_read : read_one g at s ≡ Ok (rec, after)
-    pub others_read : read_from g after (record { pieces = behind; end = l.end }) ≡ Ok others
 
   -- the records of what is left, from those of its statements
   pub rest_reads : (state end : M × List Key) (ps : List Piece) (ss : List (List Piece)) (recs : List R) (last : Result ℕ Fault) → statements ending [] ps ≡ (ss, []) → all_from (read_one g) state ss ≡ Ok (recs, end)
@@ -38,7 +35,7 @@ module _ {M R : Type 0} (g : Grammar M R) (ending : List ℕ → Ending) (ends :
       ∙ (then_goes (at_last g end [] last) (λ later. Ok (recs ++ later)) [] done ∙ ap (λ (l : List R). Ok l) (append-nil recs))))
 
   pub stands : (state : M × List Key) (l : Lexed) (recs : List R) (first : List (List Piece × R)) (s : List Piece) (rec : R) (others : List (List Piece × R)) → read_from g state l ≡ Ok recs
-      → zip (statements ending [] l.pieces).0 recs ≡ first ++ (s, rec) ∷ others → Stands state l (seconds first) s rec (seconds others)
+      → zip (statements ending [] l.pieces).0 recs ≡ first ++ (s, rec) ∷ others → Stands l s rec
   stands state l recs first s rec others reads located =
       let all = statements ending [] l.pieces in
       let w = whole_text g ending ends state l recs reads in
@@ -51,7 +48,5 @@ module _ {M R : Type 0} (g : Grammar M R) (ending : List ℕ → Ending) (ends :
         at = p.at;
         after = p.after;
         pieces = parts.pieces;
-        first_read = cut_reads g ending ends state p.at parts.front (firsts first) (seconds first) parts.first p.first_read;
         one_read = p.one_read;
-        others_read = rest_reads p.after w.end parts.behind (firsts others) (seconds others) l.end parts.others p.others_read w.ended;
       }
