@@ -1,5 +1,5 @@
 -- Worked rows of edits of a design, by computing.
-use Rattle.std.proofs.Common.{◌≡◌, ◌++◌, List, ℕ, [], ◌∷◌, Ok, Err, Result, Option, Some, None, refl, codes, pos, negsuc}
+use Rattle.std.proofs.Common.{◌≡◌, ◌++◌, true, false, List, ℕ, [], ◌∷◌, Ok, Err, Result, Option, Some, None, refl, codes, pos, negsuc}
 use Rattle.design_model.specs.declared.fault.Fault.{Fault}
 use Rattle.design_model.specs.declared.edit.EditCode.{EditCode}
 use Rattle.design_model.specs.declared.edit.EditCode.TheVariants.{UnknownName, Fixed, Number}
@@ -12,7 +12,9 @@ use Rattle.statement_model.specs.Form.{read}
 use Rattle.def_grammar.specs.Components.{Component, component_form}
 use Rattle.def_grammar.specs.Records.{Record, read_def}
 use Rattle.lef_grammar.specs.Library.{empty_library}
-use Rattle.design_rules.specs.Edits.{Change, place, cut_of, place_change, cuts_of, applied}
+use Rattle.design_rules.specs.ComponentEdits.{place_change}
+use Rattle.design_rules.specs.Edits.{Change, place, cuts_of, applied}
+use Rattle.design_rules.specs.Plans.{cut_of, lowest}
 use Rattle.definition_rows.proofs.Computing.{def_texts}
 
 -- a design of one component with these clauses
@@ -107,3 +109,26 @@ cut_at_string = (refl, refl)
 cut_of_first : cut_in (codes "- u INV + UNPLACED + PLACED ( 1 2 ) S ;") ≡ Some (record { lo = 10; hi = 18; put = codes "PLACED ( 460 -5 ) FN" })
 unfolding def_texts
 cut_of_first = refl
+
+-- the cut of a change in a text of one statement
+abbrev cut_at_tokens : List ℕ → ℕ → ℕ → List ℕ → Cut
+cut_at_tokens text before taken put = cut_of text (tokens text).pieces (record { before = before; taken = taken; put = put; said = [] })
+
+-- what is put in the place of tokens has a space behind it where the next byte would be glued to it, but none behind
+-- nothing and behind white space
+spaces_behind : (cut_at_tokens (codes "\"a\"\"b\"c") 1 1 (codes "x") ≡ record { lo = 3; hi = 6; put = codes "x " })
+    × (cut_at_tokens (codes "\"a\"\"b\"c") 1 1 (codes "x\t") ≡ record { lo = 3; hi = 6; put = codes "x\t" })
+    × (cut_at_tokens (codes "\"a\"\"b\"c") 1 1 [] ≡ record { lo = 3; hi = 6; put = [] })
+    × (cut_at_tokens (codes "a b\tc") 1 1 (codes "x") ≡ record { lo = 2; hi = 3; put = codes "x" })
+unfolding def_texts
+spaces_behind = (refl, refl, refl, refl)
+
+-- where no token is taken, bytes go right behind the token before, or to the place of the first
+gaps : (cut_at_tokens (codes " a  b ;") 1 0 (codes " x") ≡ record { lo = 2; hi = 2; put = codes " x" })
+    × (cut_at_tokens (codes " a  b ;") 0 0 (codes "- x ;\n") ≡ record { lo = 1; hi = 1; put = codes "- x ;\n" })
+unfolding def_texts
+gaps = (refl, refl)
+
+-- of several refusals the first counts
+first_refusal : (lowest ((false, UnknownName) ∷ (true, Fixed) ∷ (true, Number) ∷ []) ≡ Some Fixed) × (lowest ((false, Fixed) ∷ []) ≡ None)
+first_refusal = (refl, refl)

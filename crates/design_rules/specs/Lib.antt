@@ -1,12 +1,14 @@
 pub mod Boxes
+pub mod ComponentEdits
 pub mod CountLines
 pub mod Diagnostics
 pub mod Edits
 pub mod Entries
 pub mod Families
-pub mod OverlapLines
 pub mod Output
+pub mod OverlapLines
 pub mod PlaceLines
+pub mod Plans
 pub mod Runs
 pub mod Script
 pub mod Surroundings

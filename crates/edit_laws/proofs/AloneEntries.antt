@@ -1,5 +1,5 @@
 -- The bytes of an entry are one statement, which reads as the entry does in its text.
-use Rattle.std.proofs.Common.{◌≡◌, ◌≤◌, ◌<◌, ℕ, ◌+◌, ◌-◌, List, [], ◌∷◌, ◌++◌, length, drop, Result, Ok, Option, Some, arith, refl, sym, ap, ap₂, subst, ◌∙◌, ⊎_elim, slice_range, append-nil}
+use Rattle.std.proofs.Common.{◌≡◌, ◌≤◌, ◌<◌, ℕ, ◌+◌, ◌-◌, List, [], ◌∷◌, ◌++◌, length, map, drop, Result, Ok, Option, Some, arith, refl, sym, ap, ap₂, subst, ◌∙◌, ⊎_elim, slice_range, append-nil}
 use Rattle.std.proofs.lemmas.Bool.{cases_Bool as cases}
 use Rattle.std.proofs.lemmas.List.{length-take, length-drop, length-map}
 use Rattle.design_model.specs.declared.fault.Fault.{Fault}
@@ -12,16 +12,16 @@ use Rattle.statement_model.specs.Reading.{pos_of, with_left, read_found, read_at
 use Rattle.def_grammar.specs.Records.{Entry, section_of, Record, entry, def_ending, def}
 use Rattle.design_rules.specs.Edits.{located}
 use Rattle.design_rules.specs.Entries.{bytes_of}
+use Rattle.lefdef_tokens.specs.Laws.{moved_piece}
 use Rattle.splicing_laws.specs.SliceLaws.{RunsAreTexts}
 use Rattle.edit_laws.specs.AloneLaws.{EntriesStandAlone}
 use Rattle.edit_laws.specs.EntryLaws.{IsWritten}
 use Rattle.edit_laws.proofs.CutStatements.{joined, all_kept}
-use Rattle.edit_laws.proofs.EditedDesigns.{tokens_read}
-use Rattle.edit_laws.proofs.EntriesChanged.{entries_are_written, tokens_need_text}
 use Rattle.edit_laws.proofs.EntryForms.{entry_reads}
 use Rattle.edit_laws.proofs.FoundEntries.{entry_found}
-use Rattle.edit_laws.proofs.MovedChanges.{words_later}
-use Rattle.edit_laws.proofs.Replaced.{stands}
+use Rattle.edit_laws.proofs.PlanTexts.{tokens_read}
+use Rattle.edit_laws.proofs.StandingStatements.{stands}
+use Rattle.edit_laws.proofs.WrittenEntries.{entries_are_written, tokens_need_text}
 
 -- tokens that are one statement are the first, and nothing is left
 one_is_cut : (ending : List ℕ → Ending) (before ps s : List Piece) → statements ending before ps ≡ (s ∷ [], []) → cut ending before ps ≡ Some (s, [])
@@ -58,6 +58,11 @@ some_tokens : (ps : List Piece) → statements def_ending [] ps ≡ (ps ∷ [], 
 unfolding statements
 some_tokens [] e = let none : [] ≡ [] ∷ [] = ap (λ (x : List (List Piece) × List Piece). x.0) e in absurd (cc)
 some_tokens (p ∷ ps) e = omega arith
+
+-- words are the same wherever they stand
+words_later : (k : ℕ) (ps : List Piece) → words (map (moved_piece k) ps) ≡ words ps
+words_later k [] = refl
+words_later k (p ∷ ps) = ap (λ (ws : List (List ℕ)). p.bytes ∷ ws) (words_later k ps)
 
 same_length : (ps qs : List Piece) → words ps ≡ words qs → length ps ≡ length qs
 same_length ps qs e = sym (length-map ps _) ∙ (ap (λ (ws : List (List ℕ)). length ws) e ∙ length-map qs _)

@@ -8,8 +8,8 @@ use Rattle.statement_model.specs.Tokens.{Piece}
 use Rattle.def_grammar.specs.Components.{Component}
 use Rattle.def_grammar.specs.Records.{component, Record, top, in_properties, end_section, entry, component_of}
 use Rattle.design_rules.specs.Edits.{component_if, or_later, component_at}
-use Rattle.edit_laws.specs.EntryLaws.{StandsAmong}
-use Rattle.edit_laws.specs.PlacingLaws.{ComponentsAreFound}
+use Rattle.edit_laws.specs.ComponentLaws.{ComponentsAreFound}
+use Rattle.edit_laws.specs.StatementLaws.{StandsAmong}
 
 abbrev Found : Type 0
 Found = Option (List Piece × Component)
@@ -40,7 +40,7 @@ found_one name qs (entry (inl (inr other))) later x e = inr e
 found_one name qs (entry (inr other)) later x e = inr e
 
 abbrev Stands : List (List Piece × Record) → List ℕ → List Piece × Component → Type 0
-Stands all name x = StandsAmong all x.0 (component x.1) × (x.1.name ≡ name)
+Stands all name x = StandsAmong all x.0 (entry (component x.1)) × (x.1.name ≡ name)
 
 stands_here : (name : List ℕ) (s : List Piece × Record) (ss : List (List Piece × Record)) (x : List Piece × Component) → IsFound name s.0 s.1 x → Stands (s ∷ ss) name x
 stands_here name s ss x found =

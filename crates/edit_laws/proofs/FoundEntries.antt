@@ -11,7 +11,7 @@ use Rattle.form_meanings.proofs.Steps.{some_same}
 use Rattle.statement_model.specs.Tokens.{Piece}
 use Rattle.def_grammar.specs.Records.{Entry, section_of, name_of, Record, top, in_properties, end_section, entry, entry_of}
 use Rattle.design_rules.specs.Entries.{is_named, is_entry, entry_at}
-use Rattle.edit_laws.specs.EntryLaws.{StandsAmong}
+use Rattle.edit_laws.specs.StatementLaws.{StandsAmong}
 
 -- a section is found by its word
 found_by_word : (s : Section) → find section_word sections (section_word s) ≡ Some s
@@ -43,7 +43,7 @@ pub record IsFound (s : Section) (all : List (List Piece × Record)) (x : List P
   pub e : Entry
   pub says : x.1 ≡ entry e
   pub section : section_of e ≡ s
-  pub stands : StandsAmong all x.0 e
+  pub stands : StandsAmong all x.0 (entry e)
 
 found_here : (s : Section) (x : List Piece × Record) (xs : List (List Piece × Record)) → IsEntryOf s x.1 → IsFound s (x ∷ xs) x
 found_here s x xs is = record {

@@ -1,4 +1,4 @@
--- Placing a component is a change within its entry.
+-- Placing a component is a change of its entry.
 use Rattle.std.proofs.Common.{◌≡◌, ◌≤◌, ◌<◌, ℕ, ◌+◌, ℤ, false, List, [], ◌∷◌, ◌++◌, length, take, drop, Option, Some, None, arith, refl, sym, ap, ap₂, ◌∙◌, append_assoc, append-nil, codes, length-append, take_at, drop_at}
 use Rattle.std.proofs.lemmas.List.{length-map}
 use Rattle.design_model.specs.declared.geometry.Orient.{Orient}
@@ -10,21 +10,24 @@ use Rattle.statement_model.specs.Form.{spell}
 use Rattle.def_grammar.specs.Parts.{point, orient}
 use Rattle.def_grammar.specs.Components.{Clause, placed, unplaced, region, other, placement, clause, Component, component_form}
 use Rattle.def_grammar.specs.Placing.{placing, before_placing, after_placing, with_placing}
-use Rattle.def_grammar.specs.Records.{component, entries_form}
-use Rattle.design_rules.specs.Edits.{EntryChange, fixed_part, placement_at, placed_component, placing_change, is_out}
-use Rattle.edit_laws.specs.EntryLaws.{changed_words, IsWritten, IsChange}
+use Rattle.def_grammar.specs.Records.{component, entry, entries_form}
+use Rattle.design_rules.specs.ComponentEdits.{fixed_part, placement_at, placed_component, placing_change, is_out}
+use Rattle.design_rules.specs.Plans.{StatementChange}
+use Rattle.edit_laws.specs.EntryLaws.{IsWritten}
 use Rattle.edit_laws.specs.PlacingLaws.{PlacementsAreTokens, PlacedComponentsFit, PlacingsAreChanges}
+use Rattle.edit_laws.specs.StatementLaws.{changed_words, IsChange}
 use Rattle.edit_laws.proofs.PlacingClauses.{around, placed_last}
+use Rattle.edit_laws.proofs.WrittenEntries.{written_instead}
 
 -- words of which some are taken, by their parts
-changed_parts : (c : EntryChange) (a b z put ws : List (List ℕ)) → ws ≡ a ++ (b ++ z) → length a ≡ c.before → length b ≡ c.taken → changed_words c put ws ≡ a ++ (put ++ z)
+changed_parts : (c : StatementChange) (a b z put ws : List (List ℕ)) → ws ≡ a ++ (b ++ z) → length a ≡ c.before → length b ≡ c.taken → changed_words c put ws ≡ a ++ (put ++ z)
 changed_parts c a b z put ws is before taken =
     let front : take c.before ws ≡ a = ap (take c.before) is ∙ take_at a (b ++ z) c.before before in
     let long : length (a ++ b) ≡ c.before + c.taken = omega (arith, length-append a b, before, taken) in
     let rest : drop (c.before + c.taken) ws ≡ z = ap (drop (c.before + c.taken)) (is ∙ sym (append_assoc a b z)) ∙ drop_at (a ++ b) z (c.before + c.taken) long in
     ap₂ (λ (us vs : List (List ℕ)). us ++ (put ++ vs)) front rest
 
-parts_within : (c : EntryChange) (a b z ws : List (List ℕ)) → ws ≡ a ++ (b ++ z) → length a ≡ c.before → length b ≡ c.taken → c.before + c.taken ≤ length ws
+parts_within : (c : StatementChange) (a b z ws : List (List ℕ)) → ws ≡ a ++ (b ++ z) → length a ≡ c.before → length b ≡ c.taken → c.before + c.taken ≤ length ws
 parts_within c a b z ws is before taken =
     let all : length ws ≡ length (a ++ (b ++ z)) = ap length is in
     omega (arith, all, length-append a (b ++ z), length-append b z, before, taken)
@@ -111,12 +114,12 @@ module _ (tokens_so : PlacementsAreTokens) (fit_so : PlacedComponentsFit) (ps : 
       let fit = fit_so c x y o x_in y_in is.fits is.good in
       record { spelled = spelled ∙ ap (λ (ds : List Clause). spell component_form (with_clauses c ds)) (sym same); fits = fit.0; good = fit.1 }
 
-  within : (change : EntryChange) (a b z : List (List ℕ)) → words ps ≡ a ++ (b ++ z) → length a ≡ change.before → length b ≡ change.taken → change.before + change.taken ≤ length ps
+  within : (change : StatementChange) (a b z : List (List ℕ)) → words ps ≡ a ++ (b ++ z) → length a ≡ change.before → length b ≡ change.taken → change.before + change.taken ≤ length ps
   within change a b z parts before taken =
       let long : length (words ps) ≡ length ps = length-map ps (λ (p : Piece). p.bytes) in
       omega (arith, parts_within change a b z (words ps) parts before taken, long)
 
-  changes : (old : Option Clause) → placing c.clauses ≡ old → IsChange ps (component c) (placing_change x y o c old)
+  changes : (old : Option Clause) → placing c.clauses ≡ old → IsChange ps (entry (component c)) (placing_change x y o c old)
   changes (Some old) found =
       let before = before_placing c.clauses in
       let after = after_placing c.clauses in
@@ -130,16 +133,16 @@ module _ (tokens_so : PlacementsAreTokens) (fit_so : PlacedComponentsFit) (ps : 
       let plus : length (spell clause old) ≡ length (codes "+" ∷ b) = ap length (plus_first old) in
       let b_long : length b ≡ change.taken = omega (arith, plus) in
       let body : body_of new ≡ words put.0 = ap (drop 1) put.2 in
+      let ws = changed_words change (words put.0) (words ps) in
       let now = changed_parts change a b z (words put.0) (words ps) parts a_long b_long in
       let spelled = now ∙ (ap (λ (ws : List (List ℕ)). a ++ (ws ++ z)) (sym body) ∙ sym (in_parts c before after new)) in
       record {
         put = put.0;
         tokens = put.1;
-        apart = λ none. absurd (omega (arith, body_is_some old, b_long, none));
+        some = let inside = within change a b z parts a_long b_long in omega (arith, inside);
         within = within change a b z parts a_long b_long;
-        written = said_is (before ++ new ∷ after) refl (changed_words change (words put.0) (words ps)) spelled;
-        section = refl;
-        name = refl;
+        apart = λ none some. absurd (omega (arith, body_is_some old, b_long, none));
+        says = written_instead ps (component c) (component (placed_component x y o c)) ws refl (said_is (before ++ new ∷ after) refl ws spelled);
       }
   changes None none =
       let change = placing_change x y o c None in
@@ -148,16 +151,16 @@ module _ (tokens_so : PlacementsAreTokens) (fit_so : PlacedComponentsFit) (ps : 
       let z = codes ";" ∷ [] in
       let parts : words ps ≡ a ++ ([] ++ z) = said ∙ as_it_is c c.clauses in
       let a_long : length a ≡ change.before = front_is_long c (spell_all (spell clause) c.clauses) in
+      let ws = changed_words change (words put.0) (words ps) in
       let now = changed_parts change a [] z (words put.0) (words ps) parts a_long refl in
       let spelled = now ∙ (ap (λ (ws : List (List ℕ)). a ++ (ws ++ z)) (sym put.2) ∙ sym (in_two c c.clauses new)) in
       record {
         put = put.0;
         tokens = put.1;
-        apart = λ none. (omega arith, refl);
+        some = let inside = within change a [] z parts a_long refl in omega (arith, inside);
         within = within change a [] z parts a_long refl;
-        written = said_is (c.clauses ++ new ∷ []) (placed_last new c.clauses none) (changed_words change (words put.0) (words ps)) spelled;
-        section = refl;
-        name = refl;
+        apart = λ none some. refl;
+        says = written_instead ps (component c) (component (placed_component x y o c)) ws refl (said_is (c.clauses ++ new ∷ []) (placed_last new c.clauses none) ws spelled);
       }
 
 pub placings_are_changes : PlacementsAreTokens → PlacedComponentsFit → PlacingsAreChanges

@@ -9,7 +9,7 @@ use Rattle.statement_model.specs.Boundaries.{Ending, words, is_alone, is_last, l
 use Rattle.statement_model.specs.Folds.{◌>>◌}
 use Rattle.statement_model.specs.Form.{whole}
 use Rattle.statement_model.specs.Grammar.{Key, Grammar}
-use Rattle.statement_model.specs.Reading.{repeats, with_key, checked, formed, read_form, unless_repeated, read_one, ended, at_last, read_on}
+use Rattle.statement_model.specs.Reading.{repeats, with_key, checked, formed, read_form, unless_repeated, read_one}
 use Rattle.statement_laws.specs.ReadingLaws.{read_statements, ReadsAs}
 
 -- where one reading goes on to another, it has read
@@ -169,40 +169,3 @@ module _ {M R : Type 0} (g : Grammar M R) where
 
   pub same_reading : (state after : M × List Key) (ps qs : List Piece) (recs : List R) → words ps ≡ words qs → ReadsAs g state ps recs after → ReadsAs g state qs recs after
   same_reading state after ps qs recs e r = let x : Statements = (recs, after, []) in same_statements state [] [] ps qs x refl e r refl
-
-  -- an end where nothing is left over, in a text of another length
-  end_reads : (state : M × List Key) (lacks : Option FaultCode) (k n : ℕ) (recs : List R) → ended g state k lacks ≡ Ok recs → ended g state n lacks ≡ Ok recs
-  end_reads state None k n recs e = e
-  end_reads state (Some code) k n recs e = absurd (cc)
-
-  none_left : (state : M × List Key) (ps qs : List Piece) (k n : ℕ) (recs : List R) → words ps ≡ words qs → at_last g state ps (Ok k) ≡ Ok recs → at_last g state qs (Ok n) ≡ Ok recs
-  none_left state (p ∷ ps) qs k n recs e r = absurd (cc)
-  none_left state [] (q ∷ qs) k n recs e r = absurd (cc)
-  none_left state [] [] k n recs e r = ⊎_elim
-      (λ (may : g.may_end state.0 ≡ true). let h = rw may at r in rw may (end_reads state (g.lacks state.1) k n recs h))
-      (λ (no : g.may_end state.0 ≡ false). let h = rw no at r in absurd (cc))
-      (cases (g.may_end state.0))
-
-  -- and so do tokens to the end of a text
-  pub same_to_end : (state : M × List Key) (begun before ps qs : List Piece) (k n : ℕ) (recs : List R) → words begun ≡ words before → words ps ≡ words qs
-      → read_on g state begun ps (Ok k) ≡ Ok recs → read_on g state before qs (Ok n) ≡ Ok recs
-  unfolding read_on
-  same_to_end state begun before [] [] k n recs b e r = none_left state begun before k n recs b r
-  same_to_end state begun before [] (q ∷ qs) k n recs b e r = absurd (cc)
-  same_to_end state begun before (p ∷ ps) [] k n recs b e r = absurd (cc)
-  same_to_end state begun before (p ∷ ps) (q ∷ qs) k n recs b e r =
-      let first : p.bytes ≡ q.bytes = cc in
-      let rest : words ps ≡ words qs = cc in
-      let now = pushed begun before p q b first in
-      let same = same_whole (g.ending state.0) (begun ++ p ∷ []) (before ++ q ∷ []) now in
-      ⊎_elim
-      (λ (whole : is_whole (g.ending state.0) (begun ++ p ∷ []) ≡ true).
-      let also : is_whole (g.ending state.0) (before ++ q ∷ []) ≡ true = sym same ∙ whole in
-      let h = rw whole at r in
-      let later = λ (rec : R) (after : M × List Key) (others : List R) (reads : read_on g after [] ps (Ok k) ≡ Ok others) (all : Ok (rec ∷ others) ≡ Ok recs). same_to_end after [] [] ps qs k n others refl rest reads in
-      rw also (one_then (λ rec others. Ok (rec ∷ others)) state (begun ++ p ∷ []) (before ++ q ∷ []) recs (λ after. read_on g after [] ps (Ok k)) (λ after. read_on g after [] qs (Ok n)) now later h))
-      (λ (more : is_whole (g.ending state.0) (begun ++ p ∷ []) ≡ false).
-      let also : is_whole (g.ending state.0) (before ++ q ∷ []) ≡ false = sym same ∙ more in
-      let h = rw more at r in
-      rw also (same_to_end state (begun ++ p ∷ []) (before ++ q ∷ []) ps qs k n recs now rest h))
-      (cases (is_whole (g.ending state.0) (begun ++ p ∷ [])))

@@ -46,7 +46,7 @@ module _ {M R : Type 0} (g : Grammar M R) where
   none_read state x e = let y : Read = ([], state) in sym (read_same y x e)
 
   -- statements that read, with their records
-  zipped : (state : M × List Key) (ss : List (List Piece)) (x : Read) → all_from (read_one g) state ss ≡ Ok x → (firsts (zip ss x.0) ≡ ss) × (seconds (zip ss x.0) ≡ x.0)
+  pub zipped : (state : M × List Key) (ss : List (List Piece)) (x : Read) → all_from (read_one g) state ss ≡ Ok x → (firsts (zip ss x.0) ≡ ss) × (seconds (zip ss x.0) ≡ x.0)
   zipped state [] x e = let same = none_read state x e in rw same (refl, refl)
   zipped state (s ∷ ss) x e =
       let f = first_read state s ss x e in

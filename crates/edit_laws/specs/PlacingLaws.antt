@@ -1,14 +1,15 @@
 -- Laws of placing a component: it is a change within its entry.
-use Rattle.std.specs.Prelude.{◌≡◌, ℕ, false, ℤ, List, [], ◌∷◌, ◌++◌, Some, None, codes}
+use Rattle.std.specs.Prelude.{◌≡◌, false, ℤ, List, [], ◌∷◌, ◌++◌, None, codes}
 use Rattle.design_model.specs.declared.geometry.Orient.{Orient}
 use Rattle.statement_model.specs.Tokens.{Piece}
 use Rattle.statement_model.specs.Boundaries.{words}
 use Rattle.statement_model.specs.Form.{spell, Fits}
 use Rattle.def_grammar.specs.Components.{Component, clause, component_form}
-use Rattle.def_grammar.specs.Records.{component, Record}
-use Rattle.design_rules.specs.Edits.{component_at, placement_at, placed_text, placed_component, place_change, is_out}
+use Rattle.def_grammar.specs.Records.{component, entry}
+use Rattle.design_rules.specs.ComponentEdits.{placement_at, placed_text, placed_component, place_change, is_out}
 use Rattle.splicing_laws.specs.SplicingLaws.{AreTokens}
-use Rattle.edit_laws.specs.EntryLaws.{StandsAmong, IsWritten, IsChange}
+use Rattle.edit_laws.specs.EntryLaws.{IsWritten}
+use Rattle.edit_laws.specs.StatementLaws.{IsChange}
 
 -- The bytes of a placement are the tokens of its clause without the +, and with a + before them all of its tokens.
 abbrev pub PlacementsAreTokens : Type 0
@@ -31,10 +32,4 @@ PlacingsAreChanges = (ps : List Piece) (c : Component) (x y : ℤ) (o : Orient)
     → is_out x ≡ false
     → is_out y ≡ false
     → IsWritten (words ps) (component c)
-    → IsChange ps (component c) (place_change x y o c)
-
--- The component that is found by its name stands among the statements, and has that name.
-abbrev pub ComponentsAreFound : Type 0
-ComponentsAreFound = (all : List (List Piece × Record)) (name : List ℕ) (ps : List Piece) (c : Component)
-    → component_at name all ≡ Some (ps, c)
-    → StandsAmong all ps (component c) × (c.name ≡ name)
+    → IsChange ps (entry (component c)) (place_change x y o c)

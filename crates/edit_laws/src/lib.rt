@@ -4,14 +4,18 @@
 //! cuts of an accepted edit made, reads as the edited design, and the bytes outside of the one cut stay. `running` has
 //! the same over runs of edits and outputs of scripts.
 //!
-//! `entries` has the laws that name no edit: a change within an entry, of any kind and from any place of a text on
-//! (`specs/EntryLaws`). An edit owes that it is such a change; `placing` says so of `place` (`specs/PlacingLaws`). The
-//! edits themselves are defined in `design_rules/specs/Edits`. `alone` says that an entry reads from its own bytes as
-//! it does in its text.
+//! `plans` and `statements` have the laws that name no edit: of a plan (`specs/PlanLaws`), and of changes of statements,
+//! as many as there are and from any place of a text on (`specs/StatementLaws`). An edit owes that its plan is one for the
+//! edited design: `components` says so of the edits of a component (`specs/ComponentLaws`), by `placing`, which says that
+//! placing one is a change of its entry (`specs/PlacingLaws`), and by the laws of `entries`. The edits themselves are
+//! defined in `design_rules/specs/Edits`. `alone` says that an entry reads from its own bytes as it does in its text.
 #![tactic(auto)]
 
 pub mod alone;
+pub mod components;
 pub mod editing;
 pub mod entries;
 pub mod placing;
+pub mod plans;
 pub mod running;
+pub mod statements;

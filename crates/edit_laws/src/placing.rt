@@ -1,6 +1,6 @@
-//! Laws of placing a component: it is a change within its entry.
+//! Laws of placing a component: it is a change of its entry.
 
-ghost use Rattle.edit_laws.specs.PlacingLaws.{ComponentsAreFound, PlacedComponentsFit, PlacementsAreTokens, PlacingsAreChanges};
+ghost use Rattle.edit_laws.specs.PlacingLaws.{PlacedComponentsFit, PlacementsAreTokens, PlacingsAreChanges};
 
 use splicing_laws::putting::{
     printed_numbers_are_read, printed_numbers_are_words, spaced_are_tokens,
@@ -22,15 +22,10 @@ pub fn placed_components_fit()
     printed_numbers_are_read();
 }
 
-/// Placing a component is a change within its entry.
+/// Placing a component is a change of its entry.
 pub fn placings_are_changes()
     ensures { PlacingsAreChanges }
 {
     placements_are_tokens();
     placed_components_fit();
 }
-
-/// The component that is found by its name stands among the statements, and has that name.
-pub fn components_are_found()
-    ensures { ComponentsAreFound }
-{}

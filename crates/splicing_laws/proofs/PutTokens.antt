@@ -65,7 +65,7 @@ none_is_words : (at : ℕ) → IsWords at [] []
 unfolding lex state_after
 none_is_words at = record { words = refl; end = ap Ok (sym (add-zero at)); closed = tt }
 
-white_is_not_refused : (b : ℕ) → is_white b ≡ true → is_refused b ≡ false
+pub white_is_not_refused : (b : ℕ) → is_white b ≡ true → is_refused b ≡ false
 white_is_not_refused b white = grind (arith, nat_tests)
 
 -- white space before words

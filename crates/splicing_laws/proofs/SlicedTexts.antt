@@ -1,33 +1,15 @@
 -- The bytes of tokens in a row.
 use Rattle.std.proofs.Common.{◌≡◌, ℕ, ◌+◌, ◌-◌, List, [], ◌∷◌, ◌++◌, length, take, drop, Ok, Result, sym, ap, ap₂, ◌∙◌, subst, append_assoc, zero-add, arith, take_at, slice_range}
-use Rattle.std.proofs.lemmas.List.{append_cancel_left}
 use Rattle.design_model.specs.declared.fault.Fault.{Fault}
-use Rattle.statement_model.specs.Tokens.{Piece, Lexed, lex, before, tokens}
+use Rattle.statement_model.specs.Tokens.{Piece, Lexed, lex, tokens}
 use Rattle.statement_model.specs.Tokens.Open.{between}
 use Rattle.statement_model.specs.Cuts.{end_of_all}
 use Rattle.lefdef_tokens.specs.Laws.{moved}
 use Rattle.splicing_laws.specs.SliceLaws.{HasRun, RunsAreTexts}
 use Rattle.splicing_laws.proofs.SplicingEnds.{Ends, ends}
-use Rattle.splicing_laws.proofs.SplicingPlaces.{Starts, token_starts}
-use Rattle.splicing_laws.proofs.SplicingTexts.{last_of_run, part_rest}
-use Rattle.splicing_laws.proofs.SplicingWords.{closed_before, end_at, end_is, read_at}
-
--- what is read after some tokens
-behind : (ps qs : List Piece) (l : Lexed) (end : Result ℕ Fault) → before ps l ≡ record { pieces = ps ++ qs; end = end } → l ≡ record { pieces = qs; end = end }
-behind ps qs l end e =
-    let pieces : l.pieces ≡ qs = append_cancel_left ps l.pieces qs (ap (λ (k : Lexed). k.pieces) e) in
-    let ends : l.end ≡ end = ap (λ (k : Lexed). k.end) e in
-    ap₂ (λ (rs : List Piece) (r : Result ℕ Fault). record { pieces = rs; end = r }) pieces ends
-
--- what is read from the place of a token on
-from_token : (text : List ℕ) (first run : List Piece) (p : Piece) (end : Result ℕ Fault) (part : Starts 0 between text first p) → tokens text ≡ record { pieces = first ++ run; end = end }
-    → lex p.pos between part.rest ≡ record { pieces = run; end = end }
-from_token text first run p end part is =
-    let ended : (tokens part.front).end ≡ Ok p.pos = ap (λ (l : Lexed). l.end) part.read in
-    let joined : tokens text ≡ before (tokens part.front).pieces (lex (0 + length part.front) between part.rest) = ap tokens part.whole ∙ closed_before part.front part.rest 0 p.pos between ended part.left in
-    let parted : tokens text ≡ before first (lex p.pos between part.rest)
-    = joined ∙ ap₂ (λ (ps : List Piece) (k : ℕ). before ps (lex k between part.rest)) (ap (λ (l : Lexed). l.pieces) part.read) part.place in
-    behind first run (lex p.pos between part.rest) end (sym parted ∙ is)
+use Rattle.splicing_laws.proofs.SplicingPlaces.{token_starts}
+use Rattle.splicing_laws.proofs.SplicingTexts.{from_token, last_of_run, part_rest}
+use Rattle.splicing_laws.proofs.SplicingWords.{end_at, end_is, read_at}
 
 -- bytes that are read from a place on as a run
 read_from : (bytes : List ℕ) (from to : ℕ) (run : List Piece) → lex from between bytes ≡ record { pieces = run; end = Ok to } → from + length bytes ≡ to → HasRun from to run bytes
@@ -48,15 +30,15 @@ pub runs_are_texts : RunsAreTexts
 runs_are_texts text first run after p is =
     let end = (tokens text).end in
     let whole : tokens text ≡ record { pieces = first ++ ((p ∷ run) ++ after); end = end } = ap (λ (ps : List Piece). record { pieces = ps; end = end }) is in
-    let start = token_starts text end first (run ++ after) p whole in
+    let start = token_starts text 0 end first (run ++ after) p whole in
     let last = last_of_run p run in
     let split : (p ∷ run) ++ after ≡ last.0 ++ last.1 ∷ after = ap (λ (ps : List Piece). ps ++ after) last.2 ∙ append_assoc last.0 (last.1 ∷ []) after in
     let read : lex p.pos between start.rest ≡ record { pieces = last.0 ++ last.1 ∷ after; end = end }
-    = from_token text first ((p ∷ run) ++ after) p end start whole ∙ ap (λ (ps : List Piece). record { pieces = ps; end = end }) split in
+    = from_token text 0 first ((p ∷ run) ++ after) p end start whole ∙ ap (λ (ps : List Piece). record { pieces = ps; end = end }) split in
     let part : Ends p.pos between start.rest last.0 last.1 after end = ends start.rest p.pos end between last.0 after last.1 tt read in
     let to : p.pos + length part.front ≡ end_of_all (p ∷ run) = part.place ∙ sym last.3 in
     let own : lex p.pos between part.front ≡ record { pieces = p ∷ run; end = Ok (end_of_all (p ∷ run)) }
     = part.read ∙ ap₂ (λ (ps : List Piece) (k : ℕ). record { pieces = ps; end = Ok k }) (sym last.2) (sym last.3) in
-    let left = part_rest _ between text first p.pos start ∙ part.whole in
+    let left = part_rest _ between text 0 first p.pos start ∙ part.whole in
     subst (HasRun p.pos (end_of_all (p ∷ run)) (p ∷ run)) (sym (run_front text p.pos (end_of_all (p ∷ run)) part.front part.rest left to))
     (read_from part.front p.pos (end_of_all (p ∷ run)) (p ∷ run) own to)

@@ -147,7 +147,3 @@ ends (b ∷ bytes) pos end state first after p reaches e = ⊎_elim
     (λ refused. let h = rw refused at e in absurd (none_is_one first after p (ap (λ (l : Lexed). l.pieces) h)))
     (λ good. let h = rw good at e in ends_step pos end b state bytes first after p good reaches h (ends bytes (pos + 1)))
     (cases (is_refused b))
-
--- a text up to the end of a token
-pub token_ends : (text : List ℕ) (end : Result ℕ Fault) (first after : List Piece) (p : Piece) → lex 0 between text ≡ record { pieces = first ++ p ∷ after; end = end } → Ends 0 between text first p after end
-token_ends text end first after p e = ends text 0 end between first after p tt e

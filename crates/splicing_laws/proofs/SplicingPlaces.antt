@@ -158,6 +158,6 @@ starts (b ∷ bytes) pos end state first after p among e = ⊎_elim
     (λ good. let h = rw good at e in starts_step pos end b state bytes first after p good among h (starts bytes (pos + 1)))
     (cases (is_refused b))
 
--- a text up to the place of a token
-pub token_starts : (text : List ℕ) (end : Result ℕ Fault) (first after : List Piece) (p : Piece) → lex 0 between text ≡ record { pieces = first ++ p ∷ after; end = end } → Starts 0 between text first p
-token_starts text end first after p e = starts text 0 end between first after p tt e
+-- what is left at a place, up to the place of a token
+pub token_starts : (bytes : List ℕ) (at : ℕ) (end : Result ℕ Fault) (first after : List Piece) (p : Piece) → lex at between bytes ≡ record { pieces = first ++ p ∷ after; end = end } → Starts at between bytes first p
+token_starts bytes at end first after p e = starts bytes at end between first after p tt e

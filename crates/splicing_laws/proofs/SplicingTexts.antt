@@ -1,27 +1,57 @@
 -- Texts with other bytes put in.
-use Rattle.std.proofs.Common.{◌≡◌, ℕ, ◌-◌, List, [], ◌∷◌, ◌++◌, length, take, drop, Ok, refl, sym, ap, ◌∙◌, subst, append_assoc, zero-add, arith, take_at, drop_at, slice_range}
-use Rattle.statement_model.specs.Tokens.{Open, Piece, Lexed, tokens}
+use Rattle.std.proofs.Common.{◌≡◌, ◌≤◌, ◌<◌, inl, inr, ℕ, ◌+◌, ◌-◌, List, [], ◌∷◌, ◌++◌, length, take, drop, Ok, Result, refl, sym, ap, ap₂, ◌∙◌, subst, arith, length-append, take_at, drop_at, slice_range}
+use Rattle.std.proofs.lemmas.List.{append_cancel_left, drop-drop, length-drop}
+use Rattle.design_model.specs.declared.fault.Fault.{Fault}
+use Rattle.statement_model.specs.Tokens.{Open, Piece, Lexed, lex, before, tokens}
 use Rattle.statement_model.specs.Tokens.Open.{between}
 use Rattle.statement_model.specs.Boundaries.{words}
-use Rattle.statement_model.specs.Cuts.{space_before, end_of, end_of_all}
+use Rattle.statement_model.specs.Cuts.{end_of, end_of_all}
 use Rattle.lefdef_tokens.specs.Laws.{BeginsApart}
-use Rattle.splicing_laws.specs.SplicingLaws.{AreTokens, HasWords, TokensAreReplaced, TokensAreInserted}
-use Rattle.splicing_laws.proofs.SplicingParts.{Part}
-use Rattle.splicing_laws.proofs.SplicingEnds.{token_ends}
-use Rattle.splicing_laws.proofs.SplicingPlaces.{token_starts}
-use Rattle.splicing_laws.proofs.SplicingWords.{words_left, tokens_before, gap_before, spaced_apart, spaced}
+use Rattle.lefdef_tokens.proofs.Joining.{join}
+use Rattle.splicing_laws.specs.SplicingLaws.{HasWords, TokensBegin, TokensEnd, TokensArePut}
+use Rattle.splicing_laws.proofs.PutTokens.{white_is_not_refused}
+use Rattle.splicing_laws.proofs.SplicingParts.{Part, none_is_one}
+use Rattle.splicing_laws.proofs.SplicingEnds.{Ends, ends}
+use Rattle.splicing_laws.proofs.SplicingPlaces.{Starts, token_starts}
+use Rattle.splicing_laws.proofs.SplicingWords.{closed_before, gap_before, joined, tokens_before}
 
--- the bytes of a part, and those after it
-pub part_front : (Left : Open → List ℕ → Type 0) (state : Open) (text : List ℕ) (ps : List Piece) (to : ℕ) (part : Part Left 0 state text ps to) → slice_range text 0 to ≡ part.front
-part_front Left state text ps to part =
-    let long : length part.front ≡ to = sym (zero-add (length part.front)) ∙ part.place in
-    let all : to - 0 ≡ to = omega arith in
-    ap (λ (k : ℕ). take k text) all ∙ ap (take to) part.whole ∙ take_at part.front part.rest to long
+module _ (Left : Open → List ℕ → Type 0) (state : Open) (text : List ℕ) (at : ℕ) (ps : List Piece) (to : ℕ) (part : Part Left at state (drop at text) ps to) where
+  -- the bytes of a part of what is left at a place, and those after it
+  pub part_front : slice_range text at to ≡ part.front
+  part_front =
+      let place = part.place in
+      let long : length part.front ≡ to - at = omega arith in
+      ap (take (to - at)) part.whole ∙ take_at part.front part.rest (to - at) long
 
-pub part_rest : (Left : Open → List ℕ → Type 0) (state : Open) (text : List ℕ) (ps : List Piece) (to : ℕ) (part : Part Left 0 state text ps to) → drop to text ≡ part.rest
-part_rest Left state text ps to part =
-    let long : length part.front ≡ to = sym (zero-add (length part.front)) ∙ part.place in
-    ap (drop to) part.whole ∙ drop_at part.front part.rest to long
+  pub part_rest : drop to text ≡ part.rest
+  part_rest =
+      ap (λ (k : ℕ). drop k text) (sym part.place)
+      ∙ (sym (drop-drop (length part.front) at text) ∙ (ap (drop (length part.front)) part.whole ∙ drop_at part.front part.rest (length part.front) refl))
+
+  -- it ends within the text
+  part_within : at ≤ length text → to ≤ length text
+  part_within at_within =
+      let place = part.place in
+      let all : length (drop at text) ≡ length (part.front ++ part.rest) = ap length part.whole in
+      omega (arith, all, length-drop at text, length-append part.front part.rest)
+
+-- what is read after some tokens
+pub behind : (ps qs : List Piece) (l : Lexed) (end : Result ℕ Fault) → before ps l ≡ record { pieces = ps ++ qs; end = end } → l ≡ record { pieces = qs; end = end }
+behind ps qs l end e =
+    let pieces : l.pieces ≡ qs = append_cancel_left ps l.pieces qs (ap (λ (k : Lexed). k.pieces) e) in
+    let ends : l.end ≡ end = ap (λ (k : Lexed). k.end) e in
+    ap₂ (λ (rs : List Piece) (r : Result ℕ Fault). record { pieces = rs; end = r }) pieces ends
+
+-- what is read from the place of a token on
+pub from_token : (bytes : List ℕ) (at : ℕ) (first run : List Piece) (p : Piece) (end : Result ℕ Fault) (part : Starts at between bytes first p) → lex at between bytes ≡ record { pieces = first ++ run; end = end }
+    → lex p.pos between part.rest ≡ record { pieces = run; end = end }
+from_token bytes at first run p end part is =
+    let ended : (lex at between part.front).end ≡ Ok p.pos = ap (λ (l : Lexed). l.end) part.read in
+    let both : lex at between bytes ≡ before (lex at between part.front).pieces (lex (at + length part.front) between part.rest)
+    = ap (lex at between) part.whole ∙ closed_before part.front part.rest at p.pos between ended part.left in
+    let parted : lex at between bytes ≡ before first (lex p.pos between part.rest)
+    = both ∙ ap₂ (λ (ps : List Piece) (k : ℕ). before ps (lex k between part.rest)) (ap (λ (l : Lexed). l.pieces) part.read) part.place in
+    behind first run (lex p.pos between part.rest) end (sym parted ∙ is)
 
 -- the last of some tokens, and those before it
 abbrev pub LastOf : Piece → List Piece → Type 0
@@ -31,48 +61,46 @@ pub last_of_run : (p : Piece) (run : List Piece) → LastOf p run
 last_of_run p [] = ([], p, refl, refl)
 last_of_run p (q ∷ qs) = let later = last_of_run q qs in (p ∷ later.0, later.1, ap (λ (ps : List Piece). p ∷ ps) later.2, later.3)
 
--- a text has after a token the words of the tokens after it
-words_behind : (text : List ℕ) (n : ℕ) (first after : List Piece) (p : Piece) → tokens text ≡ record { pieces = first ++ p ∷ after; end = Ok n } → HasWords (drop (end_of p) text) (words after)
-words_behind text n first after p e =
-    let part = token_ends text (Ok n) first after p e in
-    subst (λ (rest : List ℕ). HasWords rest (words after)) (sym (part_rest _ between text (first ++ p ∷ []) (end_of p) part)) (words_left part.rest (end_of p) n after part.left.1)
+-- no token begins with white space
+begins_later : (bytes : List ℕ) (at n : ℕ) (first after : List Piece) (p : Piece) → lex at between bytes ≡ record { pieces = first ++ p ∷ after; end = Ok n } → BeginsApart bytes → at < p.pos
+unfolding lex
+begins_later [] at n first after p e apart = absurd (none_is_one first after p (ap (λ (l : Lexed). l.pieces) e))
+begins_later (b ∷ bytes) at n first after p e apart =
+    let h = rw (white_is_not_refused b apart, apart) at e in
+    let part = token_starts bytes (at + 1) (Ok n) first after p h in
+    let place = part.place in
+    omega arith
 
--- and so it does after a run
-words_behind_all : (text : List ℕ) (n : ℕ) (first run after : List Piece) (p : Piece) → tokens text ≡ record { pieces = first ++ ((p ∷ run) ++ after); end = Ok n } → HasWords (drop (end_of_all (p ∷ run)) text) (words after)
-words_behind_all text n first run after p e =
-    let last = last_of_run p run in
-    let run_is : first ++ ((p ∷ run) ++ after) ≡ first ++ ((last.0 ++ last.1 ∷ []) ++ after) = ap (λ (ps : List Piece). first ++ (ps ++ after)) last.2 in
-    let split : first ++ ((last.0 ++ last.1 ∷ []) ++ after) ≡ (first ++ last.0) ++ last.1 ∷ after = ap (λ (ps : List Piece). first ++ ps) (append_assoc last.0 (last.1 ∷ []) after) ∙ sym (append_assoc first last.0 (last.1 ∷ after)) in
-    let is = e ∙ ap (λ (ps : List Piece). record { pieces = ps; end = Ok n }) (run_is ∙ split) in
-    subst (λ (k : ℕ). HasWords (drop k text) (words after)) (sym last.3) (words_behind text n (first ++ last.0) after last.1 is)
+pub tokens_begin : TokensBegin
+tokens_begin text at n first after p within e =
+    let part = token_starts (drop at text) at (Ok n) first after p e in
+    let place = part.place in
+    let ended : (lex at between part.front).end ≡ Ok p.pos = ap (λ (l : Lexed). l.end) part.read in
+    record {
+      forward = omega arith;
+      within = part_within _ between text at first p.pos part within;
+      apart = begins_later (drop at text) at n first after p e;
+      left = ap (lex p.pos between) (part_rest _ between text at first p.pos part) ∙ from_token (drop at text) at first (p ∷ after) p (Ok n) part e;
+      front = λ rest ws has. subst (λ (front : List ℕ). HasWords (front ++ rest) (words first ++ ws)) (sym (part_front _ between text at first p.pos part))
+          (joined at part.front rest first ws (ap (λ (l : Lexed). l.pieces) part.read) (closed_before part.front rest at p.pos between ended part.left) has);
+    }
 
--- put bytes before a text, with a space where they would be glued
-put_before : (put rest : List ℕ) (ps : List Piece) (ws : List (List ℕ)) → AreTokens put ps → HasWords rest ws → HasWords ((put ++ space_before rest) ++ rest) (words ps ++ ws)
-put_before put rest ps ws are has =
-    subst (λ (text : List ℕ). HasWords text (words ps ++ ws)) (sym (append_assoc put (space_before rest) rest)) (tokens_before put (space_before rest ++ rest) ps ws are (spaced_apart rest) (spaced rest ws has))
+pub tokens_end : TokensEnd
+tokens_end text at n first after p within e =
+    let part : Ends at between (drop at text) first p after (Ok n) = ends (drop at text) at (Ok n) between first after p tt e in
+    let place = part.place in
+    let all = first ++ p ∷ [] in
+    let ended : (lex at between part.front).end ≡ Ok (end_of p) = ap (λ (l : Lexed). l.end) part.read in
+    record {
+      forward = omega arith;
+      within = part_within _ between text at all (end_of p) part within;
+      left = ap (lex (end_of p) between) (part_rest _ between text at all (end_of p) part) ∙ part.left.1;
+      front = λ rest ws apart has. subst (λ (front : List ℕ). HasWords (front ++ rest) (words all ++ ws)) (sym (part_front _ between text at all (end_of p) part))
+          (joined at part.front rest all ws (ap (λ (l : Lexed). l.pieces) part.read) (join part.front rest at (end_of p) between ended part.left.0 apart) has);
+    }
 
--- what begins apart still does with more after it
-put_apart : (put rest : List ℕ) → BeginsApart put → BeginsApart ((put ++ space_before rest) ++ rest)
-put_apart [] rest apart = spaced_apart rest
-put_apart (b ∷ bs) rest apart = apart
-
-pub tokens_are_replaced : TokensAreReplaced
-tokens_are_replaced text put first run after ps p n e are =
-    let hi = end_of_all (p ∷ run) in
-    let part = token_starts text (Ok n) first (run ++ after) p e in
-    let rest = (put ++ space_before (drop hi text)) ++ drop hi text in
-    let has = put_before put (drop hi text) ps (words after) are (words_behind_all text n first run after p e) in
-    subst (λ (front : List ℕ). HasWords (front ++ rest) (words first ++ (words ps ++ words after))) (sym (part_front _ between text first p.pos part))
-    (gap_before part.front rest p.pos first (words ps ++ words after) part.read part.left has)
-
-pub tokens_are_inserted : TokensAreInserted
-tokens_are_inserted text put first after ps p n e are apart =
-    let hi = end_of p in
-    let is = e ∙ ap (λ (qs : List Piece). record { pieces = qs; end = Ok n }) (append_assoc first (p ∷ []) after) in
-    let part = token_ends text (Ok n) first after p is in
-    let rest = (put ++ space_before (drop hi text)) ++ drop hi text in
-    let has = put_before put (drop hi text) ps (words after) are (words_behind text n first after p is) in
-    let end : (tokens part.front).end ≡ Ok (length part.front) = ap (λ (l : Lexed). l.end) part.read ∙ ap (λ (k : ℕ). Ok k) (sym part.place ∙ zero-add (length part.front)) in
-    let before_are : AreTokens part.front (first ++ p ∷ []) = record { pieces = ap (λ (l : Lexed). l.pieces) part.read; end = end; closed = part.left.0 } in
-    subst (λ (front : List ℕ). HasWords (front ++ rest) (words (first ++ p ∷ []) ++ (words ps ++ words after))) (sym (part_front _ between text (first ++ p ∷ []) hi part))
-    (tokens_before part.front rest (first ++ p ∷ []) (words ps ++ words after) before_are (put_apart put (drop hi text) apart) has)
+pub tokens_are_put : TokensArePut
+tokens_are_put put rest ps ws are (inl closed) has =
+    let read : tokens put ≡ record { pieces = ps; end = Ok (length put) } = ap₂ (λ (qs : List Piece) (r : Result ℕ Fault). record { pieces = qs; end = r }) are.pieces are.end in
+    gap_before put rest (length put) ps ws read closed has
+tokens_are_put put rest ps ws are (inr apart) has = tokens_before put rest ps ws are apart has

@@ -1,7 +1,6 @@
 -- Laws of the bytes that a cut keeps.
-use Rattle.std.specs.Prelude.{◌≡◌, ◌≤◌, ℕ, ◌+◌, List, [], ◌∷◌, ◌++◌, length, take, drop}
-use Rattle.statement_model.specs.Tokens.{Piece, tokens}
-use Rattle.statement_model.specs.Cuts.{Cut, with_cuts, put_at, end_of, end_of_all}
+use Rattle.std.specs.Prelude.{◌≡◌, ◌≤◌, ℕ, ◌+◌, List, [], ◌∷◌, length, take, drop}
+use Rattle.statement_model.specs.Cuts.{Cut, with_cuts}
 
 -- the cuts are one, within the text, and the text with it made differs only there
 pub record IsOneCut (text : List ℕ) (cuts : List Cut) : Type 0 where
@@ -16,14 +15,7 @@ pub record IsOneCut (text : List ℕ) (cuts : List Cut) : Type 0 where
 abbrev pub OneCutKeepsTheRest : Type 0
 OneCutKeepsTheRest = (text : List ℕ) (cut : Cut) → cut.lo ≤ cut.hi → cut.hi ≤ length text → IsOneCut text (cut ∷ [])
 
--- A cut in the place of tokens that follow one another is within the text.
-abbrev pub ReplacingKeepsTheRest : Type 0
-ReplacingKeepsTheRest = (text put : List ℕ) (before run after : List Piece) (p : Piece)
-    → (tokens text).pieces ≡ before ++ ((p ∷ run) ++ after)
-    → IsOneCut text (put_at text p.pos (end_of_all (p ∷ run)) put ∷ [])
-
--- So is one after a token.
-abbrev pub InsertingKeepsTheRest : Type 0
-InsertingKeepsTheRest = (text put : List ℕ) (before after : List Piece) (p : Piece)
-    → (tokens text).pieces ≡ (before ++ p ∷ []) ++ after
-    → IsOneCut text (put_at text (end_of p) (end_of p) put ∷ [])
+-- cuts from a place on, in order and within a length: the bytes around them stay, as with_cuts has them
+abbrev pub AreInOrder : ℕ → List Cut → ℕ → Type 0
+AreInOrder at [] n = at ≤ n
+AreInOrder at (c ∷ cs) n = (at ≤ c.lo) × (c.lo ≤ c.hi) × AreInOrder c.hi cs n

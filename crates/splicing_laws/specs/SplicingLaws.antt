@@ -1,8 +1,10 @@
 -- Laws of the tokens of a text with other bytes put in.
-use Rattle.std.specs.Prelude.{◌≡◌, ℕ, List, [], ◌∷◌, ◌++◌, length, Ok}
-use Rattle.statement_model.specs.Tokens.{Piece, between, tokens}
+use Rattle.std.specs.Prelude.{◌≡◌, ◌⊎◌, ◌≤◌, ◌<◌, ℕ, List, [], ◌∷◌, ◌++◌, length, drop, Ok}
+use Rattle.std.specs.List.{slice_range}
+use Rattle.statement_model.specs.Tokens.{Piece, tokens, left_from}
+use Rattle.statement_model.specs.Tokens.Open.{between}
 use Rattle.statement_model.specs.Boundaries.{words}
-use Rattle.statement_model.specs.Cuts.{with_cuts, put_at, end_of, end_of_all}
+use Rattle.statement_model.specs.Cuts.{end_of}
 use Rattle.lefdef_tokens.specs.Laws.{state_after, IsClosed, BeginsApart}
 
 -- bytes that are whole tokens, and end outside of comments and strings
@@ -16,17 +18,40 @@ pub record HasWords (text : List ℕ) (ws : List (List ℕ)) : Type 0 where
   pub words : words (tokens text).pieces ≡ ws
   pub end : (tokens text).end ≡ Ok (length text)
 
--- Where bytes that are whole tokens take the place of tokens, their tokens take the place of those.
-abbrev pub TokensAreReplaced : Type 0
-TokensAreReplaced = (text put : List ℕ) (before run after ps : List Piece) (p : Piece) (n : ℕ)
-    → tokens text ≡ record { pieces = before ++ ((p ∷ run) ++ after); end = Ok n }
-    → AreTokens put ps
-    → HasWords (with_cuts (put_at text p.pos (end_of_all (p ∷ run)) put ∷ []) text) (words before ++ (words ps ++ words after))
+-- Where a token begins that stands after others, from a place between two tokens on: it is left there, and whatever comes
+-- to stand in its place has its own words after those of the others.
+pub record BeginsAt (text : List ℕ) (at n : ℕ) (first : List Piece) (p : Piece) (after : List Piece) : Type 0 where
+  pub forward : at ≤ p.pos
+  pub within : p.pos ≤ length text
+  pub apart : BeginsApart (drop at text) → at < p.pos
+  pub left : left_from text p.pos ≡ record { pieces = p ∷ after; end = Ok n }
+  pub front : (rest : List ℕ) (ws : List (List ℕ)) → HasWords rest ws → HasWords (slice_range text at p.pos ++ rest) (words first ++ ws)
 
--- Where such bytes that begin with white space are put after a token, their tokens come between it and those after it.
-abbrev pub TokensAreInserted : Type 0
-TokensAreInserted = (text put : List ℕ) (before after ps : List Piece) (p : Piece) (n : ℕ)
-    → tokens text ≡ record { pieces = (before ++ p ∷ []) ++ after; end = Ok n }
+-- Where it ends: those after it are left there, and so it is with what comes to stand there apart from it.
+pub record EndsAt (text : List ℕ) (at n : ℕ) (first : List Piece) (p : Piece) (after : List Piece) : Type 0 where
+  pub forward : at ≤ end_of p
+  pub within : end_of p ≤ length text
+  pub left : left_from text (end_of p) ≡ record { pieces = after; end = Ok n }
+  pub front : (rest : List ℕ) (ws : List (List ℕ)) → BeginsApart rest → HasWords rest ws
+      → HasWords (slice_range text at (end_of p) ++ rest) (words (first ++ p ∷ []) ++ ws)
+
+-- Each token of what is left of a text begins so, and ends so.
+abbrev pub TokensBegin : Type 0
+TokensBegin = (text : List ℕ) (at n : ℕ) (first after : List Piece) (p : Piece)
+    → at ≤ length text
+    → left_from text at ≡ record { pieces = first ++ p ∷ after; end = Ok n }
+    → BeginsAt text at n first p after
+
+abbrev pub TokensEnd : Type 0
+TokensEnd = (text : List ℕ) (at n : ℕ) (first after : List Piece) (p : Piece)
+    → at ≤ length text
+    → left_from text at ≡ record { pieces = first ++ p ∷ after; end = Ok n }
+    → EndsAt text at n first p after
+
+-- Bytes that are whole tokens, and then a text that can't be glued to them, have the words of both.
+abbrev pub TokensArePut : Type 0
+TokensArePut = (put rest : List ℕ) (ps : List Piece) (ws : List (List ℕ))
     → AreTokens put ps
-    → BeginsApart put
-    → HasWords (with_cuts (put_at text (end_of p) (end_of p) put ∷ []) text) (words (before ++ p ∷ []) ++ (words ps ++ words after))
+    → (state_after 0 between put ≡ between) ⊎ BeginsApart rest
+    → HasWords rest ws
+    → HasWords (put ++ rest) (words ps ++ ws)

@@ -1,4 +1,4 @@
-use Rattle.edit_laws.proofs.EntriesChanged.{entries_are_written}
+use Rattle.edit_laws.proofs.WrittenEntries.{entries_are_written}
 use Rattle.edit_laws.proofs.entries.entries_are_written.Goals as goal
 
 pub returns : goal.returns

@@ -1,0 +1,28 @@
+-- Laws of plans, whatever edit has the plan.
+use Rattle.std.specs.Prelude.{◌≡◌, ℕ, List, [], length, None, Ok}
+use Rattle.statement_model.specs.Cuts.{Cut, with_cuts}
+use Rattle.def_grammar.specs.Records.{Record, read_def}
+use Rattle.design_rules.specs.Edits.{located}
+use Rattle.design_rules.specs.Plans.{Plan, lowest, outcome_of}
+use Rattle.splicing_laws.specs.KeepingLaws.{AreInOrder}
+use Rattle.edit_laws.specs.StatementLaws.{Make, AreOnce}
+
+-- unless a plan is refused for a reason of its own, its changes make this new design, in which no key stands twice
+abbrev pub Plans : List ℕ → List Record → Plan → List Record → Type 0
+Plans text design plan new = lowest plan.refusals ≡ None → Make (located text design) plan.changes new × AreOnce [] new
+
+-- A text that reads, with the cuts of such a plan made, reads as the new design.
+abbrev pub PlansAreApplied : Type 0
+PlansAreApplied = (text : List ℕ) (design new : List Record) (plan : Plan) (cuts : List Cut)
+    → read_def text ≡ Ok design
+    → Plans text design plan new
+    → outcome_of text plan ≡ Ok cuts
+    → read_def (with_cuts cuts text) ≡ Ok new
+
+-- They stand in order within the text, so the bytes between them stay.
+abbrev pub PlansStandInOrder : Type 0
+PlansStandInOrder = (text : List ℕ) (design new : List Record) (plan : Plan) (cuts : List Cut)
+    → read_def text ≡ Ok design
+    → Plans text design plan new
+    → outcome_of text plan ≡ Ok cuts
+    → AreInOrder 0 cuts (length text)
