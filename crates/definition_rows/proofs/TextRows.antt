@@ -156,9 +156,9 @@ three_boxes : (pair_lines overlap_of (box_from (codes "c") 0 ∷ box_from (codes
     × (pair_lines overlap_of (box_from (codes "c") 0 ∷ box_from (codes "a") 2 ∷ box_from (codes "b") 4 ∷ []) ≡ [])
 three_boxes = (refl, refl, refl)
 
--- lines of a script: blanks, a comment, a carriage return before a line feed and one at the end
-orders : map order_of (script_lines (codes " \t\n#x\n #x\ncheck\r\nplace u 1 x N\nplace u 1 2 Q\ncheck\r"))
-    ≡ nothing ∷ nothing ∷ bad ∷ ask report ∷ make (design_edit (place (codes "u") (pos 1) (pos 2147483648) N)) ∷ bad ∷ bad ∷ []
+-- lines of a script: blanks, a comment, a wrong number of words, a carriage return before a line feed and one at the end
+orders : map order_of (script_lines (codes " \t\n#x\n #x\ncheck\r\nplace u 1 x N\nplace u 1 2 Q\nplace u 1 2\nplace u 1 2 N x\ncheck x\ncheck\r"))
+    ≡ nothing ∷ nothing ∷ bad ∷ ask report ∷ make (design_edit (place (codes "u") (pos 1) (pos 2147483648) N)) ∷ bad ∷ bad ∷ bad ∷ bad ∷ bad ∷ []
 unfolding orient_word whole
 orders = refl
 

@@ -1,7 +1,6 @@
 -- The lines of a script, and what each asks (own).
 use Rattle.std.specs.Prelude.{ℕ, Bool, true, false, not, ◌||◌, ◌==◌, List, [], ◌∷◌, length, filter, drop, take_while, Option, Some, None, unwrap_or, Result, Ok, Err, ℤ, pos, codes, if◌then◌else◌}
 use Rattle.std.specs.List.{slice_split}
-use Rattle.design_model.specs.declared.geometry.Orient.{Orient}
 use Rattle.design_model.specs.declared.number.NumFault.{NumFault}
 use Rattle.design_model.specs.declared.edit.EditCode.{EditCode}
 use Rattle.design_model.specs.declared.edit.EditCode.TheVariants.{Number, Range}
