@@ -17,6 +17,7 @@ use std::test::Fail;
 use wire_parts::nets::{NetEntry, NetParts};
 use wire_parts::special_nets::SpecialNetParts;
 use wire_reading::{net_pieces, special_net_pieces};
+use wire_shapes::Piece;
 
 /// Adds the lines of a net: its name, and its pieces.
 fn add_net(
@@ -342,5 +343,77 @@ segment met1 -70 -70 170 70 100
 ";
     let lines = lines_by(rt.alloc(), b"", def, 1000)?;
     assert_eq!(rt; lines.as_slice(), wanted.as_slice());
+    Ok(())
+}
+
+/// How many shapes of vias there are, and the sums of their left and of their lower ends.
+#[derive(Clone, Copy, Debug, PartialEq, Eq)]
+struct Sums {
+    shapes: u64,
+    left: i64,
+    lower: i64,
+}
+
+/// These sums, and the pieces of a special net.
+fn with_special_net(
+    sums: Sums,
+    parts: &SpecialNetParts<'_>,
+    rules: DesignRules<'_, '_, '_, '_, '_>,
+) -> Sums {
+    let mut sums = sums;
+    for piece in special_net_pieces(parts, rules) {
+        if let Piece::ViaShape { shape, .. } = piece {
+            sums.shapes += 1;
+            sums.left += shape.rect.x1;
+            sums.lower += shape.rect.y1;
+        }
+    }
+    sums
+}
+
+/// The sums of the special nets of a design by the two metals.
+fn sums_by(alloc: Global, def: &[u8]) -> Result<Sums, Fail> {
+    let mut lefs = LefTexts::new(alloc);
+    lefs.push(METALS)?;
+    let library = Library::read(alloc, &lefs)?;
+    let records = records_of(alloc, def)?;
+    let names = names_of(alloc, &records)?;
+    let definitions = Definitions {
+        library: &library,
+        names: &names,
+        scale: Scale::new(1000).ok_or("no scale")?,
+    };
+    let wires = DesignWires::new(alloc, definitions)?;
+    let mut sums = Sums {
+        shapes: 0,
+        left: 0,
+        lower: 0,
+    };
+    for statement in &records {
+        if let Statement::Entry(Entry::SpecialNet(parts)) = statement {
+            sums = with_special_net(sums, parts, DesignRules { wires: &wires });
+        }
+    }
+    Ok(sums)
+}
+
+#[test]
+fn an_array_of_70000_vias(rt: HostRuntime) -> Result<(), Fail> {
+    let def = b"UNITS DISTANCE MICRONS 1000 ;
+VIAS 1 ;
+- dot + RECT met1 ( 1 2 ) ( 3 4 ) ;
+END VIAS
+SPECIALNETS 1 ;
+- P + ROUTED met1 0 ( 0 0 ) dot DO 700 BY 100 STEP 10 20 ;
+END SPECIALNETS
+END DESIGN
+";
+    // (each of 700 columns 100 times, and each of 100 rows 700 times)
+    let wanted = Sums {
+        shapes: 70000,
+        left: 70000 + 100 * 10 * (699 * 700 / 2),
+        lower: 2 * 70000 + 700 * 20 * (99 * 100 / 2),
+    };
+    assert_eq!(rt; sums_by(rt.alloc(), def)?, wanted);
     Ok(())
 }

@@ -3,13 +3,14 @@ use Rattle.std.proofs.Common.{◌≡◌, ◌==◌, ◌||◌, ◌+◌, ◌-◌, �
 use Rattle.std.specs.Prelude.{IfOk, IsOk, MatchOption}
 use Rattle.std.specs.Option.{option_map}
 use Rattle.design_model.specs.declared.fault.Fault.{Fault}
-use Rattle.def_grammar.specs.Records.{Record}
+use Rattle.def_grammar.specs.Records.{Record, read_def}
 use Rattle.std.proofs.lemmas.Bool.{cases_Bool}
 use Rattle.std.proofs.lemmas.List.{length-map}
 use Rattle.std.proofs.lemmas.Bool.Decides.{nat_tests}
 use Rattle.design_model.specs.EnumWords.{orient_word, status_word}
 use Rattle.def_grammar.specs.Parts.{orient, point}
-use Rattle.design_model.specs.declared.edit.EditCode.TheVariants.{Fixed, Number, TooLong}
+use Rattle.design_model.specs.declared.edit.EditCode.{EditCode}
+use Rattle.design_model.specs.declared.edit.EditCode.TheVariants.{TooLong}
 use Rattle.design_model.specs.declared.geometry.Orient.{Orient}
 use Rattle.form_meanings.specs.Meaning.{spell_all}
 use Rattle.statement_model.specs.Tokens.{Piece}
@@ -18,12 +19,17 @@ use Rattle.statement_model.specs.Form.{spell}
 use Rattle.statement_model.specs.Reading.{pos_of}
 use Rattle.def_grammar.specs.Components.{Clause, placed, unplaced, Component, clause, component_form, is_placing, placement}
 use Rattle.def_grammar.specs.Placing.{placing, is_held}
-use Rattle.design_rules.specs.Edits.{cut_of, fixed_part, is_long, is_out, place_change, place_cuts, placed_text, tokens_of}
+use Rattle.design_model.specs.declared.edit.EditRefusal.{EditRefusal}
+use Rattle.design_model.specs.declared.edit.EditRefusal.TheVariants.{Refused, Unreadable, Memory}
+use Rattle.lef_grammar.specs.Library.{Library}
+use Rattle.design_rules.specs.ComponentEdits.{place_at, component_plan, fixed_part, is_out, place_change, place_plan, placed_text, tokens_of}
+use Rattle.design_rules.specs.Edits.{place, located, component_at}
+use Rattle.design_rules.specs.Plans.{cut_of, is_long, outcome_of}
 use Rattle.lefdef_tokens.specs.Pieces.{end_after, pieces_of, span_of, words_of}
 use Rattle.lefdef_tokens.specs.declared.token_run.TokenRun.{TokenRun}
 use Rattle.place_parts.specs.PlacingViews.{IsPlacing}
-use Rattle.design_rules.specs.Runs.{MayWantMemory}
-use Rattle.def_splice.specs.SpliceViews.{clause_cut}
+use Rattle.design_rules.specs.Runs.{Makes, MayWantMemory}
+use Rattle.def_splice.specs.SpliceViews.{clause_cut, Follows, MakesSplices}
 
 end_is : (p : Piece) (ps : List Piece) → end_after (end_of p) ps ≡ end_of_all (p ∷ ps)
 end_is p [] = refl
@@ -83,9 +89,11 @@ module _ (text : List ℕ) (entry : TokenRun) (c : Component) (x y : ℤ) (o : O
 
   pub cut_at_end : placing c.clauses ≡ None → words_of entry ≡ spell component_form c → clause_cut text (pieces_of entry) None (placed_text x y o) ≡ cut_of text (pieces_of entry) (place_change x y o c)
   cut_at_end none spelled =
+      let before = fixed_part c + tokens_of c.clauses in
+      let some : (before == 0) ≡ false = isnt_zero before (omega arith) in
       let count : length (pieces_of entry) ≡ length (words_of entry) = sym (length-map (pieces_of entry) (λ p. p.bytes)) in
       let all : length (pieces_of entry) - 1 ≡ fixed_part c + tokens_of c.clauses = let k = count ∙ ap length spelled ∙ all_but_last c in omega (arith, k) in
-      rw (all, none) refl
+      rw (all, none, some) refl
 
   pub cut_of_clause : {C : Type 0} (view : C → Clause) (r : Option (C × TokenRun)) → option_map (λ p. view p.0) r ≡ placing c.clauses → MatchOption r (placing c.clauses ≡ None) (λ p. IsPlacing c entry p.1)
       → words_of entry ≡ spell component_form c
@@ -95,21 +103,18 @@ module _ (text : List ℕ) (entry : TokenRun) (c : Component) (x y : ℤ) (o : O
 
 -- why a placement is refused, and its cut where it is not
 module _ (text : List ℕ) (x y : ℤ) (o : Orient) (ps : List Piece) (c : Component) where
-  pub held : is_held (placing c.clauses) ≡ true → place_cuts text x y o (Some (ps, c)) ≡ Err Fixed
-  held h = rw h refl
-
-  pub out : is_held (placing c.clauses) ≡ false → (is_out x || is_out y) ≡ true → place_cuts text x y o (Some (ps, c)) ≡ Err Number
-  out h k = rw (h, k) refl
+  abbrev outcome : Result (List Cut) EditCode
+  outcome = outcome_of text (place_plan x y o ps c)
 
   module _ (free : is_held (placing c.clauses) ≡ false) (good : (is_out x || is_out y) ≡ false) (cut : Cut) (is : cut ≡ cut_of text ps (place_change x y o c)) where
-    pub too_long : is_long (with_cuts (cut ∷ []) text) ≡ true → place_cuts text x y o (Some (ps, c)) ≡ Err TooLong
+    pub too_long : is_long (with_cuts (cut ∷ []) text) ≡ true → outcome ≡ Err TooLong
     too_long h = let k = rw is at h in rw (free, good, k) refl
 
-    pub placed_so : is_long (with_cuts (cut ∷ []) text) ≡ false → place_cuts text x y o (Some (ps, c)) ≡ Ok (cut ∷ [])
+    pub placed_so : is_long (with_cuts (cut ∷ []) text) ≡ false → outcome ≡ Ok (cut ∷ [])
     placed_so h = let k = rw is at h in rw (free, good, k, is) refl
 
   -- where a component may be moved to these coordinates, a placement is refused for nothing but its length
-  pub may_want : is_held (placing c.clauses) ≡ false → (is_out x || is_out y) ≡ false → MayWantMemory (place_cuts text x y o (Some (ps, c)))
+  pub may_want : is_held (placing c.clauses) ≡ false → (is_out x || is_out y) ≡ false → MayWantMemory outcome
   may_want free good =
       let cut = cut_of text ps (place_change x y o c) in
       elim (cases_Bool (is_long (with_cuts (cut ∷ []) text))) [
@@ -121,3 +126,18 @@ module _ (text : List ℕ) (x y : ℤ) (o : Orient) (ps : List Piece) (c : Compo
 pub design_of : (r : Result (List Record) Fault) → IsOk r → (design : List Record) × (r ≡ Ok design)
 design_of (Ok design) reads = (design, refl)
 design_of (Err f) reads = absurd (cc)
+
+-- what the plan for the entry that is found gives is what the edit makes
+module _ (library : Library) (text : List ℕ) (name : List ℕ) (x y : ℤ) (o : Orient) (s : List Piece × Component) (design : List Record) (reads : read_def text ≡ Ok design) (found : component_at name (located text design) ≡ Some s) (own : List ℕ) (same : own ≡ text) where
+  pub makes_so : (gives : Result (List Cut) EditCode) → outcome_of own (place_plan x y o s.0 s.1) ≡ gives → Makes library text (place name x y o) gives
+  makes_so gives is = (
+    design,
+    reads,
+    ap (λ (f : Option (List Piece × Component)). outcome_of text (component_plan library (place_at x y o) f)) found
+        ∙ (ap (λ (t : List ℕ). outcome_of t (place_plan x y o s.0 s.1)) (sym same) ∙ is),
+  )
+
+  pub refused_so : (A : Type 0) (e : EditRefusal) → Follows {A = A} own (place_plan x y o s.0 s.1) (Err e) → MakesSplices {A = A} library text (place name x y o) (Err e)
+  refused_so A (Refused code) is = makes_so (Err code) is
+  refused_so A (Unreadable fault) is = is
+  refused_so A Memory may = (outcome_of own (place_plan x y o s.0 s.1), makes_so (outcome_of own (place_plan x y o s.0 s.1)) refl, may)

@@ -1,20 +1,18 @@
 -- Splices of the program as cuts of the definitions.
-use Rattle.std.specs.Prelude.{◌≡◌, ◌≤◌, ◌-◌, ◌++◌, ℕ, ℤ, true, false, List, [], ◌∷◌, codes, length, map, take, Option, Some, None, Result, Ok, Err}
+use Rattle.std.specs.Prelude.{◌≡◌, ◌≤◌, ◌-◌, ◌++◌, ℕ, true, false, List, [], ◌∷◌, codes, length, map, take, Option, Some, None, Result, Ok, Err}
 use Rattle.std.specs.Option.{option_map}
-use Rattle.design_model.specs.declared.edit.EditCode.{EditCode}
 use Rattle.design_model.specs.declared.edit.EditCode.TheVariants.{Fixed}
 use Rattle.design_model.specs.declared.edit.EditRefusal.{EditRefusal}
 use Rattle.design_model.specs.declared.edit.EditRefusal.TheVariants.{Refused, Unreadable, Memory}
 use Rattle.design_model.specs.declared.edit.Splice.{Splice}
-use Rattle.design_model.specs.declared.geometry.Orient.{Orient}
-use Rattle.statement_model.specs.Cuts.{Cut, end_of_all, put_at, with_cuts}
+use Rattle.statement_model.specs.Cuts.{Cut, end_of_all, with_cuts}
 use Rattle.statement_model.specs.Reading.{pos_of}
 use Rattle.statement_model.specs.Tokens.{Piece}
 use Rattle.def_grammar.specs.Components.{Clause}
 use Rattle.def_grammar.specs.Placing.{is_held}
-use Rattle.def_grammar.specs.Records.{Record, read_def}
 use Rattle.lef_grammar.specs.Library.{Library}
-use Rattle.design_rules.specs.Edits.{Change, component_at, located, place_cuts}
+use Rattle.design_rules.specs.Edits.{Change}
+use Rattle.design_rules.specs.Plans.{Plan, outcome_of, put_apart}
 use Rattle.design_rules.specs.Runs.{Makes, MayWantMemory, WantsMemory}
 
 abbrev pub cut_view : {A : Type 0} → Splice A → Cut
@@ -31,24 +29,20 @@ AreInOrder at (s ∷ ss) n = (at ≤ s.lo) × (s.lo ≤ s.hi) × AreInOrder s.hi
 
 -- the cut that puts a clause in the place of these tokens, or at the end of an entry
 abbrev pub clause_cut : List ℕ → List Piece → Option (List Piece) → List ℕ → Cut
-clause_cut text entry (Some ps) put = put_at text (pos_of ps) (end_of_all ps) put
-clause_cut text entry None put = put_at text (end_of_all (take (length entry - 1) entry)) (end_of_all (take (length entry - 1) entry)) (codes " + " ++ put)
+clause_cut text entry (Some ps) put = put_apart text (pos_of ps) (end_of_all ps) put
+clause_cut text entry None put = put_apart text (end_of_all (take (length entry - 1) entry)) (end_of_all (take (length entry - 1) entry)) (codes " + " ++ put)
 
 -- the tokens of a clause that may be moved, or the refusal of one that holds its component
 abbrev pub Moves : {C R : Type 0} → (C → Clause) → Option (C × R) → Result (Option R) EditRefusal → Type 0
 Moves view placing (Ok tokens) = (is_held (option_map (λ p. view p.0) placing) ≡ false) × (tokens ≡ option_map (λ p. p.1) placing)
 Moves view placing (Err refusal) = (is_held (option_map (λ p. view p.0) placing) ≡ true) × (refusal ≡ Refused Fixed)
 
--- placing the component of a name in a text that reads gives these cuts, or is refused so
-abbrev pub PlacesAs : List ℕ → List ℕ → ℤ → ℤ → Orient → Result (List Cut) EditCode → Type 0
-PlacesAs text name x y o outcome = (design : List Record) × (read_def text ≡ Ok design) × (place_cuts text x y o (component_at name (located text design)) ≡ outcome)
-
--- the splice is its one cut, or it is refused so
-abbrev pub PlacesSplice : {A : Type 0} → List ℕ → List ℕ → ℤ → ℤ → Orient → Result (Splice A) EditRefusal → Type 0
-PlacesSplice text name x y o (Ok s) = PlacesAs text name x y o (Ok (cut_view s ∷ []))
-PlacesSplice text name x y o (Err (Refused code)) = PlacesAs text name x y o (Err code)
-PlacesSplice text name x y o (Err (Unreadable fault)) = ⊥
-PlacesSplice text name x y o (Err Memory) = (outcome : Result (List Cut) EditCode) × PlacesAs text name x y o outcome × MayWantMemory outcome
+-- the splice is the one cut of a plan for a text, or the plan is refused so
+abbrev pub Follows : {A : Type 0} → List ℕ → Plan → Result (Splice A) EditRefusal → Type 0
+Follows text plan (Ok s) = outcome_of text plan ≡ Ok (cut_view s ∷ [])
+Follows text plan (Err (Refused code)) = outcome_of text plan ≡ Err code
+Follows text plan (Err (Unreadable fault)) = ⊥
+Follows text plan (Err Memory) = MayWantMemory (outcome_of text plan)
 
 -- the splices are the cuts of an edit of a text that reads, or the edit is refused so
 abbrev pub MakesSplices : {A : Type 0} → Library → List ℕ → Change → Result (List (Splice A)) EditRefusal → Type 0

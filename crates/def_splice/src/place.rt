@@ -1,22 +1,25 @@
 //! The splice that places a component.
 
-ghost use Rattle.std.specs.Prelude.{◌≡◌, ◌≤◌, ◌<◌, [], ◌∷◌, length, IfOk, IfSome, IsOk, Some};
+ghost use Rattle.std.specs.Prelude.{◌≡◌, ◌≤◌, ◌<◌, [], ◌∷◌, length, IfOk, IfSome, Some};
 ghost use Rattle.std.specs.Option.{option_map};
 ghost use Rattle.design_model.specs.declared.TheConstants.{MAX_TEXT};
 ghost use Rattle.statement_model.specs.Cuts.{with_cuts};
+ghost use Rattle.statement_model.specs.Form.{spell};
+ghost use Rattle.def_grammar.specs.Components.{component_form};
 ghost use Rattle.def_grammar.specs.Placing.{is_held};
-ghost use Rattle.def_grammar.specs.Records.{read_def};
-ghost use Rattle.design_rules.specs.Edits.{is_long, is_out};
+ghost use Rattle.design_rules.specs.ComponentEdits.{is_out, place_plan};
+ghost use Rattle.design_rules.specs.Plans.{is_long};
 ghost use Rattle.lefdef_tokens.specs.Views.{pieces_of, words_of};
 ghost use Rattle.place_parts.specs.ClauseViews.{clause_view};
-ghost use Rattle.def_splice.specs.SpliceViews.{clause_cut, cut_view, Moves, PlacesSplice};
+ghost use Rattle.place_parts.specs.ComponentViews.{component_view};
+ghost use Rattle.def_splice.specs.SpliceViews.{clause_cut, cut_view, Follows, Moves};
 
-use crate::put::{placed_text, put_at};
-use def_reader::records::component_named;
+use crate::put::{placed_text, put_apart};
 use design_model::MAX_TEXT;
 use design_model::edit::{EditCode, EditRefusal, Splice};
 use design_model::geometry::{Orient, Status};
 use lefdef_tokens::TokenRun;
+use place_parts::component_parts::ComponentParts;
 use place_parts::components::Clause;
 use std::alloc::{AllocError, Allocator};
 
@@ -63,11 +66,11 @@ fn clause_splice<'t, A: Allocator>(
     match clause {
         Some(tokens) => {
             let span = tokens.span();
-            put_at(alloc, entry.text, span.lo, span.hi, b"", put)
+            put_apart(alloc, entry.text, span.lo, span.hi, b"", put)
         }
         None => {
             let end = entry.front(entry.len() - 1).span().hi;
-            put_at(alloc, entry.text, end, end, b" + ", put)
+            put_apart(alloc, entry.text, end, end, b" + ", put)
         }
     }
 }
@@ -90,32 +93,29 @@ fn is_long<A: Allocator>(text: &[u8], splice: &Splice<A>) -> bool
     splice.put.len() > MAX_TEXT - kept
 }
 
-/// The splice that places a component: a clause `PLACED ( x y ) orient` in the place of the one that places it, or at
-/// the end of its entry.
-pub fn place_splice<A: Allocator + Copy>(
+/// The splice that places the component of an entry: a clause `PLACED ( x y ) orient` in the place of the one that places
+/// it, or at the end of the entry.
+pub fn place_splice<'t, A: Allocator + Copy>(
     alloc: A,
-    text: &[u8],
-    component: &[u8],
+    component: ComponentParts<'t>,
+    entry: TokenRun<'t>,
     x: i64,
     y: i64,
     orient: Orient,
 ) -> Result<Splice<A>, EditRefusal>
-    requires fits { length text.now ≤ MAX_TEXT }
-    requires reads { IsOk (read_def text.now) }
-    ensures places { PlacesSplice text.now component.now x y orient result }
+    requires fits { length entry.text.now ≤ MAX_TEXT }
+    requires spelled { words_of entry ≡ spell component_form (component_view component) }
+    ensures gives { Follows entry.entry.text.now (place_plan x y orient (pieces_of entry.entry) (component_view component.entry)) result }
     ensures order { IfOk result (λ s. s.lo ≤ s.hi) }
-    ensures within { IfOk result (λ s. s.hi ≤ length text.now) }
+    ensures within { IfOk result (λ s. s.hi ≤ length entry.entry.text.now) }
 {
-    let Some((parts, tokens)) = component_named(text, component) else {
-        return Err(EditRefusal::Refused(EditCode::UnknownName));
-    };
-    let clause = movable(parts.placing_tokens(tokens))?;
+    let clause = movable(component.placing_tokens(entry))?;
     if is_out(x) || is_out(y) {
         return Err(EditRefusal::Refused(EditCode::Number));
     }
     let put = placed_text(alloc, x, y, orient)?;
-    let splice = clause_splice(alloc, tokens, clause, &put)?;
-    if is_long(text, &splice) {
+    let splice = clause_splice(alloc, entry, clause, &put)?;
+    if is_long(entry.text, &splice) {
         return Err(EditRefusal::Refused(EditCode::TooLong));
     }
     Ok(splice)

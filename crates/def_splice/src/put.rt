@@ -1,8 +1,10 @@
-//! The bytes of a clause that places a component.
+//! The bytes that a splice puts.
 
 ghost use Rattle.std.specs.Prelude.{◌≡◌, ◌≤◌, ◌++◌, drop, length, IfOk};
-ghost use Rattle.statement_model.specs.Cuts.{put_at, space_before};
-ghost use Rattle.design_rules.specs.Edits.{placed_text};
+ghost use Rattle.statement_model.specs.Cuts.{space_before};
+ghost use Rattle.statement_model.specs.Tokens.{is_white};
+ghost use Rattle.design_rules.specs.ComponentEdits.{placed_text};
+ghost use Rattle.design_rules.specs.Plans.{ends_open, put_apart, space_between};
 ghost use Rattle.def_splice.specs.SpliceViews.{cut_view};
 
 use design_model::edit::Splice;
@@ -31,21 +33,50 @@ pub fn placed_text<A: Allocator>(
     Ok(put)
 }
 
-/// A space, where bytes that end at a place would be glued to what stands there.
+/// Whether a byte is white space.
+fn is_white(byte: u8) -> bool
+    ensures { result ≡ is_white byte }
+{
+    matches!(byte, b' ' | b'\t' | b'\r' | b'\n')
+}
+
+/// Whether a byte behind these would be glued to them.
+fn ends_open(put: &[u8]) -> bool
+    ensures { result ≡ ends_open put.now }
+{
+    match put.last() {
+        Some(&byte) => !is_white(byte),
+        None => false,
+    }
+}
+
+/// A space, where what stands at a place would be glued to what comes before it.
 fn space_before(text: &[u8], at: usize) -> &'static [u8]
     requires { at ≤ length text.now }
     ensures { result.now ≡ space_before (drop at text.now) }
 {
-    if at == text.len() || matches!(text[at], b' ' | b'\t' | b'\r' | b'\n') {
+    if at == text.len() || is_white(text[at]) {
         b""
     } else {
         b" "
     }
 }
 
+/// A space, where what stands at a place would be glued to these bytes.
+fn space_between(put: &[u8], text: &[u8], at: usize) -> &'static [u8]
+    requires { at ≤ length text.now }
+    ensures { result.now ≡ space_between put.now (drop at text.now) }
+{
+    if ends_open(put) {
+        space_before(text, at)
+    } else {
+        b""
+    }
+}
+
 /// The splice that puts a lead and then bytes in the place of those from `lo` up to `hi`, and a space after them where
-/// they would be glued to what follows.
-pub fn put_at<A: Allocator>(
+/// what follows would be glued to them.
+pub fn put_apart<A: Allocator>(
     alloc: A,
     text: &[u8],
     lo: usize,
@@ -54,11 +85,12 @@ pub fn put_at<A: Allocator>(
     put: &[u8],
 ) -> Result<Splice<A>, AllocError>
     requires { hi ≤ length text.now }
-    ensures { IfOk result (λ s. cut_view s ≡ put_at text.now lo hi (lead.now ++ put.now)) }
+    ensures { IfOk result (λ s. cut_view s ≡ put_apart text.now lo hi (lead.now ++ put.now)) }
 {
     let mut all = Vec::from_slice(alloc, lead)?;
     all.extend_from_slice(put)?;
-    all.extend_from_slice(space_before(text, hi))?;
+    let space = space_between(&all, text, hi);
+    all.extend_from_slice(space)?;
     Ok(Splice {
         lo,
         hi,

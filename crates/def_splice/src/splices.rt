@@ -6,15 +6,14 @@ ghost use Rattle.def_grammar.specs.Records.{read_def};
 ghost use Rattle.design_rules.specs.Edits.{change_of};
 ghost use Rattle.def_splice.specs.SpliceViews.{AreInOrder, MakesSplices};
 
-use crate::place::place_splice;
+use crate::component::component_splices;
 use cell_library::library::Library;
 use design_model::MAX_TEXT;
 use design_model::edit::{Edit, EditRefusal, Splices};
-use design_model::sequence::Sequence;
-use std::alloc::{AllocError, Allocator};
+use std::alloc::Allocator;
 
 /// The splices of an edit of a text that reads, in the order of their places, or why the edit is refused: the lowest
-/// refusal that applies.
+/// refusal that applies. Each group of edits has a function for its own.
 pub fn splices<A: Allocator + Copy>(
     alloc: A,
     library: &Library<'_, A>,
@@ -26,17 +25,5 @@ pub fn splices<A: Allocator + Copy>(
     ensures makes { MakesSplices library.now text.now (change_of edit.now) result }
     ensures order { IfOk result (λ ss. AreInOrder 0 ss (length text.now)) }
 {
-    match edit {
-        Edit::Place {
-            component,
-            x,
-            y,
-            orient,
-        } => {
-            let splice = place_splice(alloc, text, component, *x, *y, *orient)?;
-            let mut splices = Vec::with_capacity(alloc, 1)?;
-            splices.push(splice)?;
-            Ok(Sequence::from_vec(splices))
-        }
-    }
+    component_splices(alloc, library, text, edit)
 }

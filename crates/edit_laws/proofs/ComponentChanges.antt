@@ -17,11 +17,11 @@ use Rattle.lef_grammar.specs.Library.{Library}
 use Rattle.design_rules.specs.ComponentEdits.{ComponentChange, place_at, placed_component, placing_change, place_change, is_out, edited_component, entry_plan, component_plan}
 use Rattle.design_rules.specs.Edits.{of_component, located, component_at, on_component, on_entry, applied}
 use Rattle.design_rules.specs.Plans.{StatementChange, lowest}
-use Rattle.edit_laws.specs.ComponentLaws.{ComponentsAreFound, ComponentPlansAreMade}
+use Rattle.edit_laws.specs.ComponentLaws.{ComponentsAreFound, ComponentPlansAreMade, ComponentPlansAreOne}
 use Rattle.edit_laws.specs.EntryLaws.{IsWritten, IsEditOf, EntriesAreWritten, OneIsEdited}
 use Rattle.edit_laws.specs.PlacingLaws.{PlacingsAreChanges}
 use Rattle.edit_laws.specs.PlanLaws.{Plans}
-use Rattle.edit_laws.specs.StatementLaws.{records, IsChange, Make, SameKeysAreOnce}
+use Rattle.edit_laws.specs.StatementLaws.{records, StandsAmong, IsChange, Make, SameKeysAreOnce}
 use Rattle.edit_laws.proofs.Keys.{key_itself}
 use Rattle.edit_laws.proofs.PlanTexts.{tokens_read}
 
@@ -98,23 +98,44 @@ module _ (name : List ℕ) (change : ComponentChange) where
   same_keys [] = refl
   same_keys (r ∷ recs) = ap₂ (λ (k : Key) (ks : List Key). k ∷ ks) (one_key r) (same_keys recs)
 
-module _ (found_so : ComponentsAreFound) (written_so : EntriesAreWritten) (one_so : OneIsEdited) (keys_so : SameKeysAreOnce) (placings_so : PlacingsAreChanges) where
-  plan_is_made : (library : Library) (text : List ℕ) (design : List Record) (name : List ℕ) (change : ComponentChange) (found : Option (List Piece × Component)) → read_def text ≡ Ok design → component_at name (located text design) ≡ found
-      → Plans text design (component_plan library change found) (applied (of_component name change) design)
-  plan_is_made library text design name change None reads is = λ free. absurd (cc)
-  plan_is_made library text design name change (Some s) reads is = λ free.
-      let whole = tokens_read text design reads in
-      let found = found_so (located text design) name s.0 s.1 is in
-      let st = found.0 in
-      let written = written_so text 0 (Top, []) design s.0 (component s.1) whole st in
-      let one = one_change placings_so library s.0 s.1 written change free in
-      let said = component (edited_component change s.1) in
-      let new = applied (of_component name change) design in
-      let made : new ≡ records st.first ++ entry said ∷ records st.others = one_so text 0 (Top, []) design s.0 (component s.1) said (edited name change) whole st (is_edit name change s.1 found.1) in
-      let put : new ≡ records st.first ++ (one.change.said ++ records st.others) = made ∙ ap (λ (rs : List Record). records st.first ++ (rs ++ records st.others)) (sym one.said) in (
-        subst (λ (xs : List (List Piece × StatementChange)). Make (located text design) xs new) (sym one.is) (entry (component s.1), st, one.holds, records st.others, refl, put),
-        keys_so text 0 Top [] design new whole (same_keys name change design),
-      )
+-- the component that an edit finds, with its one change
+record Found (library : Library) (text : List ℕ) (design : List Record) (name : List ℕ) (change : ComponentChange) (s : List Piece × Component) : Type 0 where
+  stands : StandsAmong (located text design) s.0 (entry (component s.1))
+  named : s.1.name ≡ name
+  one : IsOne s.0 s.1 (edited_component change s.1) (entry_plan library change s.0 s.1).changes
 
-  pub component_plans_are_made : ComponentPlansAreMade
-  component_plans_are_made library text design name change reads = plan_is_made library text design name change (component_at name (located text design)) reads refl
+module _ (found_so : ComponentsAreFound) (written_so : EntriesAreWritten) (placings_so : PlacingsAreChanges) (library : Library) (text : List ℕ) (design : List Record) (name : List ℕ) (change : ComponentChange) (reads : read_def text ≡ Ok design) where
+  found_one : (s : List Piece × Component) → component_at name (located text design) ≡ Some s → lowest (entry_plan library change s.0 s.1).refusals ≡ None → Found library text design name change s
+  found_one s is free =
+      let found = found_so (located text design) name s.0 s.1 is in
+      let written = written_so text 0 (Top, []) design s.0 (component s.1) (tokens_read text design reads) found.0 in
+      record { stands = found.0; named = found.1; one = one_change placings_so library s.0 s.1 written change free }
+
+  plan_is_one : (found : Option (List Piece × Component)) → component_at name (located text design) ≡ found → lowest (component_plan library change found).refusals ≡ None
+      → (x : List Piece × StatementChange) × ((component_plan library change found).changes ≡ x ∷ [])
+  plan_is_one None is free = absurd (cc)
+  plan_is_one (Some s) is free = let f = found_one s is free in ((s.0, f.one.change), f.one.is)
+
+  module _ (one_so : OneIsEdited) (keys_so : SameKeysAreOnce) where
+    plan_is_made : (found : Option (List Piece × Component)) → component_at name (located text design) ≡ found → Plans text design (component_plan library change found) (applied (of_component name change) design)
+    plan_is_made None is = λ free. absurd (cc)
+    plan_is_made (Some s) is = λ free.
+        let f = found_one s is free in
+        let one = f.one in
+        let st = f.stands in
+        let whole = tokens_read text design reads in
+        let said = component (edited_component change s.1) in
+        let new = applied (of_component name change) design in
+        let made : new ≡ records st.first ++ entry said ∷ records st.others = one_so text 0 (Top, []) design s.0 (component s.1) said (edited name change) whole st (is_edit name change s.1 f.named) in
+        let put : new ≡ records st.first ++ (one.change.said ++ records st.others) = made ∙ ap (λ (rs : List Record). records st.first ++ (rs ++ records st.others)) (sym one.said) in (
+          subst (λ (xs : List (List Piece × StatementChange)). Make (located text design) xs new) (sym one.is) (entry (component s.1), st, one.holds, records st.others, refl, put),
+          keys_so text 0 Top [] design new whole (same_keys name change design),
+        )
+
+pub component_plans_are_one : ComponentsAreFound → EntriesAreWritten → PlacingsAreChanges → ComponentPlansAreOne
+component_plans_are_one found_so written_so placings_so library text design name change reads free =
+    plan_is_one found_so written_so placings_so library text design name change reads (component_at name (located text design)) refl free
+
+pub component_plans_are_made : ComponentsAreFound → EntriesAreWritten → PlacingsAreChanges → OneIsEdited → SameKeysAreOnce → ComponentPlansAreMade
+component_plans_are_made found_so written_so placings_so one_so keys_so library text design name change reads =
+    plan_is_made found_so written_so placings_so library text design name change reads one_so keys_so (component_at name (located text design)) refl

@@ -1,6 +1,6 @@
 //! Laws of edits of a component: each has a plan for the edited design.
 
-ghost use Rattle.edit_laws.specs.ComponentLaws.{ComponentPlansAreMade, ComponentsAreFound};
+ghost use Rattle.edit_laws.specs.ComponentLaws.{ComponentPlansAreMade, ComponentPlansAreOne, ComponentsAreFound};
 
 use crate::entries::{entries_are_written, one_is_edited};
 use crate::placing::placings_are_changes;
@@ -19,5 +19,14 @@ pub fn component_plans_are_made()
     entries_are_written();
     one_is_edited();
     same_keys_are_once();
+    placings_are_changes();
+}
+
+/// Where it isn't refused, it is one change.
+pub fn component_plans_are_one()
+    ensures { ComponentPlansAreOne }
+{
+    components_are_found();
+    entries_are_written();
     placings_are_changes();
 }

@@ -2,7 +2,7 @@
 
 ghost use Rattle.edit_laws.specs.EditLaws.{EditsAreApplied, EditsKeepTheRest};
 
-use crate::components::component_plans_are_made;
+use crate::components::{component_plans_are_made, component_plans_are_one};
 use crate::plans::{plans_are_applied, plans_stand_in_order};
 use splicing_laws::keeping::one_cut_keeps_the_rest;
 
@@ -19,6 +19,7 @@ pub fn edits_keep_the_rest()
     ensures { EditsKeepTheRest }
 {
     component_plans_are_made();
+    component_plans_are_one();
     plans_stand_in_order();
     one_cut_keeps_the_rest();
 }

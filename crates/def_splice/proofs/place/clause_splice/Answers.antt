@@ -10,11 +10,11 @@ returns-in-Some-clause-gives g c =
     let ps = pieces_of c.in-Some.tokens in
     let low = ap (λ s. s.lo) c.span-span.ensures.gives ∙ span_start ps in
     let high = ap (λ s. s.hi) c.span-span.ensures.gives ∙ span_end ps in
-    rw c.in-Some.is (if_ok c.put_at.result (λ s e. rw (low, high) at e) c.put_at.ensures)
+    rw c.in-Some.is (if_ok c.put_apart.result (λ s e. rw (low, high) at e) c.put_apart.ensures)
 
 pub returns-in-None-clause-gives : goal.returns-in-None-clause-gives
 returns-in-None-clause-gives g c =
     let ps = pieces_of c.args.entry in
     let count = c.len.ensures ∙ length-map ps (λ p. p.bytes) in
     let high = ap (λ s. s.hi) c.span-end.ensures.gives ∙ ap (λ qs. (span_of qs).hi) (c.front.ensures.gives ∙ ap (λ n. take (n - 1) ps) count) ∙ span_end (take (length ps - 1) ps) in
-    rw c.in-None.is (if_ok c.put_at-in-None.result (λ s e. rw high at e) c.put_at-in-None.ensures)
+    rw c.in-None.is (if_ok c.put_apart-in-None.result (λ s e. rw high at e) c.put_apart-in-None.ensures)
