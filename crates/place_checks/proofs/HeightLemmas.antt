@@ -18,6 +18,7 @@ use Rattle.design_rules.specs.Families.{cross_lines}
 use Rattle.design_rules.specs.PlaceLines.{blocked_of}
 use Rattle.line_laws.specs.Lines.{SameLines}
 use Rattle.line_laws.specs.EachLaws.{CrossesTurn}
+use Rattle.line_laws.proofs.SameSums.{lines_are_their_own, same_lines_append, same_lines_turn}
 use Rattle.place_checks.specs.declared.placed_box.PlacedBox.{PlacedBox}
 use Rattle.place_checks.specs.Heights.{NoneTaller}
 use Rattle.place_checks.specs.Views.{boxed_view}
@@ -89,11 +90,11 @@ pub one_rectangle : (xs : List Rect) (bs near : List PlacedBox) (i : ℕ) (x : R
 one_rectangle xs bs near i x old new all below is same added so_far =
     rw (added, same, append_assoc) (rw (left_from xs i x below is) at so_far)
 
-pub turned_lines : CrossesTurn Boxed Rectangle → (boxes : List PlacedBox) (rects : List Rect) (lines : Lines) → lines ≡ lines_on_all rects boxes
-    → SameLines lines (cross_lines blocked_of (map boxed_view boxes) (map rectangle_of rects))
-turned_lines turn boxes rects lines is =
-    let same = turn blocked_of (map boxed_view boxes) (map rectangle_of rects) in
-    rw is (record { often = λ q. sym (same.often q) })
+pub turned_lines : CrossesTurn Boxed Rectangle → (boxes : List PlacedBox) (rects : List Rect) (old lines : Lines) → lines ≡ old ++ lines_on_all rects boxes
+    → SameLines lines (old ++ cross_lines blocked_of (map boxed_view boxes) (map rectangle_of rects))
+turned_lines turn boxes rects old lines is =
+    let turned = same_lines_turn _ _ (turn blocked_of (map boxed_view boxes) (map rectangle_of rects)) in
+    rw is (same_lines_append old old _ _ (lines_are_their_own old) turned)
 
 pub all_rectangles : (xs : List Rect) (bs : List PlacedBox) (i : ℕ) (lines all : Lines) → length xs ≤ i → lines ++ lines_on_all (drop i xs) bs ≡ all → lines ≡ all
 all_rectangles xs bs i lines all past so_far =

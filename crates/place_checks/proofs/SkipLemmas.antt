@@ -165,7 +165,7 @@ none_above first next behind left s split high =
     let up : next.rect.y1 ≤ℤ b.rect.y1 = not_above next.rect b.rect (sorted_far _ is_order (next ∷ behind) (rw split at s).rises 0 k d (omega arith) low) in
     apart_above (rectangle_of first.rect) (rectangle_of b.rect) (omega (arith, ints))))
 
--- one box of a row has its reports with those behind it and those above the row
+-- one box of a row has its lines with those behind it and those above the row
 pub one_box : (row above : List PlacedBox) (i : ℕ) (x : PlacedBox) (old beside new all : Lines) → i < length row → x ≡ get_or row i x → beside ≡ old ++ lines_of x (drop (i + 1) row) → new ≡ beside ++ lines_of x above
     → old ++ pairs_of (drop i row ++ above) ≡ all → new ++ pairs_of (drop (i + 1) row ++ above) ≡ all
 one_box row above i x old beside new all below is one more so_far =

@@ -13,13 +13,14 @@ use Rattle.design_rules.specs.Surroundings.{Assignment, Fence, PlacedRow, Surrou
 use Rattle.place_checks.specs.FenceLines.{fence_lines_by, fence_lines_in}
 use Rattle.place_checks.specs.Patterns.{by_pattern, by_patterns, AreRegionsOf}
 use Rattle.place_checks.specs.RowFits.{is_on, takes}
+use Rattle.place_checks.specs.SameSurroundings.{HaveSameLines}
 use Rattle.place_checks.specs.Views.{boxed_view}
 use Rattle.place_checks.specs.declared.placed_box.PlacedBox.{PlacedBox}
 use Rattle.place_checks.proofs.FitLemmas.{row_lines_are}
 use Rattle.place_checks.proofs.PatternLemmas.{any_never, or_false}
 use Rattle.place_checks.proofs.SkipLemmas.{left_from}
 
-pub flat_map_same : {X Y : Type 0} (f g : X → List Y) → ((x : X) → f x ≡ g x) → (xs : List X) → flat_map f xs ≡ flat_map g xs
+flat_map_same : {X Y : Type 0} (f g : X → List Y) → ((x : X) → f x ≡ g x) → (xs : List X) → flat_map f xs ≡ flat_map g xs
 flat_map_same f g h [] = refl
 flat_map_same f g h (x ∷ xs) = ap₂ (λ u v. u ++ v) (h x) (flat_map_same f g h xs)
 
@@ -55,17 +56,26 @@ module _ (c : Boxed) where
   same_fences : (all moved : List Assignment) (fences : List Fence) → IsPermutation (by_patterns all) moved → flat_map (fence_lines_of moved c) fences ≡ flat_map (fence_lines_of all c) fences
   same_fences all moved fences h = flat_map_same _ _ (λ (f : Fence). ap (λ b. fence_lines_by b c f) (same_assigned f.name all moved h)) fences
 
-  pub same_lines : (s t : Surroundings) → IsPermutation t.rows s.rows → s.die ≡ t.die → s.fences ≡ t.fences → IsPermutation (by_patterns t.assignments) s.assignments → lines_in s c ≡ lines_in t c
-  same_lines s t rows die fences assignments =
-      ap₂ (λ u v. u ++ v) (ap₂ (λ u v. u ++ v) (same_rows t.rows s.rows rows) (ap (λ d. outside_lines d c) die))
-      (same_fences t.assignments s.assignments s.fences assignments ∙ ap (λ z. flat_map (fence_lines_of t.assignments c) z) fences)
+pub same_surroundings : (s t : Surroundings) → IsPermutation t.rows s.rows → s.die ≡ t.die → s.fences ≡ t.fences → IsPermutation (by_patterns t.assignments) s.assignments → HaveSameLines s t
+same_surroundings s t rows die fences assignments = record {
+  rows = λ c. same_rows c t.rows s.rows rows;
+  die = die;
+  fences = λ c. same_fences c t.assignments s.assignments s.fences assignments ∙ ap (λ z. flat_map (fence_lines_of t.assignments c) z) fences;
+}
 
--- one component more: the rows that are looked up for it give its lines, and then come those at the die and at the fences
-regrouped : (a r o f z : List (List ℕ)) → ((a ++ r) ++ (o ++ f)) ++ z ≡ a ++ (((r ++ o) ++ f) ++ z)
-regrouped a r o f z = rw (append_assoc (a ++ r) (o ++ f) z, append_assoc a r ((o ++ f) ++ z), append_assoc o f z, append_assoc (r ++ o) f z, append_assoc r o (f ++ z)) refl
+same_lines : (s t : Surroundings) → HaveSameLines s t → (c : Boxed) → lines_in s c ≡ lines_in t c
+same_lines s t h c = ap₂ (λ u v. u ++ v) (ap₂ (λ u v. u ++ v) (h.rows c) (ap (λ d. outside_lines d c) h.die)) (h.fences c)
 
+pub all_lines_same : (s t : Surroundings) (cs : List Boxed) → HaveSameLines s t → flat_map (lines_in s) cs ≡ flat_map (lines_in t) cs
+all_lines_same s t cs h = flat_map_same _ _ (same_lines s t h) cs
+
+-- the lines of a component in rows, and then those at the die and at the fences
+pub rows_and_borders : (old rows r o f : List (List ℕ)) → rows ≡ old ++ r → rows ++ (o ++ f) ≡ old ++ ((r ++ o) ++ f)
+rows_and_borders old rows r o f is = rw (is, append_assoc old r (o ++ f), append_assoc r o f) refl
+
+-- one component more, by the rows that are looked up for it
 pub one_component : (s : Surroundings) (boxes : List PlacedBox) (i : ℕ) (x : PlacedBox) (near : List PlacedRow) (old rows new all : List (List ℕ)) → i < length boxes → x ≡ get_or boxes i x
     → row_lines near (boxed_view x) ≡ row_lines s.rows (boxed_view x) → rows ≡ old ++ row_lines near (boxed_view x) → new ≡ rows ++ (outside_lines s.die (boxed_view x) ++ fence_lines s (boxed_view x))
     → old ++ flat_map (lines_in s) (map boxed_view (drop i boxes)) ≡ all → new ++ flat_map (lines_in s) (map boxed_view (drop (i + 1) boxes)) ≡ all
 one_component s boxes i x near old rows new all below is same in_rows added so_far =
-    rw (added, in_rows, same) (regrouped old _ _ _ _ ∙ rw (left_from boxes i x below is) at so_far)
+    rw (added, rows_and_borders old rows _ _ _ (in_rows ∙ ap (λ r. old ++ r) same), append_assoc) (rw (left_from boxes i x below is) at so_far)

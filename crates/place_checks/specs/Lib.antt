@@ -3,10 +3,12 @@ pub mod FenceLines
 pub mod Heights
 pub mod Hulls
 pub mod IndexViews
+pub mod OneLines
 pub mod Patterns
 pub mod PlaceViews
 pub mod RowEdges
 pub mod RowFits
 pub mod RowSizes
+pub mod SameSurroundings
 pub mod Sweep
 pub mod Views

@@ -1,8 +1,6 @@
--- Statements that were read, boxes and reports of the program as those of the definitions.
-use Rattle.std.specs.Prelude.{ℕ, List, map}
+-- Boxes of the program as those of the definitions.
+use Rattle.std.specs.Prelude.{map}
 use Rattle.std.specs.Option.{option_map}
-use Rattle.design_model.specs.declared.diagnostic.Diag.{Diag}
-use Rattle.design_model.specs.Lines.{diag_text}
 use Rattle.design_model.specs.Views.{rectangle_of}
 use Rattle.design_rules.specs.Boxes.{Boxed}
 use Rattle.lefdef_tokens.specs.Views.{word_view}
@@ -17,7 +15,3 @@ boxed_view b = record {
   sites = map word_view b.sites.now;
   region = option_map word_view b.region;
 }
-
--- the lines of reports
-abbrev pub diag_texts : {A : Type 0} → List (Diag A) → List (List ℕ)
-diag_texts = map diag_text

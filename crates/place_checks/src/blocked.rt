@@ -1,82 +1,83 @@
 //! Components that lie where placement is blocked (LEF/DEF 5.8 Language Reference, "Blockages").
 
-ghost use Rattle.std.specs.Prelude.{◌≡◌, ◌++◌, ◌∷◌, [], IfOk, OnOk, flat_map, map};
-ghost use Rattle.design_model.specs.Lines.{diag_text, line_text};
+ghost use Rattle.std.specs.Prelude.{◌≡◌, ◌++◌, OnOk, flat_map, map};
 ghost use Rattle.design_model.specs.Views.{rectangle_of};
 ghost use Rattle.design_rules.specs.Families.{cross_lines};
 ghost use Rattle.design_rules.specs.PlaceLines.{blocked_of};
 ghost use Rattle.line_laws.specs.Lines.{SameLines};
 ghost use Rattle.place_checks.specs.Sweep.{InSweepOrder};
-ghost use Rattle.place_checks.specs.Views.{boxed_view, diag_texts};
+ghost use Rattle.place_checks.specs.Views.{boxed_view};
 
 use crate::placed_box::PlacedBox;
 use crate::sweep::{begin_below, end_above, greatest_height};
-use design_model::diagnostic::{Diag, DiagKind};
+use design_model::diagnostic::DiagKind;
 use design_model::geometry::Rect;
-use design_model::sequence::Sequence;
 use line_laws::each::crosses_turn;
 use orient_geom::overlaps;
+use report_lines::Lines;
 use std::alloc::{AllocError, Allocator};
 
-/// The report on a component that lies on a rectangle where placement is blocked.
-fn blocked<'t, A: Allocator + Copy>(
-    alloc: A,
-    name: &'t [u8],
+/// Puts the line of a component that lies on a rectangle where placement is blocked.
+fn put_blocked<A: Allocator + Copy>(
+    component: &PlacedBox<'_>,
     rect: &Rect,
-) -> Result<Diag<'t, A>, AllocError>
-    ensures { let x = rect.entry.now in IfOk result (λ d. diag_text d ≡ line_text DiagKind.Blocked (name.entry.now ∷ []) (x.x1 ∷ x.y1 ∷ x.x2 ∷ x.y2 ∷ [])) }
+    lines: &mut Lines<A>,
+) -> Result<(), AllocError>
+    ensures { OnOk result (lines.new ≡ lines.old ++ blocked_of (boxed_view component.now) (rectangle_of rect.now)) }
 {
-    let mut words = Sequence::new(alloc);
-    words.push(name)?;
-    let mut nums = Sequence::new(alloc);
-    nums.push(rect.x1)?;
-    nums.push(rect.y1)?;
-    nums.push(rect.x2)?;
-    nums.push(rect.y2)?;
-    Ok(Diag {
-        kind: DiagKind::Blocked,
-        words,
-        nums,
-    })
+    if !overlaps(&component.rect, rect) {
+        return Ok(());
+    }
+    let corners = [rect.x1, rect.y1, rect.x2, rect.y2];
+    lines.put(DiagKind::Blocked, &[component.name], &corners)
 }
 
-/// Adds a report for each of the boxes that overlaps a rectangle where placement is blocked, in their order, whatever
-/// it is.
-pub fn of_blockage<'t, A: Allocator + Copy>(
-    boxes: &[PlacedBox<'t>],
-    rect: &Rect,
-    reports: &mut Vec<Diag<'t, A>, A>,
+/// Puts a line for each rectangle where placement is blocked that a component lies on.
+pub(crate) fn put_blocked_by<A: Allocator + Copy>(
+    component: &PlacedBox<'_>,
+    keep_outs: &[Rect],
+    lines: &mut Lines<A>,
 ) -> Result<(), AllocError>
-    ensures { OnOk result (diag_texts reports.new.items ≡ diag_texts reports.old.items ++ flat_map (λ c. blocked_of c (rectangle_of rect.now)) (map boxed_view boxes.now)) }
+    ensures { OnOk result (lines.new ≡ lines.old ++ flat_map (blocked_of (boxed_view component.now)) (map rectangle_of keep_outs.now)) }
 {
-    let alloc = *reports.allocator();
-    for placed in boxes {
-        if overlaps(&placed.rect, rect) {
-            reports.push(blocked(alloc, placed.name, rect)?)?;
-        }
+    for rect in keep_outs {
+        put_blocked(component, rect, lines)?;
     }
     Ok(())
 }
 
-/// The reports on all components that overlap rectangles where placement is blocked.
+/// Puts a line for each of the boxes that lies on a rectangle where placement is blocked, in their order, whatever it is.
+pub(crate) fn put_all_blocked<A: Allocator + Copy>(
+    boxes: &[PlacedBox<'_>],
+    rect: &Rect,
+    lines: &mut Lines<A>,
+) -> Result<(), AllocError>
+    ensures { OnOk result (lines.new ≡ lines.old ++ flat_map (λ c. blocked_of c (rectangle_of rect.now)) (map boxed_view boxes.now)) }
+{
+    for placed in boxes {
+        put_blocked(placed, rect, lines)?;
+    }
+    Ok(())
+}
+
+/// Puts a line for each component and each rectangle where placement is blocked that it lies on.
 ///
 /// A rectangle is compared with those boxes alone that begin below its upper edge, and less than the height of the
 /// tallest below its lower edge.
-pub fn blocked_of<'t, A: Allocator + Copy>(
-    alloc: A,
-    boxes: &[PlacedBox<'t>],
+pub fn blocked_of<A: Allocator + Copy>(
+    boxes: &[PlacedBox<'_>],
     keep_outs: &[Rect],
-) -> Result<Vec<Diag<'t, A>, A>, AllocError>
+    lines: &mut Lines<A>,
+) -> Result<(), AllocError>
     requires { InSweepOrder boxes.now }
-    ensures { IfOk result (λ v. SameLines (diag_texts v.items) (cross_lines blocked_of (map boxed_view boxes.now) (map rectangle_of keep_outs.now))) }
+    ensures { OnOk result (SameLines lines.new (lines.old ++ cross_lines blocked_of (map boxed_view boxes.now) (map rectangle_of keep_outs.now))) }
 {
     let tallest = greatest_height(boxes);
-    let mut reports = Vec::new(alloc);
     for rect in keep_outs {
         let near = end_above(begin_below(boxes, rect), tallest, rect);
-        of_blockage(near, rect, &mut reports)?;
+        put_all_blocked(near, rect, lines)?;
     }
     // Which of the two lists is gone over first makes no difference to the lines.
     crosses_turn();
-    Ok(reports)
+    Ok(())
 }

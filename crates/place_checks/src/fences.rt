@@ -10,17 +10,17 @@ ghost use Rattle.design_rules.specs.PlaceLines.{fence_lines, outside_lines};
 ghost use Rattle.place_checks.specs.FenceLines.{fence_lines_by, fence_lines_in};
 ghost use Rattle.place_checks.specs.IndexViews.{surroundings_view};
 ghost use Rattle.place_checks.specs.PlaceViews.{fence_view};
-ghost use Rattle.place_checks.specs.Views.{boxed_view, diag_texts};
+ghost use Rattle.place_checks.specs.Views.{boxed_view};
 
 use crate::fence::Fence;
 use crate::hull::is_apart;
 use crate::names::is_one_of;
 use crate::placed_box::PlacedBox;
-use crate::report::push_report;
 use crate::surroundings::Surroundings;
-use design_model::diagnostic::{Diag, DiagKind};
+use design_model::diagnostic::DiagKind;
 use design_model::geometry::Rect;
 use orient_geom::{covered, overlaps};
+use report_lines::Lines;
 use std::alloc::{AllocError, Allocator};
 
 /// Whether a box overlaps one of some rectangles.
@@ -35,13 +35,13 @@ fn overlaps_any(area: &Rect, rectangles: &[Rect]) -> bool
     false
 }
 
-/// Adds the report on a component that reaches out of the die, where that is known.
-fn push_outside<'t, A: Allocator + Copy>(
+/// Puts the line of a component that reaches out of the die, where that is known.
+fn put_outside<A: Allocator + Copy>(
     die: Option<Rect>,
-    component: &PlacedBox<'t>,
-    reports: &mut Vec<Diag<'t, A>, A>,
+    component: &PlacedBox<'_>,
+    lines: &mut Lines<A>,
 ) -> Result<(), AllocError>
-    ensures { OnOk result (diag_texts reports.new.items ≡ diag_texts reports.old.items ++ outside_lines (option_map rectangle_of die) (boxed_view component.now)) }
+    ensures { OnOk result (lines.new ≡ lines.old ++ outside_lines (option_map rectangle_of die) (boxed_view component.now)) }
 {
     let Some(die) = die else {
         return Ok(());
@@ -49,17 +49,17 @@ fn push_outside<'t, A: Allocator + Copy>(
     if covered(component.rect, &[die]) {
         return Ok(());
     }
-    push_report(reports, DiagKind::Outside, &[component.name])
+    lines.put(DiagKind::Outside, &[component.name], &[])
 }
 
-/// Adds the report on a component that reaches out of a fence that it is assigned to, or that lies in another one.
-fn push_fence<'t, A: Allocator + Copy>(
-    fence: &Fence<'t, A>,
+/// Puts the line of a component that reaches out of a fence that it is assigned to, or that lies in another one.
+fn put_fence<A: Allocator + Copy>(
+    fence: &Fence<'_, A>,
     is_assigned: bool,
-    component: &PlacedBox<'t>,
-    reports: &mut Vec<Diag<'t, A>, A>,
+    component: &PlacedBox<'_>,
+    lines: &mut Lines<A>,
 ) -> Result<(), AllocError>
-    ensures { OnOk result (diag_texts reports.new.items ≡ diag_texts reports.old.items ++ fence_lines_by is_assigned (boxed_view component.now) (fence_view fence.now)) }
+    ensures { OnOk result (lines.new ≡ lines.old ++ fence_lines_by is_assigned (boxed_view component.now) (fence_view fence.now)) }
 {
     let rectangles = fence.rectangles.as_slice();
     let kind = if is_assigned {
@@ -73,40 +73,40 @@ fn push_fence<'t, A: Allocator + Copy>(
         }
         DiagKind::Intruder
     };
-    push_report(reports, kind, &[component.name, fence.name])
+    lines.put(kind, &[component.name, fence.name], &[])
 }
 
-/// Adds the reports on a component, which is assigned to these regions, and fences.
-fn push_fences<'t, A: Allocator + Copy>(
-    fences: &[Fence<'t, A>],
+/// Puts the lines of a component, which is assigned to these regions, and fences.
+fn put_fences<A: Allocator + Copy>(
+    fences: &[Fence<'_, A>],
     regions: &[&[u8]],
-    component: &PlacedBox<'t>,
-    reports: &mut Vec<Diag<'t, A>, A>,
+    component: &PlacedBox<'_>,
+    lines: &mut Lines<A>,
 ) -> Result<(), AllocError>
-    ensures { OnOk result (diag_texts reports.new.items ≡ diag_texts reports.old.items ++ fence_lines_in (map word_view regions.now) (boxed_view component.now) (map fence_view fences.now)) }
+    ensures { OnOk result (lines.new ≡ lines.old ++ fence_lines_in (map word_view regions.now) (boxed_view component.now) (map fence_view fences.now)) }
 {
     for fence in fences {
         // Most components are far from most fences.
         if is_apart(&component.rect, &fence.hull) && !is_one_of(regions, fence.name) {
             continue;
         }
-        push_fence(fence, is_one_of(regions, fence.name), component, reports)?;
+        put_fence(fence, is_one_of(regions, fence.name), component, lines)?;
     }
     Ok(())
 }
 
-/// Adds the reports on a component that reaches out of the die or of a fence that it is assigned to, or that lies in
-/// another fence.
-pub fn of_component<'t, A: Allocator + Copy>(
+/// Puts the lines of a component that reaches out of the die or of a fence that it is assigned to, or that lies in another
+/// fence.
+pub(crate) fn put_at_borders<'t, A: Allocator + Copy>(
+    alloc: A,
     surroundings: &Surroundings<'t, A>,
     component: &PlacedBox<'t>,
-    reports: &mut Vec<Diag<'t, A>, A>,
+    lines: &mut Lines<A>,
 ) -> Result<(), AllocError>
     ensures { let s = surroundings_view surroundings.now in let c = boxed_view component.now in
-        OnOk result (diag_texts reports.new.items ≡ diag_texts reports.old.items ++ (outside_lines s.die c ++ fence_lines s c)) }
+        OnOk result (lines.new ≡ lines.old ++ (outside_lines s.die c ++ fence_lines s c)) }
 {
-    push_outside(surroundings.die, component, reports)?;
-    let alloc = *reports.allocator();
+    put_outside(surroundings.die, component, lines)?;
     let regions = surroundings.assignments.regions_of(alloc, component)?;
-    push_fences(&surroundings.fences, &regions, component, reports)
+    put_fences(&surroundings.fences, &regions, component, lines)
 }

@@ -7,16 +7,16 @@ ghost use Rattle.design_rules.specs.PlaceLines.{is_held_by, is_row_class, row_li
 ghost use Rattle.place_checks.specs.IndexViews.{rows_view};
 ghost use Rattle.place_checks.specs.PlaceViews.{placed_row_view};
 ghost use Rattle.place_checks.specs.RowFits.{best_fit, better, kind_of, needs_row, row_fit};
-ghost use Rattle.place_checks.specs.Views.{boxed_view, diag_texts};
+ghost use Rattle.place_checks.specs.Views.{boxed_view};
 
 use crate::names::is_one_of;
 use crate::placed_box::PlacedBox;
 use crate::placed_row::PlacedRow;
-use crate::report::push_report;
 use crate::row_index::{NO_EDGE, RowIndex};
-use design_model::diagnostic::{Diag, DiagKind};
+use design_model::diagnostic::DiagKind;
 use lefdef_tokens::is_word;
 use place_kernels::sites::{holds, on_sites, rows_agree};
+use report_lines::Lines;
 use std::alloc::{AllocError, Allocator};
 
 /// How well rows take a component.
@@ -112,31 +112,31 @@ fn kind_of(component: &PlacedBox<'_>, fit: Fit) -> Option<DiagKind>
     }
 }
 
-/// Adds the report on a component that none of the rows in two lists holds though it belongs into rows, that is on no site,
+/// Puts the line of a component that none of the rows in two lists holds though it belongs into rows, that is on no site,
 /// or that is turned as no row there lets it be.
-pub(crate) fn of_near_rows<'t, A: Allocator + Copy>(
-    beside: &[PlacedRow<'t>],
-    elsewhere: &[PlacedRow<'t>],
-    component: &PlacedBox<'t>,
-    reports: &mut Vec<Diag<'t, A>, A>,
+pub(crate) fn put_by_rows<A: Allocator + Copy>(
+    beside: &[PlacedRow<'_>],
+    elsewhere: &[PlacedRow<'_>],
+    component: &PlacedBox<'_>,
+    lines: &mut Lines<A>,
 ) -> Result<(), AllocError>
-    ensures { OnOk result (diag_texts reports.new.items ≡ diag_texts reports.old.items ++ row_lines (map placed_row_view (beside.now ++ elsewhere.now)) (boxed_view component.now)) }
+    ensures { OnOk result (lines.new ≡ lines.old ++ row_lines (map placed_row_view (beside.now ++ elsewhere.now)) (boxed_view component.now)) }
 {
     match kind_of(component, fit_in(component, beside, elsewhere)) {
-        Some(kind) => push_report(reports, kind, &[component.name]),
+        Some(kind) => lines.put(kind, &[component.name], &[]),
         None => Ok(()),
     }
 }
 
-/// Adds the report on a component that no row holds though it belongs into rows, that is on no site, or that is turned as
+/// Puts the line of a component that no row holds though it belongs into rows, that is on no site, or that is turned as
 /// no row there lets it be. Rows with one line of sites are looked up by the component's lower edge.
-pub fn of_rows<'t, A: Allocator + Copy>(
-    index: &RowIndex<'t, A>,
-    component: &PlacedBox<'t>,
-    reports: &mut Vec<Diag<'t, A>, A>,
+pub(crate) fn put_in_rows<A: Allocator + Copy>(
+    index: &RowIndex<'_, A>,
+    component: &PlacedBox<'_>,
+    lines: &mut Lines<A>,
 ) -> Result<(), AllocError>
-    ensures { OnOk result (diag_texts reports.new.items ≡ diag_texts reports.old.items ++ row_lines (rows_view index.now) (boxed_view component.now)) }
+    ensures { OnOk result (lines.new ≡ lines.old ++ row_lines (rows_view index.now) (boxed_view component.now)) }
 {
     let beside = index.at_edge(component.rect.y1);
-    of_near_rows(beside, index.at_edge(NO_EDGE), component, reports)
+    put_by_rows(beside, index.at_edge(NO_EDGE), component, lines)
 }

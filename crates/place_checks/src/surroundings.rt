@@ -1,10 +1,10 @@
 //! What components stand in: rows of sites, the die, and fences.
 
-ghost use Rattle.std.specs.Prelude.{◌≡◌, ◌≤◌, ◌<◌, IfOk};
-ghost use Rattle.design_rules.specs.Boxes.{scale, Boxed};
-ghost use Rattle.design_rules.specs.PlaceLines.{lines_in};
+ghost use Rattle.std.specs.Prelude.{◌≤◌, ◌<◌, IfOk};
+ghost use Rattle.design_rules.specs.Boxes.{scale};
 ghost use Rattle.design_rules.specs.Surroundings.{surroundings};
 ghost use Rattle.place_checks.specs.IndexViews.{surroundings_view};
+ghost use Rattle.place_checks.specs.SameSurroundings.{HaveSameLines};
 ghost use Rattle.def_reader.specs.StatementViews.{records_view};
 
 use crate::assignment_table::AssignmentTable;
@@ -36,7 +36,7 @@ pub fn surroundings_of<'t, A: Allocator + Copy>(
 ) -> Result<Surroundings<'t, A>, AllocError>
     requires some { 0 < scale (records_view records.now) }
     requires few { scale (records_view records.now) ≤ 100000 }
-    ensures { IfOk result (λ s. (c : Boxed) → lines_in (surroundings_view s) c ≡ lines_in (surroundings library.now (records_view records.now)) c) }
+    ensures { IfOk result (λ s. HaveSameLines (surroundings_view s) (surroundings library.now (records_view records.now))) }
 {
     let assignments = assignments_of(alloc, records)?;
     Ok(Surroundings {
