@@ -1,5 +1,5 @@
--- Reports on a list of definitions, one after the other.
-use Rattle.std.proofs.Common.{◌≡◌, ◌≤◌, ℕ, zero, suc, ◌+◌, length, List, [], ◌∷◌, ◌++◌, map, flat_map, drop, refl, sym, ap, ◌∙◌, append_assoc, Some, None, slice_get, drop_of_length-le}
+-- Lines on a list of definitions, one after the other.
+use Rattle.std.proofs.Common.{◌≡◌, ℕ, zero, suc, ◌+◌, List, [], ◌∷◌, ◌++◌, map, flat_map, drop, refl, sym, ap, ◌∙◌, append_assoc, Some, None, slice_get}
 use Rattle.std.proofs.lemmas.List.{append-nil, drop-map}
 use Rattle.std.proofs.lemmas.Option.{slice_get_within, get_or_from_slice_get}
 use Rattle.cell_library.proofs.AddingLemmas.{split_at}
@@ -24,11 +24,3 @@ module _ {X Y : Type 0} (view : X → Y) (lines_of : Y → List (List ℕ)) (xs 
   all_reported past =
       let none : drop i (map view xs) ≡ [] = drop-map view i xs ∙ ap (map view) (drop_past xs i (sym past)) in
       sym (append-nil before) ∙ ap (λ ys. before ++ flat_map lines_of ys) (sym none) ∙ so_far
-
--- those on all statements, and then those on a library
-pub all_read : {X Y : Type 0} (view : X → Y) (lines_of : Y → List (List ℕ)) (xs : List X) (i : ℕ) (before all : List (List ℕ)) → length xs ≤ i → before ++ flat_map lines_of (map view (drop i xs)) ≡ all → before ≡ all
-all_read view lines_of xs i before all past so_far =
-    sym (append-nil before) ∙ ap (λ ys. before ++ flat_map lines_of (map view ys)) (sym (drop_of_length-le xs past)) ∙ so_far
-
-pub in_order : (read with_macros with_vias all macros vias : List (List ℕ)) → read ≡ all → with_macros ≡ read ++ macros → with_vias ≡ with_macros ++ vias → with_vias ≡ all ++ (macros ++ vias)
-in_order read with_macros with_vias all macros vias is then_macros then_vias = rw (then_vias, then_macros, is) (append_assoc all macros vias)

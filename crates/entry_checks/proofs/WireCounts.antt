@@ -2,6 +2,7 @@
 use Rattle.std.proofs.Common.{◌≤◌, ℕ, List, [], ◌∷◌, ◌++◌, length, map, sum, codes, arith, length-append, Option, Some, None}
 use Rattle.std.specs.List.{list_any}
 use Rattle.form_meanings.specs.Meaning.{spell_all}
+use Rattle.form_meanings.specs.Words.{is_plus}
 use Rattle.statement_model.specs.Form.{spell, opt_on}
 use Rattle.def_grammar.specs.Clauses.{mask}
 use Rattle.def_grammar.specs.Parts.{int, is_some}
@@ -9,9 +10,15 @@ use Rattle.def_grammar.specs.Nets.{NetClause, net_subnet, net_use, net_rule, net
 use Rattle.def_grammar.specs.SpecialNets.{SpecialClause, special_subnet, special_use, special_shape_word, special_mask, special_rectangle, special_vias, special_polygon, special_has_wiring, special_kept, special_clause, special_listed, special_shape}
 use Rattle.def_grammar.specs.Wiring as forms
 use Rattle.def_grammar.specs.Wiring.{Path, WireVia, SpecialVia, Wire, SpecialWire, Wiring, SpecialWiring, WireMark, wire_shape, wire_style, wire_mask}
+use Rattle.lefdef_tokens.specs.Views.{rest_of}
+use Rattle.statement_reader.specs.declared.parts.Parts.{Parts}
+use Rattle.wire_parts.specs.NetViews.{net_clauses_of}
+use Rattle.wire_parts.specs.SpecialNetViews.{special_clauses_of}
+use Rattle.wire_parts.specs.declared.nets.NetClause as code_nets
+use Rattle.wire_parts.specs.declared.special_nets.SpecialClause as code_special_nets
 use Rattle.entry_rules.specs.Unchecked.{diagonals_of, is_listed, is_style, net_words, one_if, special_words, unchecked_in_clause, unchecked_in_special, unchecked_in_special_wire, unchecked_in_wire}
 use Rattle.entry_rules.specs.WireItems.{net_via, special_via}
-use Rattle.entry_checks.proofs.PartCounts.{few_spelled, sum_cons}
+use Rattle.entry_checks.proofs.PartCounts.{few_read, few_spelled, sum_cons}
 use Rattle.entry_checks.proofs.PathCounts.{few_in_path, one_at_most}
 
 some_wire_via : (v : WireVia) → 1 ≤ length (spell forms.wire_via v)
@@ -101,7 +108,7 @@ few_in_special_wiring w =
     let k = few_in_special_wires w.wires in
     rw (length-append _ (spell forms.special_wires w.wires)) (omega (arith, k))
 
-pub few_in_clause : (c : NetClause) → unchecked_in_clause c ≤ length (spell net_clause c)
+few_in_clause : (c : NetClause) → unchecked_in_clause c ≤ length (spell net_clause c)
 unfolding net_clause net_listed
 few_in_clause (net_subnet tokens) = omega arith
 few_in_clause (net_use word) = omega arith
@@ -109,7 +116,7 @@ few_in_clause (net_rule name) = omega arith
 few_in_clause (net_wiring w) = let k = few_in_wiring w in omega (arith, k)
 few_in_clause (net_kept c) = let one = one_at_most (is_listed net_words c) in omega (arith, one)
 
-pub few_in_special_clause : (c : SpecialClause) → unchecked_in_special c ≤ length (spell special_clause c)
+few_in_special_clause : (c : SpecialClause) → unchecked_in_special c ≤ length (spell special_clause c)
 unfolding special_clause special_listed special_shape
 few_in_special_clause (special_subnet tokens) = omega arith
 few_in_special_clause (special_use word) = omega arith
@@ -120,3 +127,10 @@ few_in_special_clause (special_vias via) = omega arith
 few_in_special_clause (special_polygon layer polygon) = omega arith
 few_in_special_clause (special_has_wiring w) = let k = few_in_special_wiring w in omega (arith, k)
 few_in_special_clause (special_kept c) = let one = one_at_most (is_listed special_words c) in omega (arith, one)
+
+-- of the clauses that are left of an entry
+pub few_in_clauses : (clauses : Parts code_nets.NetClause) → sum (map unchecked_in_clause (net_clauses_of clauses)) ≤ length (rest_of clauses.cursor).words
+few_in_clauses clauses = few_read net_clause unchecked_in_clause few_in_clause is_plus clauses.most (rest_of clauses.cursor)
+
+pub few_in_special_clauses : (clauses : Parts code_special_nets.SpecialClause) → sum (map unchecked_in_special (special_clauses_of clauses)) ≤ length (rest_of clauses.cursor).words
+few_in_special_clauses clauses = few_read special_clause unchecked_in_special few_in_special_clause is_plus clauses.most (rest_of clauses.cursor)

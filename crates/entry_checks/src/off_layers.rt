@@ -1,8 +1,7 @@
 //! Vias in paths that don't join the layer of their wire to another.
 
-ghost use Rattle.std.specs.Prelude.{◌≡◌, ◌++◌, IfOk, OnOk, flat_map, map};
+ghost use Rattle.std.specs.Prelude.{◌≡◌, ◌++◌, ◌∷◌, [], IfOk, OnOk, flat_map, map};
 ghost use Rattle.std.specs.List.{filter_map};
-ghost use Rattle.design_model.specs.Lines.{diag_text};
 ghost use Rattle.def_grammar.specs.Records.{entry as the_entry};
 ghost use Rattle.def_grammar.specs.Wiring.{WireVia as TheWireVia, SpecialVia as TheSpecialVia, special_via, wire_via};
 ghost use Rattle.wire_rules.specs.Paths.{layer_over, or_same};
@@ -11,20 +10,19 @@ ghost use Rattle.wire_parts.specs.PathViews.{items_of};
 ghost use Rattle.wire_parts.specs.SpecialWireViews.{special_paths_left};
 ghost use Rattle.def_reader.specs.EntryViews.{entry_view};
 ghost use Rattle.def_reader.specs.StatementViews.{record_view};
-ghost use Rattle.entry_rules.specs.OffLayer.{off_layer, off_layer_in, off_layer_in_special_wire, off_layer_in_wire, off_layer_lines, off_layer_lines_of, off_layer_vias};
+ghost use Rattle.entry_rules.specs.OffLayer.{off_layer, off_layer_in, off_layer_in_special_wire, off_layer_in_wire, off_layer_lines_of, off_layer_vias};
 ghost use Rattle.entry_rules.specs.References.{via_of_item};
 ghost use Rattle.entry_rules.specs.ViaLayers.{via_layers};
 ghost use Rattle.entry_checks.specs.OffLayerViews.{off_layer_text};
-ghost use Rattle.entry_checks.specs.Views.{diag_texts};
 
-use crate::reports::name_or_dash;
+use crate::entry_name::name_or_dash;
 use crate::via_layers::via_on;
 use cell_library::library::Library;
 use def_reader::entry::Entry;
 use def_reader::statement::Statement;
-use design_model::diagnostic::{Diag, DiagKind};
-use design_model::sequence::Sequence;
+use design_model::diagnostic::DiagKind;
 use design_names::names::Names;
+use report_lines::Lines;
 use statement_reader::parts::Parts;
 use std::alloc::{AllocError, Allocator};
 use wire_parts::net_wires::NetPaths;
@@ -35,160 +33,133 @@ use wire_shapes::ViaOn;
 
 /// An entry by its section and its name.
 #[derive(Clone, Copy)]
-struct Owner<'t> {
-    section: &'t [u8],
-    name: &'t [u8],
+struct Owner<'n> {
+    section: &'n [u8],
+    name: &'n [u8],
 }
 
-/// The report on a via in an entry.
-fn report<'t, A: Allocator + Copy>(
-    alloc: A,
-    via: &'t [u8],
-    owner: Owner<'t>,
-) -> Result<Diag<'t, A>, AllocError>
-    ensures { IfOk result (λ d. diag_text d ≡ off_layer_text owner.entry via.entry.now) }
-{
-    let mut words = Sequence::new(alloc);
-    words.push(via)?;
-    words.push(owner.section)?;
-    words.push(owner.name)?;
-    Ok(Diag {
-        kind: DiagKind::ViaLayer,
-        words,
-        nums: Sequence::new(alloc),
-    })
-}
-
-/// Adds a report on a via, if it is known and doesn't join the layer to another; and gives the layer after it.
-fn pass_via<'a, 't: 'a, A: Allocator + Copy>(
-    reports: &mut Vec<Diag<'t, A>, A>,
+/// Puts the line on a via, if it is known and doesn't join the layer to another; and gives the layer after it.
+fn pass_via<'a, A: Allocator + Copy>(
     library: &'a Library<'_, A>,
-    names: &'a Names<'_, 't, A>,
-    owner: Owner<'t>,
-    via: &'t [u8],
+    names: &'a Names<'_, '_, A>,
+    owner: Owner<'_>,
+    via: &[u8],
     layer: &'a [u8],
+    lines: &mut Lines<A>,
 ) -> Result<&'a [u8], AllocError>
-    ensures reports { OnOk result (diag_texts reports.new.items ≡ diag_texts reports.old.items ++ map (off_layer_text owner.entry) (off_layer layer.entry.now via.entry.now (via_layers library.entry.now names.entry.now via.entry.now))) }
-    ensures layer { IfOk result (λ l. l.now ≡ or_same layer.entry.now (layer_over layer.entry.now (via_layers library.entry.now names.entry.now via.entry.now))) }
+    ensures lines { OnOk result (lines.new ≡ lines.old ++ map (off_layer_text owner.entry) (off_layer layer.entry.now via.now (via_layers library.entry.now names.entry.now via.now))) }
+    ensures layer { IfOk result (λ l. l.now ≡ or_same layer.entry.now (layer_over layer.entry.now (via_layers library.entry.now names.entry.now via.now))) }
 {
     match via_on(library, names, via, layer) {
         ViaOn::Unknown => Ok(layer),
         ViaOn::Leads(other) => Ok(other),
         ViaOn::Stays => {
-            let alloc = *reports.allocator();
-            reports.push(report(alloc, via, owner)?)?;
+            lines.put(DiagKind::ViaLayer, &[via, owner.section, owner.name], &[])?;
             Ok(layer)
         }
     }
 }
 
-/// Adds the reports on vias of a path of NETS, which begins on a layer.
+/// Puts the lines on vias of a path of NETS, which begins on a layer.
 #[tactic(auto, unfolding(entry_rules::specs::OffLayer::off_layer_vias))]
-fn push_items<'a, 't: 'a, A: Allocator + Copy>(
-    reports: &mut Vec<Diag<'t, A>, A>,
+fn put_items<'a, 't, A: Allocator + Copy>(
     library: &'a Library<'_, A>,
-    names: &'a Names<'_, 't, A>,
-    owner: Owner<'t>,
+    names: &'a Names<'_, '_, A>,
+    owner: Owner<'_>,
     layer: &'a [u8],
     items: Parts<'t, PathItem<'t, WireVia<'t>>>,
+    lines: &mut Lines<A>,
 ) -> Result<(), AllocError>
-    ensures { OnOk result (diag_texts reports.new.items ≡ diag_texts reports.old.items ++ map (off_layer_text owner.entry) (off_layer_vias (via_layers library.entry.now names.entry.now) layer.entry.now (filter_map (via_of_item (λ (v : TheWireVia). v)) (items_of wire_via items.entry)))) }
+    ensures { OnOk result (lines.new ≡ lines.old ++ map (off_layer_text owner.entry) (off_layer_vias (via_layers library.entry.now names.entry.now) layer.entry.now (filter_map (via_of_item (λ (v : TheWireVia). v)) (items_of wire_via items.entry)))) }
 {
     let mut layer = layer;
     let mut left = items;
     while let Some(item) = left.next() {
         if let PathItem::Via(via) = item {
-            layer = pass_via(reports, library, names, owner, via.name.bytes, layer)?;
+            layer = pass_via(library, names, owner, via.name.bytes, layer, lines)?;
         }
     }
     Ok(())
 }
 
-/// Adds the reports on vias of a path of SPECIALNETS, which begins on a layer.
+/// Puts the lines on vias of a path of SPECIALNETS, which begins on a layer.
 #[tactic(auto, unfolding(entry_rules::specs::OffLayer::off_layer_vias))]
-fn push_special_items<'a, 't: 'a, A: Allocator + Copy>(
-    reports: &mut Vec<Diag<'t, A>, A>,
+fn put_special_items<'a, 't, A: Allocator + Copy>(
     library: &'a Library<'_, A>,
-    names: &'a Names<'_, 't, A>,
-    owner: Owner<'t>,
+    names: &'a Names<'_, '_, A>,
+    owner: Owner<'_>,
     layer: &'a [u8],
     items: Parts<'t, PathItem<'t, SpecialVia<'t>>>,
+    lines: &mut Lines<A>,
 ) -> Result<(), AllocError>
-    ensures { OnOk result (diag_texts reports.new.items ≡ diag_texts reports.old.items ++ map (off_layer_text owner.entry) (off_layer_vias (via_layers library.entry.now names.entry.now) layer.entry.now (filter_map (via_of_item (λ (v : TheSpecialVia). v.via)) (items_of special_via items.entry)))) }
+    ensures { OnOk result (lines.new ≡ lines.old ++ map (off_layer_text owner.entry) (off_layer_vias (via_layers library.entry.now names.entry.now) layer.entry.now (filter_map (via_of_item (λ (v : TheSpecialVia). v.via)) (items_of special_via items.entry)))) }
 {
     let mut layer = layer;
     let mut left = items;
     while let Some(item) = left.next() {
         if let PathItem::Via(special) = item {
-            layer = pass_via(
-                reports,
-                library,
-                names,
-                owner,
-                special.via.name.bytes,
-                layer,
-            )?;
+            layer = pass_via(library, names, owner, special.via.name.bytes, layer, lines)?;
         }
     }
     Ok(())
 }
 
-/// Adds the reports on vias of wires of NETS.
-fn push_wires<'a, 't: 'a, A: Allocator + Copy>(
-    reports: &mut Vec<Diag<'t, A>, A>,
+/// Puts the lines on vias of wires of NETS.
+fn put_wires<'a, 't: 'a, A: Allocator + Copy>(
     library: &'a Library<'_, A>,
-    names: &'a Names<'_, 't, A>,
-    owner: Owner<'t>,
+    names: &'a Names<'_, '_, A>,
+    owner: Owner<'_>,
     wires: NetPaths<'t>,
+    lines: &mut Lines<A>,
 ) -> Result<(), AllocError>
-    ensures { OnOk result (diag_texts reports.new.items ≡ diag_texts reports.old.items ++ map (off_layer_text owner.entry) (flat_map (off_layer_in_wire (via_layers library.entry.now names.entry.now)) (paths_left wires.entry))) }
+    ensures { OnOk result (lines.new ≡ lines.old ++ map (off_layer_text owner.entry) (flat_map (off_layer_in_wire (via_layers library.entry.now names.entry.now)) (paths_left wires.entry))) }
 {
     let mut left = wires;
     while let Some(wire) = left.next() {
-        push_items(
-            reports,
+        put_items(
             library,
             names,
             owner,
             wire.layer.bytes,
             wire.path.items,
+            lines,
         )?;
     }
     Ok(())
 }
 
-/// Adds the reports on vias of wires of SPECIALNETS.
-fn push_special_wires<'a, 't: 'a, A: Allocator + Copy>(
-    reports: &mut Vec<Diag<'t, A>, A>,
+/// Puts the lines on vias of wires of SPECIALNETS.
+fn put_special_wires<'a, 't: 'a, A: Allocator + Copy>(
     library: &'a Library<'_, A>,
-    names: &'a Names<'_, 't, A>,
-    owner: Owner<'t>,
+    names: &'a Names<'_, '_, A>,
+    owner: Owner<'_>,
     wires: SpecialPaths<'t>,
+    lines: &mut Lines<A>,
 ) -> Result<(), AllocError>
-    ensures { OnOk result (diag_texts reports.new.items ≡ diag_texts reports.old.items ++ map (off_layer_text owner.entry) (flat_map (off_layer_in_special_wire (via_layers library.entry.now names.entry.now)) (special_paths_left wires.entry))) }
+    ensures { OnOk result (lines.new ≡ lines.old ++ map (off_layer_text owner.entry) (flat_map (off_layer_in_special_wire (via_layers library.entry.now names.entry.now)) (special_paths_left wires.entry))) }
 {
     let mut left = wires;
     while let Some(wire) = left.next() {
-        push_special_items(
-            reports,
+        put_special_items(
             library,
             names,
             owner,
             wire.layer.bytes,
             wire.path.items,
+            lines,
         )?;
     }
     Ok(())
 }
 
-/// Adds the reports on vias of an entry.
-fn push_entry<'a, 't: 'a, A: Allocator + Copy>(
-    reports: &mut Vec<Diag<'t, A>, A>,
+/// Puts the lines on vias of an entry.
+fn put_entry<'a, 't: 'a, A: Allocator + Copy>(
     library: &'a Library<'_, A>,
-    names: &'a Names<'_, 't, A>,
+    names: &'a Names<'_, '_, A>,
     entry: &Entry<'t>,
+    lines: &mut Lines<A>,
 ) -> Result<(), AllocError>
-    ensures { OnOk result (diag_texts reports.new.items ≡ diag_texts reports.old.items ++ off_layer_lines_of (via_layers library.entry.now names.entry.now) (the_entry (entry_view entry.now))) }
+    ensures { OnOk result (lines.new ≡ lines.old ++ off_layer_lines_of (via_layers library.entry.now names.entry.now) (the_entry (entry_view entry.now))) }
 {
     let owner = Owner {
         section: entry.section().word(),
@@ -196,28 +167,25 @@ fn push_entry<'a, 't: 'a, A: Allocator + Copy>(
     };
     match entry {
         Entry::Net(NetEntry::Net(parts)) => {
-            push_wires(reports, library, names, owner, parts.paths())
+            put_wires(library, names, owner, parts.paths(), lines)
         }
-        Entry::SpecialNet(parts) => {
-            push_special_wires(reports, library, names, owner, parts.paths())
-        }
+        Entry::SpecialNet(parts) => put_special_wires(library, names, owner, parts.paths(), lines),
         _ => Ok(()),
     }
 }
 
-/// The reports on vias in paths that don't join the layer of their wire to another, in the order of the text.
-pub fn off_layers_of<'t, A: Allocator + Copy>(
-    alloc: A,
+/// Puts a line for each via in a path of a statement that doesn't join the layer of its wire to another, in the order of the
+/// text.
+pub fn off_layers_in<A: Allocator + Copy>(
     library: &Library<'_, A>,
-    names: &Names<'_, 't, A>,
-) -> Result<Vec<Diag<'t, A>, A>, AllocError>
-    ensures { IfOk result (λ v. diag_texts v.items ≡ off_layer_lines library.now names.now) }
+    names: &Names<'_, '_, A>,
+    statement: &Statement<'_>,
+    lines: &mut Lines<A>,
+) -> Result<(), AllocError>
+    ensures { OnOk result (lines.new ≡ lines.old ++ off_layer_lines_of (via_layers library.now names.now) (record_view statement.now)) }
 {
-    let mut reports = Vec::new(alloc);
-    for statement in names.records() {
-        if let Statement::Entry(entry) = statement {
-            push_entry(&mut reports, &*library, &*names, entry)?;
-        }
+    match statement {
+        Statement::Entry(entry) => put_entry(&*library, &*names, entry, lines),
+        _ => Ok(()),
     }
-    Ok(reports)
 }

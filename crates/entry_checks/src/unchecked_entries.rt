@@ -11,6 +11,7 @@ ghost use Rattle.entry_rules.specs.Unchecked.{is_blocked_polygon, is_more, is_po
 
 use crate::token_count::few_tokens;
 use crate::unchecked_nets::in_net;
+use crate::unchecked_parts::{UncheckedParts, count_unchecked};
 use crate::unchecked_special_nets::in_special_net;
 use def_reader::entry::Entry;
 use place_parts::blockages::{BlockageEntry, BlockageShape};
@@ -19,59 +20,81 @@ use place_parts::pins::PinClause;
 use statement_reader::parts::Parts;
 use via_parts::vias::ViaClause;
 
+impl<'t> UncheckedParts for Parts<'t, PinClause<'t>> {
+    ghost unchecked = { λ p. length (filter is_polygon_of_pin (pin_clauses_of p)) };
+
+    ghost left = { λ p. p.most };
+
+    fn next_unchecked(&mut self) -> Option<usize> {
+        match self.next()? {
+            PinClause::Polygon(_, _) => Some(1),
+            _ => Some(0),
+        }
+    }
+}
+
+impl<'t> UncheckedParts for Parts<'t, ViaClause<'t>> {
+    ghost unchecked = { λ p. length (filter is_polygon_of_via (via_clauses_of p)) };
+
+    ghost left = { λ p. p.most };
+
+    fn next_unchecked(&mut self) -> Option<usize> {
+        match self.next()? {
+            ViaClause::Polygon(_) => Some(1),
+            _ => Some(0),
+        }
+    }
+}
+
+/// 1 for a polygon.
+fn in_shape(shape: &BlockageShape<'_>) -> usize
+    ensures { result ≡ one_if (is_blocked_polygon (blockage_shape_view shape.now)) }
+{
+    match shape {
+        BlockageShape::Polygon(_) => 1,
+        BlockageShape::Rectangle(_) => 0,
+    }
+}
+
+impl<'t> UncheckedParts for Parts<'t, BlockageShape<'t>> {
+    ghost unchecked = { λ p. length (filter is_blocked_polygon (blockage_shapes_of p)) };
+
+    ghost left = { λ p. p.most };
+
+    fn next_unchecked(&mut self) -> Option<usize> {
+        let shape = self.next()?;
+        Some(in_shape(&shape))
+    }
+}
+
 /// How many clauses of a pin are polygons.
-fn polygons_of_pin<'t>(clauses: Parts<'t, PinClause<'t>>) -> usize
-    ensures count { result ≡ length (filter is_polygon_of_pin (pin_clauses_of clauses.entry)) }
+#[tactic(auto, using(crate::proofs::ClauseCounts::few_of_pin))]
+fn polygons_of_pin<'t>(clauses: &Parts<'t, PinClause<'t>>) -> usize
+    ensures count { result ≡ length (filter is_polygon_of_pin (pin_clauses_of clauses.now)) }
     ensures few { result ≤ 2 ^ 62 }
 {
     few_tokens(&clauses.cursor);
-    let mut left = clauses;
-    let mut count = 0;
-    while let Some(clause) = left.next() {
-        if let PinClause::Polygon(_, _) = clause {
-            count += 1;
-        }
-    }
-    count
+    count_unchecked(clauses.again())
 }
 
 /// How many clauses of a via are polygons.
-fn polygons_of_via<'t>(clauses: Parts<'t, ViaClause<'t>>) -> usize
-    ensures count { result ≡ length (filter is_polygon_of_via (via_clauses_of clauses.entry)) }
+#[tactic(auto, using(crate::proofs::ClauseCounts::few_of_via))]
+fn polygons_of_via<'t>(clauses: &Parts<'t, ViaClause<'t>>) -> usize
+    ensures count { result ≡ length (filter is_polygon_of_via (via_clauses_of clauses.now)) }
     ensures few { result ≤ 2 ^ 62 }
 {
     few_tokens(&clauses.cursor);
-    let mut left = clauses;
-    let mut count = 0;
-    while let Some(clause) = left.next() {
-        if let ViaClause::Polygon(_) = clause {
-            count += 1;
-        }
-    }
-    count
-}
-
-/// Whether a blocked shape is a polygon.
-fn is_polygon(shape: &BlockageShape<'_>) -> bool
-    ensures { result ≡ is_blocked_polygon (blockage_shape_view shape.now) }
-{
-    matches!(shape, BlockageShape::Polygon(_))
+    count_unchecked(clauses.again())
 }
 
 /// How many blocked shapes are polygons.
-fn blocked_polygons<'t>(shapes: Parts<'t, BlockageShape<'t>>) -> usize
-    ensures count { result ≡ length (filter is_blocked_polygon (blockage_shapes_of shapes.entry)) }
+#[tactic(auto, using(crate::proofs::ClauseCounts::few_blocked))]
+fn blocked_polygons<'t>(shapes: &Parts<'t, BlockageShape<'t>>) -> usize
+    ensures count { result ≡ length (filter is_blocked_polygon (blockage_shapes_of shapes.now)) }
     ensures few { result ≤ 2 ^ 62 }
 {
     few_tokens(&shapes.cursor);
-    let mut left = shapes;
-    let mut count = 0;
-    while let Some(shape) = left.next() {
-        if is_polygon(&shape) {
-            count += 1;
-        }
-    }
-    count
+    count_unchecked(shapes.again())
 }
 
 /// How many parts of a blockage aren't checked: its polygons, or all of one without its form, as one.
@@ -81,14 +104,7 @@ fn in_blockage(entry: &BlockageEntry<'_>) -> usize
 {
     match entry {
         BlockageEntry::Kept(_) => 1,
-        BlockageEntry::Blocks(parts) => {
-            let polygons = blocked_polygons(parts.others.again());
-            if is_polygon(&parts.first) {
-                polygons + 1
-            } else {
-                polygons
-            }
-        }
+        BlockageEntry::Blocks(parts) => in_shape(&parts.first) + blocked_polygons(&parts.others),
     }
 }
 
@@ -98,9 +114,9 @@ pub(crate) fn unchecked_in(entry: &Entry<'_>) -> usize
     ensures few { result < 2 ^ 63 }
 {
     match entry {
-        Entry::Pin(parts) => polygons_of_pin(parts.clauses.again()),
+        Entry::Pin(parts) => polygons_of_pin(&parts.clauses),
         Entry::Blockage(blockage) => in_blockage(&blockage.parts()),
-        Entry::Via(parts) => polygons_of_via(parts.clauses.again()),
+        Entry::Via(parts) => polygons_of_via(&parts.clauses),
         Entry::Net(net) => in_net(net),
         Entry::SpecialNet(parts) => in_special_net(parts),
         Entry::Component(_)

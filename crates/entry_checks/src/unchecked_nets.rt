@@ -10,6 +10,7 @@ ghost use Rattle.entry_rules.specs.Unchecked.{is_listed, net_words, unchecked_in
 
 use crate::diagonals::net_diagonals;
 use crate::token_count::few_tokens;
+use crate::unchecked_parts::{UncheckedParts, count_unchecked};
 use def_parts::clauses::KeptClause;
 use lefdef_tokens::is_word;
 use statement_reader::parts::Parts;
@@ -28,17 +29,15 @@ fn in_wire(wire: Wire<'_>) -> usize
     }
 }
 
-/// How many parts of wires aren't checked.
-fn in_wires<'t>(wires: Parts<'t, Wire<'t>>) -> usize
-    requires { sum (map unchecked_in_wire (wires_of wires)) < 2 ^ 63 }
-    ensures { result ≡ sum (map unchecked_in_wire (wires_of wires.entry)) }
-{
-    let mut left = wires;
-    let mut count = 0;
-    while let Some(wire) = left.next() {
-        count += in_wire(wire);
+impl<'t> UncheckedParts for Parts<'t, Wire<'t>> {
+    ghost unchecked = { λ p. sum (map unchecked_in_wire (wires_of p)) };
+
+    ghost left = { λ p. p.most };
+
+    fn next_unchecked(&mut self) -> Option<usize> {
+        let wire = self.next()?;
+        Some(in_wire(wire))
     }
-    count
 }
 
 /// How many parts of a wiring clause aren't checked.
@@ -46,7 +45,7 @@ fn in_wiring(wiring: Wiring<'_>) -> usize
     requires { unchecked_in_clause (net_wiring (wiring_view wiring)) < 2 ^ 63 }
     ensures { result ≡ unchecked_in_clause (net_wiring (wiring_view wiring.entry)) }
 {
-    in_wire(wiring.first) + in_wires(wiring.others)
+    in_wire(wiring.first) + count_unchecked(wiring.others)
 }
 
 /// Whether a clause begins as one that has a form.
@@ -75,20 +74,19 @@ fn in_clause(clause: NetClause<'_>) -> usize
     }
 }
 
-/// How many parts of clauses aren't checked.
-fn in_clauses<'t>(clauses: Parts<'t, NetClause<'t>>) -> usize
-    requires { sum (map unchecked_in_clause (net_clauses_of clauses)) < 2 ^ 63 }
-    ensures { result ≡ sum (map unchecked_in_clause (net_clauses_of clauses.entry)) }
-{
-    let mut left = clauses;
-    let mut count = 0;
-    while let Some(clause) = left.next() {
-        count += in_clause(clause);
+impl<'t> UncheckedParts for Parts<'t, NetClause<'t>> {
+    ghost unchecked = { λ p. sum (map unchecked_in_clause (net_clauses_of p)) };
+
+    ghost left = { λ p. p.most };
+
+    fn next_unchecked(&mut self) -> Option<usize> {
+        let clause = self.next()?;
+        Some(in_clause(clause))
     }
-    count
 }
 
 /// How many parts of an entry of NETS aren't checked.
+#[tactic(auto, using(crate::proofs::WireCounts::few_in_clauses))]
 pub(crate) fn in_net(entry: &NetEntry<'_>) -> usize
     ensures count { result ≡ unchecked_in (net (net_entry_view entry.now)) }
     ensures few { result < 2 ^ 63 }
@@ -97,7 +95,7 @@ pub(crate) fn in_net(entry: &NetEntry<'_>) -> usize
         NetEntry::MustJoin(_) => 0,
         NetEntry::Net(parts) => {
             few_tokens(&parts.clauses.cursor);
-            in_clauses(parts.clauses.again())
+            count_unchecked(parts.clauses.again())
         }
     }
 }

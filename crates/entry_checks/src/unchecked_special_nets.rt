@@ -11,6 +11,7 @@ ghost use Rattle.entry_rules.specs.Unchecked.{is_listed, is_style, special_words
 
 use crate::diagonals::special_diagonals;
 use crate::token_count::few_tokens;
+use crate::unchecked_parts::{UncheckedParts, count_unchecked};
 use def_parts::clauses::KeptClause;
 use lefdef_tokens::is_word;
 use statement_reader::parts::Parts;
@@ -43,17 +44,15 @@ fn in_wire(wire: SpecialWire<'_>) -> usize
     }
 }
 
-/// How many parts of wires aren't checked.
-fn in_wires<'t>(wires: Parts<'t, SpecialWire<'t>>) -> usize
-    requires { sum (map unchecked_in_special_wire (special_wires_of wires)) < 2 ^ 63 }
-    ensures { result ≡ sum (map unchecked_in_special_wire (special_wires_of wires.entry)) }
-{
-    let mut left = wires;
-    let mut count = 0;
-    while let Some(wire) = left.next() {
-        count += in_wire(wire);
+impl<'t> UncheckedParts for Parts<'t, SpecialWire<'t>> {
+    ghost unchecked = { λ p. sum (map unchecked_in_special_wire (special_wires_of p)) };
+
+    ghost left = { λ p. p.most };
+
+    fn next_unchecked(&mut self) -> Option<usize> {
+        let wire = self.next()?;
+        Some(in_wire(wire))
     }
-    count
 }
 
 /// How many parts of a wiring clause aren't checked.
@@ -62,7 +61,7 @@ fn in_wiring(wiring: SpecialWiring<'_>) -> usize
     ensures { result ≡ unchecked_in_special (special_has_wiring (special_wiring_view wiring.entry)) }
 {
     match wiring.wires {
-        Some(wires) => in_wire(wires.first) + in_wires(wires.others),
+        Some(wires) => in_wire(wires.first) + count_unchecked(wires.others),
         None => 0,
     }
 }
@@ -101,24 +100,23 @@ fn in_clause(clause: SpecialClause<'_>) -> usize
     }
 }
 
-/// How many parts of clauses aren't checked.
-fn in_clauses<'t>(clauses: Parts<'t, SpecialClause<'t>>) -> usize
-    requires { sum (map unchecked_in_special (special_clauses_of clauses)) < 2 ^ 63 }
-    ensures { result ≡ sum (map unchecked_in_special (special_clauses_of clauses.entry)) }
-{
-    let mut left = clauses;
-    let mut count = 0;
-    while let Some(clause) = left.next() {
-        count += in_clause(clause);
+impl<'t> UncheckedParts for Parts<'t, SpecialClause<'t>> {
+    ghost unchecked = { λ p. sum (map unchecked_in_special (special_clauses_of p)) };
+
+    ghost left = { λ p. p.most };
+
+    fn next_unchecked(&mut self) -> Option<usize> {
+        let clause = self.next()?;
+        Some(in_clause(clause))
     }
-    count
 }
 
 /// How many parts of an entry of SPECIALNETS aren't checked.
+#[tactic(auto, using(crate::proofs::WireCounts::few_in_special_clauses))]
 pub(crate) fn in_special_net(parts: &SpecialNetParts<'_>) -> usize
     ensures count { result ≡ unchecked_in (special_net (special_net_view parts.now)) }
     ensures few { result < 2 ^ 63 }
 {
     few_tokens(&parts.clauses.cursor);
-    in_clauses(parts.clauses.again())
+    count_unchecked(parts.clauses.again())
 }

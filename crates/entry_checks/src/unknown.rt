@@ -1,112 +1,133 @@
 //! Names that aren't defined.
 
-ghost use Rattle.std.specs.Prelude.{◌≡◌, ◌∷◌, ◌++◌, [], IfOk, OnOk};
+ghost use Rattle.std.specs.Prelude.{◌≡◌, ◌∷◌, ◌++◌, [], OnOk};
 ghost use Rattle.design_model.specs.declared.diagnostic.DiagKind.TheVariants.{Unknown as unknown_kind};
-ghost use Rattle.design_model.specs.Lines.{diag_text, line_text};
+ghost use Rattle.design_model.specs.Lines.{line_text};
 ghost use Rattle.def_reader.specs.StatementViews.{record_view};
-ghost use Rattle.entry_rules.specs.Unknown.{reference_lines, unknown_lines, unknown_lines_of};
-ghost use Rattle.entry_references.specs.ReferenceViews.{references_view};
-ghost use Rattle.entry_checks.specs.Views.{diag_texts, known_view, unknown_words};
+ghost use Rattle.entry_rules.specs.Unknown.{reference_lines, unknown_lines_of, unknown_of, unknown_terminal, unless};
+ghost use Rattle.entry_references.specs.ReferenceViews.{reference_view, references_view};
+ghost use Rattle.entry_checks.specs.Views.{unknown_words, words_of_all};
 
-use crate::known::{Known, Unknown};
-use crate::reports::name_or_dash;
-use cell_library::library::Library;
+use crate::entry_name::name_or_dash;
+use crate::known::Known;
 use def_reader::floor::Floor;
 use def_reader::statement::Statement;
-use design_model::diagnostic::{Diag, DiagKind};
-use design_model::sequence::Sequence;
-use design_names::names::Names;
+use design_model::diagnostic::DiagKind;
 use entry_references::entries::{push_references, push_row_references};
 use entry_references::reference::Reference;
+use lefdef_tokens::is_word;
+use report_lines::Lines;
 use std::alloc::{AllocError, Allocator};
 
-/// The report on a name that isn't defined, in an entry of a section.
-fn report<'t, A: Allocator + Copy>(
-    alloc: A,
-    unknown: Unknown<'t>,
-    section: &'t [u8],
-    entry: &'t [u8],
-) -> Result<Diag<'t, A>, AllocError>
-    ensures { IfOk result (λ d. diag_text d ≡ line_text unknown_kind (unknown_words unknown.entry ++ section.entry.now ∷ entry.entry.now ∷ []) []) }
-{
-    let mut words = Sequence::new(alloc);
-    match unknown {
-        Unknown::Name(kind, name) => {
-            words.push(kind)?;
-            words.push(name)?;
-        }
-        Unknown::Pin(owner, pin) => {
-            words.push(b"PIN")?;
-            words.push(owner)?;
-            words.push(pin)?;
-        }
-    }
-    words.push(section)?;
-    words.push(entry)?;
-    Ok(Diag {
-        kind: DiagKind::Unknown,
-        words,
-        nums: Sequence::new(alloc),
-    })
+/// A name that isn't defined.
+#[derive(Clone, Copy)]
+enum Unknown<'n> {
+    /// What it should be the name of, and the name.
+    Name(&'n [u8], &'n [u8]),
+    /// A pin, by its owner and its name.
+    Pin(&'n [u8], &'n [u8]),
 }
 
-/// Adds a report for each of the references of an entry that isn't defined.
-fn push_reports<'t, A: Allocator + Copy>(
-    reports: &mut Vec<Diag<'t, A>, A>,
-    known: &Known<'_, '_, '_, 't, A>,
-    section: &'t [u8],
-    entry: &'t [u8],
-    references: &[Reference<'t>],
-) -> Result<(), AllocError>
-    ensures { OnOk result (diag_texts reports.new.items ≡ diag_texts reports.old.items ++ reference_lines (known_view known.now) section.entry.now entry.entry.now (references_view references.now)) }
+/// The name, where it isn't known.
+fn unless<'n>(known: bool, unknown: Unknown<'n>) -> Option<Unknown<'n>>
+    ensures { words_of_all result ≡ unless known (unknown_words unknown.entry) }
 {
-    let alloc = *reports.allocator();
+    if known { None } else { Some(unknown) }
+}
+
+/// What of a terminal isn't defined: the pin of the design, the component, or its pin.
+fn unknown_terminal<'n, K: Known>(known: &K, owner: &'n [u8], pin: &'n [u8]) -> Option<Unknown<'n>>
+    ensures { words_of_all result ≡ unknown_terminal (K.known known.now) owner.entry.now pin.entry.now }
+{
+    let terminal = Unknown::Pin(owner, pin);
+    if is_word(owner, b"PIN") {
+        return unless(known.has_design_pin(pin), terminal);
+    }
+    match known.lacks(owner, pin) {
+        Some(lacks) => unless(!lacks, terminal),
+        None => Some(Unknown::Name(b"COMPONENT", owner)),
+    }
+}
+
+/// What of a reference isn't defined.
+fn unknown_of<'n, K: Known>(known: &K, reference: Reference<'n>) -> Option<Unknown<'n>>
+    ensures { words_of_all result ≡ unknown_of (K.known known.now) (reference_view reference.entry) }
+{
+    match reference {
+        Reference::Macro(name) => unless(known.has_macro(name), Unknown::Name(b"MACRO", name)),
+        Reference::Region(name) => unless(known.has_region(name), Unknown::Name(b"REGION", name)),
+        Reference::Site(name) => unless(known.has_site(name), Unknown::Name(b"SITE", name)),
+        Reference::Layer(name) => unless(known.has_layer(name), Unknown::Name(b"LAYER", name)),
+        Reference::Via(name) => unless(known.has_via(name), Unknown::Name(b"VIA", name)),
+        Reference::Rule(name) => unless(known.has_rule(name), Unknown::Name(b"RULE", name)),
+        Reference::Net(name) => unless(known.has_net(name), Unknown::Name(b"NET", name)),
+        Reference::Terminal(owner, pin) => unknown_terminal(known, owner, pin),
+    }
+}
+
+/// Puts the line on a name that isn't defined, in an entry of a section.
+fn put_unknown<A: Allocator + Copy>(
+    unknown: Unknown<'_>,
+    section: &[u8],
+    entry: &[u8],
+    lines: &mut Lines<A>,
+) -> Result<(), AllocError>
+    ensures { OnOk result (lines.new ≡ lines.old ++ line_text unknown_kind (unknown_words unknown.entry ++ section.now ∷ entry.now ∷ []) [] ∷ []) }
+{
+    match unknown {
+        Unknown::Name(kind, name) => {
+            lines.put(DiagKind::Unknown, &[kind, name, section, entry], &[])
+        }
+        Unknown::Pin(owner, pin) => {
+            lines.put(
+                DiagKind::Unknown,
+                &[b"PIN", owner, pin, section, entry],
+                &[],
+            )
+        }
+    }
+}
+
+/// Puts a line for each of the references of an entry that isn't defined.
+fn put_references<K: Known, A: Allocator + Copy>(
+    known: &K,
+    section: &[u8],
+    entry: &[u8],
+    references: &[Reference<'_>],
+    lines: &mut Lines<A>,
+) -> Result<(), AllocError>
+    ensures { OnOk result (lines.new ≡ lines.old ++ reference_lines (K.known known.now) section.now entry.now (references_view references.now)) }
+{
     for reference in references {
-        if let Some(unknown) = known.unknown(*reference) {
-            reports.push(report(alloc, unknown, section, entry)?)?;
+        if let Some(unknown) = unknown_of(known, *reference) {
+            put_unknown(unknown, section, entry, lines)?;
         }
     }
     Ok(())
 }
 
-/// Adds the reports on the names in a statement. The list of references is one that may be written over.
-fn push_statement<'t, A: Allocator + Copy>(
-    reports: &mut Vec<Diag<'t, A>, A>,
-    references: &mut Vec<Reference<'t>, A>,
-    known: &Known<'_, '_, '_, 't, A>,
+/// Puts the lines on the names in a statement that aren't defined, in the order of the text. The list of references is written
+/// over.
+pub fn unknown_in<'t, K: Known, A: Allocator + Copy>(
+    known: &K,
     statement: &Statement<'t>,
+    references: &mut Vec<Reference<'t>, A>,
+    lines: &mut Lines<A>,
 ) -> Result<(), AllocError>
-    ensures { OnOk result (diag_texts reports.new.items ≡ diag_texts reports.old.items ++ unknown_lines_of (known_view known.now) (record_view statement.now)) }
+    ensures { OnOk result (lines.new ≡ lines.old ++ unknown_lines_of (K.known known.now) (record_view statement.now)) }
 {
     references.clear();
     match statement {
         Statement::Entry(entry) => {
             push_references(entry, references)?;
             let section = entry.section().word();
-            push_reports(reports, known, section, name_or_dash(entry), references)
+            put_references(known, section, name_or_dash(entry), references, lines)
         }
         Statement::Floor(Floor::Row(row)) => {
             let row = row.parts();
             push_row_references(&row, references)?;
-            push_reports(reports, known, b"ROWS", row.name.bytes, references)
+            put_references(known, b"ROWS", row.name.bytes, references, lines)
         }
         _ => Ok(()),
     }
-}
-
-/// The reports on the names that neither the library nor the design defines, in the order of the text.
-pub fn unknown_of<'t, A: Allocator + Copy>(
-    alloc: A,
-    library: &Library<'_, A>,
-    names: &Names<'_, 't, A>,
-) -> Result<Vec<Diag<'t, A>, A>, AllocError>
-    ensures { IfOk result (λ v. diag_texts v.items ≡ unknown_lines library.now names.now) }
-{
-    let known = Known { library, names };
-    let mut reports = Vec::new(alloc);
-    let mut references = Vec::new(alloc);
-    for statement in names.records() {
-        push_statement(&mut reports, &mut references, &known, statement)?;
-    }
-    Ok(reports)
 }
