@@ -9,7 +9,7 @@ use def_reader::entry::Entry;
 use def_reader::statement::Statement;
 use design_names::names::names_of;
 use design_wires::definitions::Definitions;
-use design_wires::rules_of_design::DesignRules;
+use design_wires::makings_of_design::DesignMakings;
 use design_wires::scale::Scale;
 use design_wires::wires::DesignWires;
 use std::alloc::{AllocError, Global};
@@ -24,7 +24,7 @@ fn add_net(
     list: &mut Vec<u8>,
     alloc: Global,
     parts: &NetParts<'_>,
-    rules: DesignRules<'_, '_, '_, '_, '_>,
+    rules: DesignMakings<'_, '_, '_, '_, '_>,
 ) -> Result<(), AllocError> {
     list.extend_from_slice(parts.name.bytes)?;
     list.push(b'\n')?;
@@ -39,7 +39,7 @@ fn add_special_net(
     list: &mut Vec<u8>,
     alloc: Global,
     parts: &SpecialNetParts<'_>,
-    rules: DesignRules<'_, '_, '_, '_, '_>,
+    rules: DesignMakings<'_, '_, '_, '_, '_>,
 ) -> Result<(), AllocError> {
     list.extend_from_slice(parts.name.bytes)?;
     list.push(b'\n')?;
@@ -53,7 +53,7 @@ fn add_special_net(
 fn lines_of(
     alloc: Global,
     records: &[Statement<'_>],
-    rules: DesignRules<'_, '_, '_, '_, '_>,
+    rules: DesignMakings<'_, '_, '_, '_, '_>,
 ) -> Result<Vec<u8>, AllocError> {
     let mut list = Vec::new(alloc);
     for statement in records {
@@ -82,7 +82,7 @@ fn lines_by(alloc: Global, lef: &[u8], def: &[u8], per_micron: u32) -> Result<Ve
         scale: Scale::new(per_micron).ok_or("no scale")?,
     };
     let wires = DesignWires::new(alloc, definitions)?;
-    Ok(lines_of(alloc, &records, DesignRules { wires: &wires })?)
+    Ok(lines_of(alloc, &records, DesignMakings { wires: &wires })?)
 }
 
 #[test]
@@ -358,7 +358,7 @@ struct Sums {
 fn with_special_net(
     sums: Sums,
     parts: &SpecialNetParts<'_>,
-    rules: DesignRules<'_, '_, '_, '_, '_>,
+    rules: DesignMakings<'_, '_, '_, '_, '_>,
 ) -> Sums {
     let mut sums = sums;
     for piece in special_net_pieces(parts, rules) {
@@ -391,7 +391,7 @@ fn sums_by(alloc: Global, def: &[u8]) -> Result<Sums, Fail> {
     };
     for statement in &records {
         if let Statement::Entry(Entry::SpecialNet(parts)) = statement {
-            sums = with_special_net(sums, parts, DesignRules { wires: &wires });
+            sums = with_special_net(sums, parts, DesignMakings { wires: &wires });
         }
     }
     Ok(sums)

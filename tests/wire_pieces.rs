@@ -8,7 +8,7 @@ use std::test::Fail;
 use wire_parts::nets::{NetEntry, NetParts, net_entry_at};
 use wire_parts::special_nets::special_net_at;
 use wire_reading::{NetRulesOf, SpecialRulesOf, net_pieces, special_net_pieces};
-use wire_shapes::{LayerShape, LayerShapes, Piece, ViaOn, WiringRules};
+use wire_shapes::{LayerShape, LayerShapes, Piece, ViaOn, WiringMakings};
 
 /// One shape.
 #[derive(Clone, Copy, Drop)]
@@ -45,7 +45,7 @@ struct OneWidth<'l, A> {
     rules: &'l [A],
 }
 
-impl<'l, A> WiringRules<'l> for OneWidth<'l, A> {
+impl<'l, A> WiringMakings<'l> for OneWidth<'l, A> {
     type Shapes = OneShape<'l>;
 
     ghost rules = { ? };

@@ -2,7 +2,7 @@
 use Rattle.std.proofs.Common.{◌≡◌, ℕ, ◌+◌, ◌<◌, ◌≤◌, List, ◌∷◌, map, length, get_or, drop, refl, sym, ap, ◌∙◌, Option, Some, None, ◌-◌, suc, take, add-one, drop-cons}
 use Rattle.std.proofs.Math.ListN.{drop_of_length-le}
 use Rattle.std.proofs.lemmas.List.{take_rest}
-use Rattle.lef_grammar.specs.Firsts.{front, headed, with_all, with_first}
+use Rattle.form_meanings.specs.Firsts.{front, headed, with_all, with_first}
 use Rattle.cell_library.specs.Naming.{name_of}
 use Rattle.cell_library.proofs.NamedLemmas.{first_seen}
 

@@ -1,7 +1,7 @@
 -- Adding what statements define, kind by kind.
 use Rattle.std.proofs.Common.{◌≡◌, ℕ, List, OnOk, Result, Ok, Err, refl}
 use Rattle.lef_grammar.specs.Definitions.{layers_of, macros_of, rules_of, sites_of, vias_of}
-use Rattle.lef_grammar.specs.Firsts.{with_all}
+use Rattle.form_meanings.specs.Firsts.{with_all}
 use Rattle.lef_grammar.specs.LefRecords.{LefRecord}
 use Rattle.lef_grammar.specs.Library.{with_text}
 use Rattle.cell_library.specs.LayerViews.{layer_name, layers_view}

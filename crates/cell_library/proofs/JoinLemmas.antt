@@ -4,7 +4,7 @@ use Rattle.std.specs.List.{cons_option}
 use Rattle.std.specs.Option.{option_map}
 use Rattle.std.proofs.lemmas.List.{map-append}
 use Rattle.lef_grammar.specs.Definitions.{Layer, Site, Via, Rule, Macro, inner_record, layer_record, layer_with, macro_with, opened_layer, opened_macro, opened_rule, opened_site, opened_via, rule_with, site_record, site_with, via_record, via_with}
-use Rattle.lef_grammar.specs.Firsts.{found_then, front, headed, with_all, with_first}
+use Rattle.form_meanings.specs.Firsts.{found_then, front, headed, with_all, with_first}
 use Rattle.lef_grammar.specs.LefRecords.{LefRecord, outside}
 use Rattle.lef_grammar.specs.Library.{Library, with_text}
 use Rattle.lef_grammar.specs.Outermost.{OutermostRecord}

@@ -9,7 +9,7 @@ use Rattle.std.proofs.lemmas.Option.{slice_get-map}
 use Rattle.std.proofs.lemmas.Iterator.Adapters.{position_from-zero}
 use Rattle.std.proofs.lemmas.Slice.Eq.{bytes_eq-Decides}
 use Rattle.indexmap.specs.IndexMap.{insert_entry}
-use Rattle.lef_grammar.specs.Firsts.{find_named, has_name, with_first}
+use Rattle.form_meanings.specs.Firsts.{find_named, has_name, with_first}
 use Rattle.cell_library.specs.Naming.{entries_view, entry_seen, name_of, named, place_of, seen_by}
 use Rattle.lefdef_tokens.specs.Views.{word_view}
 

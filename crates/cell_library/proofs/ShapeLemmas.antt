@@ -2,7 +2,7 @@
 use Rattle.std.proofs.Common.{◌≡◌, ℕ, ◌-◌, ◌<◌, List, [], ◌∷◌, ◌++◌, map, length, get_or, take, drop, refl, sym, ap, ◌∙◌}
 use Rattle.std.proofs.lemmas.List.{take_rest}
 use Rattle.lef_grammar.specs.Definitions.{Distances, LayerShapes}
-use Rattle.lef_grammar.specs.Firsts.{front, headed}
+use Rattle.form_meanings.specs.Firsts.{front, headed}
 use Rattle.lef_grammar.specs.LefRecords.{LefRecord, in_port, in_via}
 use Rattle.lef_grammar.specs.PortBlock.{port_layer}
 use Rattle.lef_grammar.specs.ViaBlock.{via_layer}

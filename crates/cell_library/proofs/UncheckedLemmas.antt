@@ -4,7 +4,7 @@ use Rattle.std.specs.List.{filter_map, cons_option, list_any}
 use Rattle.std.specs.Option.{option_map}
 use Rattle.std.proofs.lemmas.List.Sums.{sum_by-cons}
 use Rattle.lef_grammar.specs.Definitions.{Pin, pin_record, pin_with, pins_of, port_record, opened_pin}
-use Rattle.lef_grammar.specs.Firsts.{found_then, front, headed, has_name, with_all, with_first}
+use Rattle.form_meanings.specs.Firsts.{found_then, front, headed, has_name, with_all, with_first}
 use Rattle.lef_grammar.specs.LefRecords.{LefRecord, outside, in_layer, in_site, in_via, in_rule, in_rule_layer, in_macro, in_pin, in_port, in_kept}
 use Rattle.lef_grammar.specs.PortBlock.{is_unchecked}
 use Rattle.cell_library.specs.PinViews.{pin_view, pins_view, unchecked_in}

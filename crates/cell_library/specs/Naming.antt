@@ -2,7 +2,7 @@
 use Rattle.std.specs.Prelude.{ℕ, suc, List, [], ◌∷◌, map, Option, Some, None, if◌then◌else◌}
 use Rattle.std.specs.Option.{option_map}
 use denote.Ref.{Bor}
-use Rattle.lef_grammar.specs.Firsts.{find_named, has_name}
+use Rattle.form_meanings.specs.Firsts.{find_named, has_name}
 
 abbrev pub name_of : {D : Type 0} → List ℕ × D → List ℕ
 name_of e = e.0

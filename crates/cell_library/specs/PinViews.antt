@@ -2,7 +2,7 @@
 use Rattle.std.specs.Prelude.{ℕ, List, map, length, filter, sum}
 use Rattle.std.specs.List.{filter_map}
 use Rattle.lef_grammar.specs.Definitions.{Distances, LayerShapes, Pin, corners_read, pin_record, port_record, shapes_by, unless_named}
-use Rattle.lef_grammar.specs.Firsts.{front}
+use Rattle.form_meanings.specs.Firsts.{front}
 use Rattle.lef_grammar.specs.LefRecords.{LefRecord}
 use Rattle.lef_grammar.specs.PortBlock.{PortRecord, is_unchecked, port_layer_of, port_rect_of}
 use Rattle.cell_library.specs.ShapeViews.{shapes_view}

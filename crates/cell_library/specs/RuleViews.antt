@@ -2,7 +2,7 @@
 use Rattle.std.specs.Prelude.{ℕ, List, [], map}
 use Rattle.std.specs.Option.{option_map}
 use Rattle.lef_grammar.specs.Definitions.{Rule, RuleLayer, opened_rule_layer, rule_layer_record, rule_layer_with}
-use Rattle.lef_grammar.specs.Firsts.{headed, with_all}
+use Rattle.form_meanings.specs.Firsts.{headed, with_all}
 use Rattle.lef_grammar.specs.LefRecords.{LefRecord}
 use Rattle.unit_numbers.specs.Distances.{distance_of}
 use Rattle.cell_library.specs.declared.rule.Rule as code_rule

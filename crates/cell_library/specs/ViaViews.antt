@@ -3,7 +3,7 @@ use Rattle.std.specs.Prelude.{ℕ, ℤ, List, map, length, filter}
 use Rattle.std.specs.List.{filter_map}
 use Rattle.std.specs.Option.{option_map}
 use Rattle.lef_grammar.specs.Definitions.{Distances, GeneratedVia, LayerShapes, Via, ViaBody, listed, generated, corners_read, shapes_by, unless_named, via_record}
-use Rattle.lef_grammar.specs.Firsts.{front}
+use Rattle.form_meanings.specs.Firsts.{front}
 use Rattle.lef_grammar.specs.LefRecords.{LefRecord}
 use Rattle.lef_grammar.specs.ViaBlock.{is_via_polygon, via_layer_of, via_rect_of}
 use Rattle.cell_library.specs.Numbers.{point_view}

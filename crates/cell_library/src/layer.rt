@@ -3,7 +3,7 @@
 ghost use Rattle.std.specs.Prelude.{◌≡◌, List, ℕ, OnOk, map};
 ghost use Rattle.std.specs.Option.{option_map};
 ghost use Rattle.lef_grammar.specs.Definitions.{kind_of, layer_record, layer_with, layers_of, opened_layer};
-ghost use Rattle.lef_grammar.specs.Firsts.{first_of, front, with_all};
+ghost use Rattle.form_meanings.specs.Firsts.{first_of, front, with_all};
 ghost use Rattle.lef_grammar.specs.LayerBlock.{spacing_of, type_of, width_of};
 ghost use Rattle.lef_reader.specs.StatementViews.{lef_view};
 ghost use Rattle.cell_library.specs.LayerViews.{kind_view, layer_name, layer_view, layers_view};
@@ -36,7 +36,7 @@ pub struct Layer {
 }
 
 /// The word of the first `TYPE` behind a header.
-#[tactic(auto, unfolding(lef_grammar::specs::Firsts::front))]
+#[tactic(auto, unfolding(form_meanings::specs::Firsts::front))]
 fn type_of<'l>(behind: &[LefStatement<'l>]) -> Option<&'l [u8]>
     ensures { option_map word_view result ≡ first_of type_of (front layer_record (records_view behind.now)) }
 {
@@ -52,7 +52,7 @@ fn type_of<'l>(behind: &[LefStatement<'l>]) -> Option<&'l [u8]>
 }
 
 /// The number of the first `WIDTH` behind a header.
-#[tactic(auto, unfolding(lef_grammar::specs::Firsts::front))]
+#[tactic(auto, unfolding(form_meanings::specs::Firsts::front))]
 fn width_of<'l>(behind: &[LefStatement<'l>]) -> Option<&'l [u8]>
     ensures { option_map word_view result ≡ first_of width_of (front layer_record (records_view behind.now)) }
 {
@@ -68,7 +68,7 @@ fn width_of<'l>(behind: &[LefStatement<'l>]) -> Option<&'l [u8]>
 }
 
 /// The number of the first `SPACING` behind a header that has nothing else.
-#[tactic(auto, unfolding(lef_grammar::specs::Firsts::front))]
+#[tactic(auto, unfolding(form_meanings::specs::Firsts::front))]
 fn spacing_of<'l>(behind: &[LefStatement<'l>]) -> Option<&'l [u8]>
     ensures { option_map word_view result ≡ first_of spacing_of (front layer_record (records_view behind.now)) }
 {

@@ -4,7 +4,7 @@ ghost use Rattle.std.specs.Prelude.{◌≡◌, ◌<◌, ◌≤◌, List, ℕ, If
 ghost use Rattle.std.specs.List.{filter_map};
 ghost use Rattle.std.specs.Option.{option_map};
 ghost use Rattle.lef_grammar.specs.Definitions.{both_read, inner_record, macro_record, macro_with, macros_of, opened_macro, point_read};
-ghost use Rattle.lef_grammar.specs.Firsts.{first_of, front, with_all};
+ghost use Rattle.form_meanings.specs.Firsts.{first_of, front, with_all};
 ghost use Rattle.lef_grammar.specs.Library.{macro_named, pin_named};
 ghost use Rattle.lef_grammar.specs.MacroShapes.{in_library, macro_shapes};
 ghost use Rattle.lef_grammar.specs.Measures.{point_or_0};

@@ -3,7 +3,7 @@
 ghost use Rattle.std.specs.Prelude.{◌≡◌, ◌<◌, ◌^◌, [], IfSome, OnOk, OnErr, length, slice_get};
 ghost use Rattle.std.specs.Prelude.{option_copied};
 ghost use Rattle.std.specs.Option.{option_map};
-ghost use Rattle.lef_grammar.specs.Firsts.{find_named, with_first};
+ghost use Rattle.form_meanings.specs.Firsts.{find_named, with_first};
 ghost use Rattle.cell_library.specs.Naming.{entry_seen, place_of, name_of, named};
 ghost use Rattle.lefdef_tokens.specs.Views.{word_view};
 

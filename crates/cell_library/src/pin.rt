@@ -3,7 +3,7 @@
 ghost use Rattle.std.specs.Prelude.{◌≡◌, List, ℕ, IfOk, OnOk, is_some, map};
 ghost use Rattle.std.specs.Option.{option_map};
 ghost use Rattle.lef_grammar.specs.Definitions.{opened_pin, pin_record, pin_with, pins_of};
-ghost use Rattle.lef_grammar.specs.Firsts.{front};
+ghost use Rattle.form_meanings.specs.Firsts.{front};
 ghost use Rattle.lef_reader.specs.StatementViews.{lef_view};
 ghost use Rattle.cell_library.specs.Numbers.{rectangle_view};
 ghost use Rattle.cell_library.specs.PinViews.{count_behind, pin_view, pins_view, rectangles_behind, shapes_behind};
@@ -28,7 +28,7 @@ pub struct Pin<'l, A: Allocator = Global> {
 }
 
 /// The rectangles behind a `LAYER`, up to the next.
-#[tactic(auto, unfolding(lef_grammar::specs::Firsts::front))]
+#[tactic(auto, unfolding(form_meanings::specs::Firsts::front))]
 fn rectangles_behind<A: Allocator + Copy>(
     alloc: A,
     behind: &[LefStatement<'_>],
@@ -53,7 +53,7 @@ fn rectangles_behind<A: Allocator + Copy>(
 }
 
 /// The layers behind the header of a pin, with their rectangles.
-#[tactic(auto, unfolding(lef_grammar::specs::Firsts::front, lef_grammar::specs::Firsts::headed))]
+#[tactic(auto, unfolding(form_meanings::specs::Firsts::front, form_meanings::specs::Firsts::headed))]
 fn shapes_behind<'l, A: Allocator + Copy>(
     alloc: A,
     behind: &[LefStatement<'l>],
@@ -83,7 +83,7 @@ fn shapes_behind<'l, A: Allocator + Copy>(
 }
 
 /// How many parts behind the header of a pin have no checked shape.
-#[tactic(auto, unfolding(lef_grammar::specs::Firsts::front))]
+#[tactic(auto, unfolding(form_meanings::specs::Firsts::front))]
 fn count_behind(behind: &[LefStatement<'_>]) -> usize
     ensures { result ≡ count_behind (records_view behind.now) }
 {

@@ -3,7 +3,7 @@
 ghost use Rattle.std.specs.Prelude.{◌≡◌, List, ℕ, IfOk, OnOk};
 ghost use Rattle.std.specs.Option.{option_map};
 ghost use Rattle.lef_grammar.specs.Definitions.{distance_read, inner_record, opened_rule, opened_rule_layer, rule_layer_record, rule_layer_with, rule_with, rules_of};
-ghost use Rattle.lef_grammar.specs.Firsts.{first_of, front, with_all};
+ghost use Rattle.form_meanings.specs.Firsts.{first_of, front, with_all};
 ghost use Rattle.lef_grammar.specs.RuleBlock.{rule_width_of};
 ghost use Rattle.lef_reader.specs.StatementViews.{lef_view};
 ghost use Rattle.lefdef_tokens.specs.Views.{word_view};
@@ -33,7 +33,7 @@ pub struct Rule<'l, A: Allocator = Global> {
 }
 
 /// The first `WIDTH` behind the header of a layer.
-#[tactic(auto, unfolding(lef_grammar::specs::Firsts::front))]
+#[tactic(auto, unfolding(form_meanings::specs::Firsts::front))]
 fn width_of(behind: &[LefStatement<'_>]) -> Option<Microns>
     ensures { option_map distance_of result ≡ option_map distance_read (first_of rule_width_of (front rule_layer_record (records_view behind.now))) }
 {

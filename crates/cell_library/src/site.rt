@@ -3,7 +3,7 @@
 ghost use Rattle.std.specs.Prelude.{◌≡◌, List, ℕ, OnOk};
 ghost use Rattle.std.specs.Option.{option_map};
 ghost use Rattle.lef_grammar.specs.Definitions.{both_read, opened_site, site_record, site_with, sites_of};
-ghost use Rattle.lef_grammar.specs.Firsts.{first_of, front, with_all};
+ghost use Rattle.form_meanings.specs.Firsts.{first_of, front, with_all};
 ghost use Rattle.lef_grammar.specs.SiteBlock.{site_size_of};
 ghost use Rattle.lef_reader.specs.StatementViews.{lef_view};
 ghost use Rattle.cell_library.specs.Numbers.{point_view};
@@ -25,7 +25,7 @@ pub struct Site {
 }
 
 /// The first `SIZE` behind a header.
-#[tactic(auto, unfolding(lef_grammar::specs::Firsts::front))]
+#[tactic(auto, unfolding(form_meanings::specs::Firsts::front))]
 fn size_of(behind: &[LefStatement<'_>]) -> Option<MicronPoint>
     ensures { option_map point_view result ≡ option_map both_read (first_of site_size_of (front site_record (records_view behind.now))) }
 {

@@ -3,7 +3,7 @@
 ghost use Rattle.std.specs.Prelude.{◌≡◌, ◌≤◌, List, ℕ, IfOk, OnOk, length, map};
 ghost use Rattle.std.specs.Option.{option_map};
 ghost use Rattle.lef_grammar.specs.Definitions.{both_read, generated_by, metals_read, opened_via, via_body, via_record, via_with, vias_of, whole_read};
-ghost use Rattle.lef_grammar.specs.Firsts.{first_of, front, with_all};
+ghost use Rattle.form_meanings.specs.Firsts.{first_of, front, with_all};
 ghost use Rattle.lef_grammar.specs.ViaBlock.{cut_size_of, cut_spacing_of, enclosure_of, row_col_of, rule_of, via_layers_of, via_offset_of, via_origin_of};
 ghost use Rattle.lef_reader.specs.StatementViews.{lef_view};
 ghost use Rattle.lef_reader.specs.ViaViews.{four_view};
@@ -67,7 +67,7 @@ pub enum ViaBody<'l, A: Allocator = Global> {
 }
 
 /// The first `VIARULE` behind a header.
-#[tactic(auto, unfolding(lef_grammar::specs::Firsts::front))]
+#[tactic(auto, unfolding(form_meanings::specs::Firsts::front))]
 fn rule_of<'l>(behind: &[LefStatement<'l>]) -> Option<&'l [u8]>
     ensures { option_map word_view result ≡ first_of rule_of (front via_record (records_view behind.now)) }
 {
@@ -83,7 +83,7 @@ fn rule_of<'l>(behind: &[LefStatement<'l>]) -> Option<&'l [u8]>
 }
 
 /// The first `CUTSIZE` behind a header.
-#[tactic(auto, unfolding(lef_grammar::specs::Firsts::front))]
+#[tactic(auto, unfolding(form_meanings::specs::Firsts::front))]
 fn cut_size_of(behind: &[LefStatement<'_>]) -> Option<MicronPoint>
     ensures { option_map point_view result ≡ option_map both_read (first_of cut_size_of (front via_record (records_view behind.now))) }
 {
@@ -99,7 +99,7 @@ fn cut_size_of(behind: &[LefStatement<'_>]) -> Option<MicronPoint>
 }
 
 /// The first `CUTSPACING` behind a header.
-#[tactic(auto, unfolding(lef_grammar::specs::Firsts::front))]
+#[tactic(auto, unfolding(form_meanings::specs::Firsts::front))]
 fn cut_spacing_of(behind: &[LefStatement<'_>]) -> Option<MicronPoint>
     ensures { option_map point_view result ≡ option_map both_read (first_of cut_spacing_of (front via_record (records_view behind.now))) }
 {
@@ -115,7 +115,7 @@ fn cut_spacing_of(behind: &[LefStatement<'_>]) -> Option<MicronPoint>
 }
 
 /// The first `ROWCOL` behind a header.
-#[tactic(auto, unfolding(lef_grammar::specs::Firsts::front))]
+#[tactic(auto, unfolding(form_meanings::specs::Firsts::front))]
 fn row_col_of(behind: &[LefStatement<'_>]) -> Option<CutArray>
     ensures { option_map array_view result ≡ option_map (λ x. (whole_read x.0, whole_read x.1)) (first_of row_col_of (front via_record (records_view behind.now))) }
 {
@@ -134,7 +134,7 @@ fn row_col_of(behind: &[LefStatement<'_>]) -> Option<CutArray>
 }
 
 /// The first `LAYERS` behind a header.
-#[tactic(auto, unfolding(lef_grammar::specs::Firsts::front))]
+#[tactic(auto, unfolding(form_meanings::specs::Firsts::front))]
 fn layers_of<'l>(behind: &[LefStatement<'l>]) -> Option<LayerNames<'l>>
     ensures { option_map names_view result ≡ first_of via_layers_of (front via_record (records_view behind.now)) }
 {
@@ -164,7 +164,7 @@ fn read_metals(distances: &MetalDistances<'_>) -> MetalPoints
 }
 
 /// The first `ENCLOSURE` behind a header.
-#[tactic(auto, unfolding(lef_grammar::specs::Firsts::front))]
+#[tactic(auto, unfolding(form_meanings::specs::Firsts::front))]
 fn enclosure_of(behind: &[LefStatement<'_>]) -> Option<MetalPoints>
     ensures { option_map metals_view result ≡ option_map metals_read (first_of enclosure_of (front via_record (records_view behind.now))) }
 {
@@ -180,7 +180,7 @@ fn enclosure_of(behind: &[LefStatement<'_>]) -> Option<MetalPoints>
 }
 
 /// The first `ORIGIN` behind a header.
-#[tactic(auto, unfolding(lef_grammar::specs::Firsts::front))]
+#[tactic(auto, unfolding(form_meanings::specs::Firsts::front))]
 fn origin_of(behind: &[LefStatement<'_>]) -> Option<MicronPoint>
     ensures { option_map point_view result ≡ option_map both_read (first_of via_origin_of (front via_record (records_view behind.now))) }
 {
@@ -196,7 +196,7 @@ fn origin_of(behind: &[LefStatement<'_>]) -> Option<MicronPoint>
 }
 
 /// The first `OFFSET` behind a header.
-#[tactic(auto, unfolding(lef_grammar::specs::Firsts::front))]
+#[tactic(auto, unfolding(form_meanings::specs::Firsts::front))]
 fn offset_of(behind: &[LefStatement<'_>]) -> Option<MetalPoints>
     ensures { option_map metals_view result ≡ option_map metals_read (first_of via_offset_of (front via_record (records_view behind.now))) }
 {
@@ -212,7 +212,7 @@ fn offset_of(behind: &[LefStatement<'_>]) -> Option<MetalPoints>
 }
 
 /// The rectangles behind a `LAYER`, up to the next.
-#[tactic(auto, unfolding(lef_grammar::specs::Firsts::front))]
+#[tactic(auto, unfolding(form_meanings::specs::Firsts::front))]
 fn rectangles_behind<A: Allocator + Copy>(
     alloc: A,
     behind: &[LefStatement<'_>],
@@ -236,7 +236,7 @@ fn rectangles_behind<A: Allocator + Copy>(
 }
 
 /// The layers behind the header of a via, with their rectangles.
-#[tactic(auto, unfolding(lef_grammar::specs::Firsts::front, lef_grammar::specs::Firsts::headed))]
+#[tactic(auto, unfolding(form_meanings::specs::Firsts::front, form_meanings::specs::Firsts::headed))]
 fn shapes_behind<'l, A: Allocator + Copy>(
     alloc: A,
     behind: &[LefStatement<'l>],
@@ -268,7 +268,7 @@ fn shapes_behind<'l, A: Allocator + Copy>(
 }
 
 /// How many polygons stand behind the header of a via.
-#[tactic(auto, unfolding(lef_grammar::specs::Firsts::front))]
+#[tactic(auto, unfolding(form_meanings::specs::Firsts::front))]
 fn count_behind(behind: &[LefStatement<'_>]) -> usize
     ensures count { result ≡ count_behind (records_view behind.now) }
     ensures few { result ≤ length behind.now }

@@ -60,3 +60,8 @@ abbrev pub is_placing : Clause → Bool
 is_placing (placed _ _ _) = true
 is_placing (unplaced _) = true
 is_placing _ = false
+
+-- what one clause says: the region that it assigns to
+abbrev pub region_of_clause : Clause → Option (List ℕ)
+region_of_clause (region name) = Some name
+region_of_clause _ = None

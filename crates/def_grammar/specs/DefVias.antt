@@ -177,3 +177,13 @@ as_def_via = record { to = λ p. record { name = p.0; clauses = p.1 }; from = λ
 -- - name (+ clause)* ;
 unfoldable pub def_via_form : Form DefVia
 def_via_form = seen as_def_via (codes "-" ▸ name ⨟ many is_plus via_clause ◂ codes ";")
+
+-- what one clause says: the layers of a generated via, and the layer of a shape
+abbrev pub layers_of_clause : ViaClause → Option ViaLayers
+layers_of_clause (on_layers layers) = Some layers
+layers_of_clause _ = None
+
+abbrev pub layer_of_shape : ViaClause → Option (List ℕ)
+layer_of_shape (via_has_rectangle r) = Some r.layer
+layer_of_shape (via_has_polygon p) = Some p.layer
+layer_of_shape _ = None

@@ -7,6 +7,7 @@ pub mod Extensions
 pub mod Grids
 pub mod Groups
 pub mod Limits
+pub mod Located
 pub mod NetWires
 pub mod Nets
 pub mod Numbers

@@ -72,3 +72,8 @@ net_name (must_join tokens) = None
 -- - MUSTJOIN any* ;, or - name term* (+ clause)* ;
 unfoldable pub net_form : Form NetEntry
 net_form = codes "-" ▸ on (codes "MUSTJOIN") (upto is_semicolon) net ◂ codes ";"
+
+-- the rule that one clause names
+abbrev pub rule_of_clause : NetClause → Option (List ℕ)
+rule_of_clause (net_rule name) = Some name
+rule_of_clause _ = None

@@ -1,5 +1,5 @@
 -- The section PINS (LEF/DEF 5.8 Language Reference, "Pins").
-use Rattle.std.specs.Prelude.{◌⊎◌, ℕ, List, Option, codes, refl}
+use Rattle.std.specs.Prelude.{◌⊎◌, ℕ, List, Option, codes, refl, Some, None}
 use Rattle.std.proofs.Common.{inl, inr}
 use Rattle.design_model.specs.declared.geometry.Orient.{Orient}
 use Rattle.design_model.specs.declared.geometry.Status.{Status}
@@ -109,3 +109,8 @@ as_pin = record { to = λ p. record { name = p.0; clauses = p.1 }; from = λ a. 
 -- - name (+ clause)* ;
 unfoldable pub pin_form : Form Pin
 pin_form = seen as_pin (codes "-" ▸ name ⨟ many is_plus pin_clause ◂ codes ";")
+
+-- the net that one clause names
+abbrev pub net_of_clause : PinClause → Option (List ℕ)
+net_of_clause (pin_net name) = Some name
+net_of_clause _ = None

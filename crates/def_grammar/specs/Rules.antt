@@ -1,5 +1,5 @@
 -- The section NONDEFAULTRULES (LEF/DEF 5.8 Language Reference, "Nondefault Rules").
-use Rattle.std.specs.Prelude.{◌⊎◌, ℕ, List, codes, refl}
+use Rattle.std.specs.Prelude.{◌⊎◌, ℕ, List, codes, refl, Option, Some, None}
 use Rattle.std.proofs.Common.{inl, inr}
 use Rattle.form_meanings.specs.Words.{is_plus}
 use Rattle.form_meanings.specs.Meaning.{Seen}
@@ -46,3 +46,8 @@ as_rule = record { to = λ p. record { name = p.0; clauses = p.1 }; from = λ r.
 -- - name (+ clause)* ;
 unfoldable pub rule_form : Form Rule
 rule_form = seen as_rule (codes "-" ▸ name ⨟ many is_plus rule_clause ◂ codes ";")
+
+-- what one clause says of a layer
+abbrev pub layer_of_rule : RuleClause → Option RuleLayer
+layer_of_rule (rule_has_layer l) = Some l
+layer_of_rule _ = None

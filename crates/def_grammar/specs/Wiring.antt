@@ -1,6 +1,6 @@
 -- The wiring of nets and of special nets (LEF/DEF 5.8 Language Reference, "Regular Wiring Statement" and "Special Wiring
 -- Statement"): paths of points, vias and rectangles. What a * in a path repeats is the coordinate of the last point.
-use Rattle.std.specs.Prelude.{◌⊎◌, ℕ, Bool, not, ◌&&◌, ◌||◌, List, [], ◌∷◌, Option, codes, refl}
+use Rattle.std.specs.Prelude.{◌⊎◌, ℕ, Bool, not, ◌&&◌, ◌||◌, List, [], ◌∷◌, Option, codes, refl, Some, None}
 use Rattle.std.proofs.Common.{inl, inr}
 use Rattle.design_model.specs.declared.geometry.Orient.{Orient}
 use Rattle.design_model.specs.EnumWords.{orient_word, orients}
@@ -281,3 +281,8 @@ special_wires = seen as_list (opt (λ w. not (is_stop w)) (special_wire ⨟ many
 -- (ROUTED|FIXED|COVER|SHIELD name) [swire (NEW swire)*]
 unfoldable pub special_wiring : Form SpecialWiring
 special_wiring = seen as_special_wiring (on (codes "SHIELD") name wiring_status ⨟ special_wires)
+
+-- the via that one item of a path names
+abbrev pub via_of_item : {Via : Type 0} → (Via → WireVia) → PathItem Via → Option (List ℕ)
+via_of_item via_of (path_via via) = Some (via_of via).name
+via_of_item via_of _ = None

@@ -6,7 +6,7 @@ use Rattle.std.proofs.lemmas.Int.{ints}
 use Rattle.design_model.specs.Units.{are_digits, decimal_value, is_minus, signed, unsigned, whole}
 use Rattle.design_model.specs.declared.number.NumFault.TheVariants.{Form, Range}
 use Rattle.def_grammar.specs.Numbers.{int_of, number_or_0}
-use Rattle.wire_rules.specs.Ranges.{IsWithin}
+use Rattle.design_model.specs.Ranges.{IsWithin}
 use mir.Syntax.{w32, w64}
 use mir.Val.{to_z, of_z}
 

@@ -3,7 +3,7 @@
 ghost use Rattle.std.specs.Prelude.{◌≡◌};
 ghost use Rattle.def_grammar.specs.Numbers.{int_of};
 ghost use Rattle.def_grammar.specs.Points.{coordinate_after, number_after, place_after, place_of, point_after};
-ghost use Rattle.wire_rules.specs.Ranges.{IsPointWithin, IsWithin};
+ghost use Rattle.design_model.specs.Ranges.{IsPointWithin, IsWithin};
 ghost use Rattle.def_parts.specs.PointViews.{point_view};
 
 use crate::number::int_of;

@@ -7,7 +7,7 @@ use Rattle.design_model.specs.declared.fault.FaultCode.{FaultCode}
 use Rattle.design_model.specs.declared.fault.FaultCode.TheVariants.{NoUnits}
 use Rattle.design_model.specs.declared.mode.Mode.{Mode}
 use Rattle.design_model.specs.declared.mode.Mode.TheVariants.{Top}
-use Rattle.statement_model.specs.Tokens.{Piece, Lexed, left_from}
+use Rattle.statement_model.specs.Tokens.{Token, Lexed, left_from}
 use Rattle.statement_model.specs.Boundaries.{statement_at}
 use Rattle.statement_model.specs.Grammar.{Key}
 use Rattle.statement_model.specs.Reading.{read_at, repeats, with_key, fault_at, pos_of}
@@ -30,17 +30,17 @@ abbrev pub spans_at : Mode → List ℕ → ℕ → List Span
 spans_at m text pos = map (λ x. span_of x.0) (located_at def m text pos)
 
 -- one more of them
-pub one_more_span : (mode after : Mode) (text : List ℕ) (pos end : ℕ) (ps : List Piece) (rec : Record) (all spans : List Span) (span : Span)
+pub one_more_span : (mode after : Mode) (text : List ℕ) (pos end : ℕ) (ps : List Token) (rec : Record) (all spans : List Span) (span : Span)
     → statement_at def_ending (left_from text pos) ≡ Ok (Some (ps, left_from text end))
     → read_at def mode (left_from text pos) ≡ Ok (Some (rec, after, left_from text end))
     → span_of ps ≡ span
     → all ≡ spans ++ spans_at mode text pos
     → all ≡ (spans ++ span ∷ []) ++ spans_at after text end
 one_more_span mode after text pos end ps rec all spans span at read is so_far =
-    so_far ∙ ap (λ (z : List (List Piece × Record)). spans ++ map (λ x. span_of x.0) z) (located_first def mode after (left_from text pos) (left_from text end) ps rec at read)
+    so_far ∙ ap (λ (z : List (List Token × Record)). spans ++ map (λ x. span_of x.0) z) (located_first def mode after (left_from text pos) (left_from text end) ps rec at read)
     ∙ rw is (sym (append_assoc spans (span ∷ []) (spans_at after text end)))
 
-pub starts : (ps : List Piece) → (span_of ps).lo ≡ pos_of ps
+pub starts : (ps : List Token) → (span_of ps).lo ≡ pos_of ps
 starts [] = refl
 starts (p ∷ ps) = refl
 
@@ -51,8 +51,8 @@ pub all_spans : (law : RecordsAreLocated def) (text : List ℕ) (mode : Mode) (p
     → left_from text pos ≡ record { pieces = []; end = Ok n }
     → spans ≡ statement_spans text design
 all_spans law text mode pos n spans design reads so_far ended =
-    let none : spans_at mode text pos ≡ [] = ap (map (λ (x : List Piece × Record). span_of x.0)) (located_ends def mode (left_from text pos) n ended) in
-    sym (ap (map (λ (x : List Piece × Record). span_of x.0)) (located_is law text design reads) ∙ so_far ∙ ap (λ (z : List Span). spans ++ z) none ∙ append-nil spans)
+    let none : spans_at mode text pos ≡ [] = ap (map (λ (x : List Token × Record). span_of x.0)) (located_ends def mode (left_from text pos) n ended) in
+    sym (ap (map (λ (x : List Token × Record). span_of x.0)) (located_is law text design reads) ∙ so_far ∙ ap (λ (z : List Span). spans ++ z) none ∙ append-nil spans)
 
 -- the text reads so far, and sets of words stand for its keys
 pub record Going (text : List ℕ) (words names : List (Bor (List ℕ))) (mode : Mode) (pos : ℕ) : Type 0 where
@@ -85,7 +85,7 @@ module _ (text : List ℕ) (words names : List (Bor (List ℕ))) (mode : Mode) (
   pub going_fault : (f : Fault) → read_at def mode (left_from text pos) ≡ Err f → read_def text ≡ Err f
   going_fault f read = so_far_fault def Top text g.front mode g.keys pos g.so_far f read
 
-  module _ (after : Mode) (left : Lexed) (ps : List Piece) (rec : Record) (at : statement_at def_ending (left_from text pos) ≡ Ok (Some (ps, left))) (read : read_at def mode (left_from text pos) ≡ Ok (Some (rec, after, left))) where
+  module _ (after : Mode) (left : Lexed) (ps : List Token) (rec : Record) (at : statement_at def_ending (left_from text pos) ≡ Ok (Some (ps, left))) (read : read_at def mode (left_from text pos) ≡ Ok (Some (rec, after, left))) where
     form : Belongs g.latest (key_of rec) × Opens after (latest_with (key_of rec) g.latest)
     form = opened mode after ps rec g.latest (form_read def mode after (left_from text pos) left ps rec at read) g.opens
 

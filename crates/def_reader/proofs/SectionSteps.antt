@@ -7,7 +7,7 @@ use Rattle.design_model.specs.declared.mode.Section.{Section}
 use Rattle.design_model.specs.EnumWords.{section_word}
 use Rattle.form_meanings.specs.Words.{◌>>=◌, Rest, is_done, is_word, next_passes, start, ends}
 use Rattle.form_meanings.proofs.Steps.{some_same, both_read, if_cases}
-use Rattle.statement_model.specs.Tokens.{Piece}
+use Rattle.statement_model.specs.Tokens.{Token}
 use Rattle.statement_model.specs.Boundaries.{words}
 use Rattle.statement_model.specs.Form.{read, whole}
 use Rattle.statement_model.specs.Reading.{read_form, formed, checked}
@@ -32,11 +32,11 @@ StandsIn m (end_section s) = Unit {0}
 StandsIn m (entry e) = m ≡ In (section_of e)
 
 -- the record of a form that was read
-form_checked : (m : Mode) (ps : List Piece) (r : Record) (bad : Option ℕ) (x : Record × Mode) → checked def m ps r bad ≡ Ok x → (r, mode_after m r) ≡ x
+form_checked : (m : Mode) (ps : List Token) (r : Record) (bad : Option ℕ) (x : Record × Mode) → checked def m ps r bad ≡ Ok x → (r, mode_after m r) ≡ x
 form_checked m ps r None x h = let y : Record × Mode = (r, mode_after m r) in let same : y ≡ x = cc in same
 form_checked m ps r (Some n) x h = absurd (cc)
 
-pub form_whole : (m : Mode) (ps : List Piece) (w : Option (Record × Option ℕ)) (x : Record × Mode) → formed def m ps w ≡ Ok x → (bad : Option ℕ) × (w ≡ Some (x.0, bad)) × (x.1 ≡ mode_after m x.0)
+pub form_whole : (m : Mode) (ps : List Token) (w : Option (Record × Option ℕ)) (x : Record × Mode) → formed def m ps w ≡ Ok x → (bad : Option ℕ) × (w ≡ Some (x.0, bad)) × (x.1 ≡ mode_after m x.0)
 form_whole m ps None x h = absurd (cc)
 form_whole m ps (Some w) x h =
     let same = form_checked m ps w.0 w.1 x h in
@@ -140,7 +140,7 @@ opens_after m (entry e) latest at opens =
     (entry_belongs (section_of e) (name_of e) latest (opens (section_of e) at), λ s is. entry_after (section_of e) (name_of e) latest ∙ opens s is)
 
 -- a statement that was read stands in its place, and its key leaves the section open that the next one stands in
-pub opened : (m after : Mode) (ps : List Piece) (rec : Record) (latest : Option (List ℕ)) → read_form def m ps ≡ Ok (rec, after) → Opens m latest
+pub opened : (m after : Mode) (ps : List Token) (rec : Record) (latest : Option (List ℕ)) → read_form def m ps ≡ Ok (rec, after) → Opens m latest
     → Belongs latest (key_of rec) × Opens after (latest_with (key_of rec) latest)
 opened m after ps rec latest h opens =
     let form = form_whole m ps (whole (statement m) (words ps)) (rec, after) h in

@@ -3,7 +3,7 @@ use Rattle.std.specs.Prelude.{◌≡◌, ℕ, List, map, Result, Ok, Err, IsOk}
 use Rattle.design_model.specs.declared.fault.ReadError.{ReadError}
 use Rattle.design_model.specs.declared.fault.ReadError.TheVariants.{Fault, Memory}
 use Rattle.def_grammar.specs.Records.{Record, read_def}
-use Rattle.design_rules.specs.Edits.{located}
+use Rattle.def_grammar.specs.Located.{located}
 use Rattle.lefdef_tokens.specs.Views.{span_of}
 use Rattle.lefdef_tokens.specs.declared.span.Span.{Span}
 

@@ -2,7 +2,7 @@
 //!
 //! Begin with `read_def::read_def`, which says where the statements of a text stand, or what its fault is. Of a text that reads
 //! `records::statements_of` gives all statements in order, and `records::component_named` the entry of a component.
-//! `read_statement::read_statement` reads one statement, and `components` has the parts of an entry.
+//! `read_statement::read_statement` reads one statement. The parts of entries are in `place_parts`, `via_parts` and `wire_parts`.
 //!
 //! What statements say is defined in `def_grammar/specs/Records`, and `specs/StatementViews` says how a statement of the
 //! program is seen there. Statements and their parts lend their tokens from the text that was read (`specs/Lent`).

@@ -5,10 +5,9 @@ ghost use Rattle.std.specs.List.{All};
 ghost use Rattle.std.specs.Option.{option_map};
 ghost use Rattle.statement_model.specs.Form.{spell};
 ghost use Rattle.def_grammar.specs.Components.{component_form};
-ghost use Rattle.statement_model.specs.Tokens.{Piece};
+ghost use Rattle.statement_model.specs.Tokens.{Token};
 ghost use Rattle.def_grammar.specs.Records.{component, component_of, entry, entry_of, Record, read_def};
-ghost use Rattle.design_rules.specs.Edits.{component_at, component_if, located};
-ghost use Rattle.design_rules.specs.Entries.{entry_at, is_entry};
+ghost use Rattle.def_grammar.specs.Located.{component_at, component_if, located, entry_at, is_entry};
 ghost use Rattle.lefdef_tokens.specs.Views.{pieces_of, span_of, words_of};
 ghost use Rattle.place_parts.specs.ComponentViews.{component_view, ComponentIn};
 ghost use Rattle.def_reader.specs.Lent.{ReadIn, StatementIn};
@@ -55,7 +54,7 @@ pub fn statements_of<'t, A: Allocator>(
 
 /// The component of an entry, where it has this name.
 fn named<'t>(statement: Statement<'t>, name: &[u8]) -> Option<ComponentParts<'t>>
-    ensures gives { (ps : List Piece) → option_map (with_tokens ps) result ≡ component_if name.now ps (component_of (record_view statement.entry)) }
+    ensures gives { (ps : List Token) → option_map (with_tokens ps) result ≡ component_if name.now ps (component_of (record_view statement.entry)) }
     ensures entry { IfSome result (λ c. record_view statement.entry ≡ entry (component (component_view c))) }
     ensures lent { (text : List ℕ) → StatementIn text statement.entry → IfSome result (λ c. ComponentIn text c) }
 {

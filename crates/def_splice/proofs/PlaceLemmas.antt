@@ -13,7 +13,7 @@ use Rattle.design_model.specs.declared.edit.EditCode.{EditCode}
 use Rattle.design_model.specs.declared.edit.EditCode.TheVariants.{TooLong}
 use Rattle.design_model.specs.declared.geometry.Orient.{Orient}
 use Rattle.form_meanings.specs.Meaning.{spell_all}
-use Rattle.statement_model.specs.Tokens.{Piece}
+use Rattle.statement_model.specs.Tokens.{Token}
 use Rattle.statement_model.specs.Cuts.{Cut, end_of, end_of_all, with_cuts}
 use Rattle.statement_model.specs.Form.{spell}
 use Rattle.statement_model.specs.Reading.{pos_of}
@@ -23,23 +23,24 @@ use Rattle.design_model.specs.declared.edit.EditRefusal.{EditRefusal}
 use Rattle.design_model.specs.declared.edit.EditRefusal.TheVariants.{Refused, Unreadable, Memory}
 use Rattle.lef_grammar.specs.Library.{Library}
 use Rattle.design_rules.specs.ComponentEdits.{place_at, component_plan, fixed_part, is_out, place_change, place_plan, placed_text, tokens_of}
-use Rattle.design_rules.specs.Edits.{place, located, component_at}
+use Rattle.design_rules.specs.Edits.{place}
+use Rattle.def_grammar.specs.Located.{located, component_at}
 use Rattle.design_rules.specs.Plans.{cut_of, is_long, outcome_of}
-use Rattle.lefdef_tokens.specs.Pieces.{end_after, pieces_of, span_of, words_of}
+use Rattle.lefdef_tokens.specs.TokenViews.{end_after, pieces_of, span_of, words_of}
 use Rattle.lefdef_tokens.specs.declared.token_run.TokenRun.{TokenRun}
 use Rattle.place_parts.specs.PlacingViews.{IsPlacing}
 use Rattle.design_rules.specs.Runs.{Makes, MayWantMemory}
 use Rattle.def_splice.specs.SpliceViews.{clause_cut, Follows, MakesSplices}
 
-end_is : (p : Piece) (ps : List Piece) → end_after (end_of p) ps ≡ end_of_all (p ∷ ps)
+end_is : (p : Token) (ps : List Token) → end_after (end_of p) ps ≡ end_of_all (p ∷ ps)
 end_is p [] = refl
 end_is p (q ∷ qs) = end_is q qs
 
-pub span_end : (ps : List Piece) → (span_of ps).hi ≡ end_of_all ps
+pub span_end : (ps : List Token) → (span_of ps).hi ≡ end_of_all ps
 span_end [] = refl
 span_end (p ∷ ps) = end_is p ps
 
-pub span_start : (ps : List Piece) → (span_of ps).lo ≡ pos_of ps
+pub span_start : (ps : List Token) → (span_of ps).lo ≡ pos_of ps
 span_start [] = refl
 span_start (p ∷ ps) = refl
 
@@ -102,7 +103,7 @@ module _ (text : List ℕ) (entry : TokenRun) (c : Component) (x y : ℤ) (o : O
   cut_of_clause view (Some p) is found spelled = cut_in_place p.1 found
 
 -- why a placement is refused, and its cut where it is not
-module _ (text : List ℕ) (x y : ℤ) (o : Orient) (ps : List Piece) (c : Component) where
+module _ (text : List ℕ) (x y : ℤ) (o : Orient) (ps : List Token) (c : Component) where
   abbrev outcome : Result (List Cut) EditCode
   outcome = outcome_of text (place_plan x y o ps c)
 
@@ -128,12 +129,12 @@ design_of (Ok design) reads = (design, refl)
 design_of (Err f) reads = absurd (cc)
 
 -- what the plan for the entry that is found gives is what the edit makes
-module _ (library : Library) (text : List ℕ) (name : List ℕ) (x y : ℤ) (o : Orient) (s : List Piece × Component) (design : List Record) (reads : read_def text ≡ Ok design) (found : component_at name (located text design) ≡ Some s) (own : List ℕ) (same : own ≡ text) where
+module _ (library : Library) (text : List ℕ) (name : List ℕ) (x y : ℤ) (o : Orient) (s : List Token × Component) (design : List Record) (reads : read_def text ≡ Ok design) (found : component_at name (located text design) ≡ Some s) (own : List ℕ) (same : own ≡ text) where
   pub makes_so : (gives : Result (List Cut) EditCode) → outcome_of own (place_plan x y o s.0 s.1) ≡ gives → Makes library text (place name x y o) gives
   makes_so gives is = (
     design,
     reads,
-    ap (λ (f : Option (List Piece × Component)). outcome_of text (component_plan library (place_at x y o) f)) found
+    ap (λ (f : Option (List Token × Component)). outcome_of text (component_plan library (place_at x y o) f)) found
         ∙ (ap (λ (t : List ℕ). outcome_of t (place_plan x y o s.0 s.1)) (sym same) ∙ is),
   )
 

@@ -7,7 +7,7 @@ use Rattle.design_model.specs.declared.edit.EditRefusal.TheVariants.{Refused, Un
 use Rattle.design_model.specs.declared.edit.Splice.{Splice}
 use Rattle.statement_model.specs.Cuts.{Cut, end_of_all, with_cuts}
 use Rattle.statement_model.specs.Reading.{pos_of}
-use Rattle.statement_model.specs.Tokens.{Piece}
+use Rattle.statement_model.specs.Tokens.{Token}
 use Rattle.def_grammar.specs.Components.{Clause}
 use Rattle.def_grammar.specs.Placing.{is_held}
 use Rattle.lef_grammar.specs.Library.{Library}
@@ -28,7 +28,7 @@ AreInOrder at [] n = at ≤ n
 AreInOrder at (s ∷ ss) n = (at ≤ s.lo) × (s.lo ≤ s.hi) × AreInOrder s.hi ss n
 
 -- the cut that puts a clause in the place of these tokens, or at the end of an entry
-abbrev pub clause_cut : List ℕ → List Piece → Option (List Piece) → List ℕ → Cut
+abbrev pub clause_cut : List ℕ → List Token → Option (List Token) → List ℕ → Cut
 clause_cut text entry (Some ps) put = put_apart text (pos_of ps) (end_of_all ps) put
 clause_cut text entry None put = put_apart text (end_of_all (take (length entry - 1) entry)) (end_of_all (take (length entry - 1) entry)) (codes " + " ++ put)
 

@@ -8,10 +8,7 @@ use design_model::edit::{Splice, Splices};
 use std::alloc::{AllocError, Allocator};
 
 /// Makes one splice: only the bytes behind it are moved. A refused growth leaves the text as it was.
-fn make_one<A: Allocator + Copy>(
-    text: &mut Vec<u8, A>,
-    splice: Splice<A>,
-) -> Result<(), AllocError>
+fn make_one<A: Allocator + Copy>(text: &mut Vec<u8, A>, splice: Splice<A>) -> Result<(), AllocError>
     requires order { splice.lo ≤ splice.hi }
     requires within { splice.hi ≤ length text.old.items }
     ensures ok { OnOk result (text.new.items ≡ made (splice ∷ []) text.old.items) }

@@ -5,7 +5,7 @@ ghost use Rattle.std.specs.Option.{option_map};
 ghost use Rattle.statement_model.specs.Form.{spell};
 ghost use Rattle.def_grammar.specs.Components.{component_form};
 ghost use Rattle.def_grammar.specs.Records.{Record, read_def};
-ghost use Rattle.design_rules.specs.Edits.{component_at, located};
+ghost use Rattle.def_grammar.specs.Located.{component_at, located};
 ghost use Rattle.lefdef_tokens.specs.Views.{words_of};
 ghost use Rattle.place_parts.specs.ComponentViews.{component_view};
 ghost use Rattle.def_reader.specs.RecordViews.{entry_view};

@@ -21,6 +21,10 @@ kind_word Blocked = codes "blocked"
 kind_word Fence = codes "fence"
 kind_word Intruder = codes "intruder"
 
+-- all kinds
+abbrev pub kinds : List DiagKind
+kinds = Count ∷ Overlap ∷ Unknown ∷ ViaLayer ∷ Unchecked ∷ OffRow ∷ OffSite ∷ Flip ∷ Outside ∷ Blocked ∷ Fence ∷ Intruder ∷ []
+
 -- a line: its kind, its words and its numbers, parted by spaces
 abbrev pub line_text : DiagKind → List (List ℕ) → List ℤ → List ℕ
 line_text kind words nums = (kind_word kind ++ flat_map (λ w. 32 ∷ w) words) ++ flat_map (λ n. 32 ∷ signed_decimal n) nums

@@ -7,7 +7,7 @@ use Rattle.form_meanings.specs.Words.{◌>>=◌}
 use Rattle.design_model.specs.declared.mode.Section.{Section}
 use Rattle.design_model.specs.declared.mode.Section.TheVariants.{Components, NonDefaultRules, Vias}
 use Rattle.design_model.specs.EnumWords.{section_word}
-use Rattle.lef_grammar.specs.Firsts.{find_named}
+use Rattle.form_meanings.specs.Firsts.{find_named}
 use Rattle.def_grammar.specs.Components.{Component}
 use Rattle.def_grammar.specs.DefVias.{DefVia}
 use Rattle.def_grammar.specs.Rules.{Rule}

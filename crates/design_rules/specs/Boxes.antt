@@ -8,13 +8,12 @@ use Rattle.design_model.specs.Units.{nearest}
 use Rattle.form_meanings.specs.Words.{◌>>=◌, is_word, first}
 use Rattle.def_grammar.specs.Numbers.{int_of}
 use Rattle.def_grammar.specs.Parts.{Coordinates}
-use Rattle.def_grammar.specs.Components.{Clause, placed, Component}
+use Rattle.def_grammar.specs.Components.{Clause, placed, Component, region_of_clause}
 use Rattle.def_grammar.specs.Records.{Record, component_of, units_of}
 use Rattle.lef_grammar.specs.Definitions.{Distances}
 use Rattle.lef_grammar.specs.Library.{Macro, Library, macro_named}
 use Rattle.def_grammar.specs.Placing.{placing}
-use Rattle.lef_grammar.specs.Firsts.{first_of}
-use Rattle.entry_rules.specs.References.{region_of_clause}
+use Rattle.form_meanings.specs.Firsts.{first_of}
 
 -- database units per micron: those of UNITS
 abbrev pub units_or_1 : Option (List ℕ) → ℕ

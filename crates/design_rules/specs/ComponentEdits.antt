@@ -8,7 +8,7 @@ use Rattle.design_model.specs.declared.geometry.Orient.{Orient}
 use Rattle.design_model.specs.declared.geometry.Status.TheVariants.{Placed}
 use Rattle.design_model.specs.EnumWords.{orient_word}
 use Rattle.form_meanings.specs.Meaning.{spell_all}
-use Rattle.statement_model.specs.Tokens.{Piece}
+use Rattle.statement_model.specs.Tokens.{Token}
 use Rattle.statement_model.specs.Form.{spell}
 use Rattle.def_grammar.specs.Components.{Clause, placed, Component, clause}
 use Rattle.def_grammar.specs.Placing.{placing, before_placing, with_placing, is_held}
@@ -66,7 +66,7 @@ abbrev pub is_out : ℤ → Bool
 is_out z = int_lt z (neg_ℤ (pos 2147483647)) || int_lt (pos 2147483647) z
 
 -- the plan of placing a component, for the tokens of its entry
-abbrev pub place_plan : ℤ → ℤ → Orient → List Piece → Component → Plan
+abbrev pub place_plan : ℤ → ℤ → Orient → List Token → Component → Plan
 place_plan x y o ps c = record {
   refusals = (is_held (placing c.clauses), Fixed) ∷ (is_out x || is_out y, Number) ∷ [];
   changes = (ps, place_change x y o c) ∷ [];
@@ -76,10 +76,10 @@ place_plan x y o ps c = record {
 abbrev pub edited_component : ComponentChange → Component → Component
 edited_component (place_at x y o) c = placed_component x y o c
 
-abbrev pub entry_plan : Library → ComponentChange → List Piece → Component → Plan
+abbrev pub entry_plan : Library → ComponentChange → List Token → Component → Plan
 entry_plan library (place_at x y o) ps c = place_plan x y o ps c
 
 -- where no component has the name, it is unknown
-abbrev pub component_plan : Library → ComponentChange → Option (List Piece × Component) → Plan
+abbrev pub component_plan : Library → ComponentChange → Option (List Token × Component) → Plan
 component_plan library change None = refused_plan UnknownName
 component_plan library change (Some s) = entry_plan library change s.0 s.1

@@ -1,18 +1,17 @@
 -- Edits of a design (own): the cuts that they make in a text, and what they make of its records.
-use Rattle.std.specs.Prelude.{ℕ, List, [], ◌∷◌, map, zip, Option, Some, None, Result, ℤ, if◌then◌else◌}
+use Rattle.std.specs.Prelude.{ℕ, List, map, Result, ℤ, if◌then◌else◌}
 use Rattle.std.specs.Str.{bytes_eq}
 use Rattle.design_model.specs.declared.edit.Edit.{Edit}
 use Rattle.design_model.specs.declared.edit.EditCode.{EditCode}
 use Rattle.design_model.specs.declared.geometry.Orient.{Orient}
-use Rattle.statement_model.specs.Tokens.{Piece, tokens}
-use Rattle.statement_model.specs.Boundaries.{statements}
 use Rattle.statement_model.specs.Cuts.{Cut}
 use Rattle.def_grammar.specs.Components.{Component}
-use Rattle.def_grammar.specs.Records.{Entry, component, Record, entry, component_of, def_ending}
+use Rattle.def_grammar.specs.Records.{Entry, component, Record, entry}
 use Rattle.lef_grammar.specs.Library.{Library}
 use Rattle.design_rules.specs.ComponentEdits.{ComponentChange, place_at, component_change, edited_component, component_plan}
 use Rattle.design_rules.specs.Plans.{Plan, outcome_of}
 pub use Rattle.design_rules.specs.Plans.{is_long}
+use Rattle.def_grammar.specs.Located.{located, component_at}
 
 -- an edit, by the group that it is of, with its names as lists of bytes
 pub data Change : Type 0 where
@@ -24,23 +23,6 @@ place name x y o = of_component name (place_at x y o)
 -- the edit that a borrowed one is
 abbrev pub change_of : Edit → Change
 change_of edit = of_component (component_change edit).0 (component_change edit).1
-
--- the statements of a text with their records
-abbrev pub located : List ℕ → List Record → List (List Piece × Record)
-located text design = zip (statements def_ending [] (tokens text).pieces).0 design
-
--- the entry of a component: its tokens, and what it says
-abbrev pub component_if : List ℕ → List Piece → Option Component → Option (List Piece × Component)
-component_if name ps None = None
-component_if name ps (Some c) = if bytes_eq c.name name then Some (ps, c) else None
-
-abbrev pub or_later : {A : Type 0} → Option A → Option A → Option A
-or_later (Some a) later = Some a
-or_later None later = later
-
-abbrev pub component_at : List ℕ → List (List Piece × Record) → Option (List Piece × Component)
-component_at name [] = None
-component_at name (s ∷ ss) = or_later (component_if name s.0 (component_of s.1)) (component_at name ss)
 
 -- the plan of an edit of a text that reads as this design
 abbrev pub plan_of : Library → List ℕ → List Record → Change → Plan

@@ -6,12 +6,11 @@ use Rattle.design_model.specs.declared.edit.EditCode.TheVariants.{UnknownName}
 use Rattle.design_model.specs.declared.edit.EditRefusal.{EditRefusal}
 use Rattle.design_model.specs.declared.edit.EditRefusal.TheVariants.{Refused, Unreadable}
 use Rattle.design_model.specs.Codes.{fault_number, refusal_number}
-use Rattle.statement_model.specs.Tokens.{Piece}
+use Rattle.statement_model.specs.Tokens.{Token}
 use Rattle.def_grammar.specs.Records.{Record, read_def}
 use Rattle.lef_grammar.specs.Library.{Library}
 use Rattle.design_rules.specs.Diagnostics.{diagnostics}
-use Rattle.design_rules.specs.Edits.{located}
-use Rattle.design_rules.specs.Entries.{bytes_of, entry_at}
+use Rattle.def_grammar.specs.Located.{located, bytes_of, entry_at}
 use Rattle.design_rules.specs.Runs.{Answers}
 use Rattle.design_rules.specs.Script.{Question, report, shown, Order, nothing, make, refuse, ask, bad, script_lines, order_of}
 
@@ -42,7 +41,7 @@ counted (Ok done) t = record t { accepted = t.accepted + 1 }
 counted (Err refusal) t = record t { refused = t.refused + 1 }
 
 -- the bytes of an entry
-abbrev pub entry_line : List ℕ → Option (List Piece × Record) → Result (List ℕ) EditCode
+abbrev pub entry_line : List ℕ → Option (List Token × Record) → Result (List ℕ) EditCode
 entry_line text None = Err UnknownName
 entry_line text (Some x) = Ok (bytes_of text x.0 ++ 10 ∷ [])
 

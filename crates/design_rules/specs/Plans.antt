@@ -3,7 +3,7 @@ use Rattle.std.specs.Prelude.{ℕ, Bool, true, false, not, ◌==◌, nat_lt, Lis
 use Rattle.design_model.specs.declared.TheConstants.{MAX_TEXT}
 use Rattle.design_model.specs.declared.edit.EditCode.{EditCode}
 use Rattle.design_model.specs.declared.edit.EditCode.TheVariants.{TooLong}
-use Rattle.statement_model.specs.Tokens.{Piece, is_white}
+use Rattle.statement_model.specs.Tokens.{Token, is_white}
 use Rattle.statement_model.specs.Cuts.{Cut, with_cuts, space_before, end_of_all}
 use Rattle.statement_model.specs.Reading.{pos_of}
 use Rattle.def_grammar.specs.Records.{Record}
@@ -20,13 +20,13 @@ pub record StatementChange : Type 0 where
 -- it makes, each with the tokens of its statement, in the order of the text.
 pub record Plan : Type 0 where
   pub refusals : List (Bool × EditCode)
-  pub changes : List (List Piece × StatementChange)
+  pub changes : List (List Token × StatementChange)
 
 -- the tokens that are taken, and those before them
-abbrev pub taken_tokens : StatementChange → List Piece → List Piece
+abbrev pub taken_tokens : StatementChange → List Token → List Token
 taken_tokens c ps = take c.taken (drop c.before ps)
 
-abbrev pub tokens_before : StatementChange → List Piece → List Piece
+abbrev pub tokens_before : StatementChange → List Token → List Token
 tokens_before c ps = take c.before ps
 
 -- bytes that a byte behind them would be glued to: there are some, and the last is no white space
@@ -44,16 +44,16 @@ abbrev pub put_apart : List ℕ → ℕ → ℕ → List ℕ → Cut
 put_apart text lo hi put = record { lo = lo; hi = hi; put = put ++ space_between put (drop hi text) }
 
 -- where bytes go that take no token: right after the token before, or to the place of the first
-abbrev pub gap_after : ℕ → List Piece → ℕ
+abbrev pub gap_after : ℕ → List Token → ℕ
 gap_after before ps = if before == 0 then pos_of ps else end_of_all (take before ps)
 
 -- the cut of a change: from the first token that is taken to the last, or in the gap
-abbrev pub cut_of : List ℕ → List Piece → StatementChange → Cut
+abbrev pub cut_of : List ℕ → List Token → StatementChange → Cut
 cut_of text ps c =
     if c.taken == 0 then put_apart text (gap_after c.before ps) (gap_after c.before ps) c.put
     else put_apart text (pos_of (taken_tokens c ps)) (end_of_all (taken_tokens c ps)) c.put
 
-abbrev pub cuts_for : List ℕ → List (List Piece × StatementChange) → List Cut
+abbrev pub cuts_for : List ℕ → List (List Token × StatementChange) → List Cut
 cuts_for text changes = map (λ s. cut_of text s.0 s.1) changes
 
 -- the first refusal that applies

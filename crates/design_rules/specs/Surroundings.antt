@@ -22,7 +22,7 @@ use Rattle.def_grammar.specs.Top.{row, die_area}
 use Rattle.def_grammar.specs.Records as records
 use Rattle.def_grammar.specs.Records.{Record, top, entry}
 use Rattle.lef_grammar.specs.Definitions.{Distances, Site}
-use Rattle.lef_grammar.specs.Firsts.{first_of}
+use Rattle.form_meanings.specs.Firsts.{first_of}
 use Rattle.lef_grammar.specs.Library.{Library, site_named}
 use Rattle.place_rules.specs.Sites.{SiteRow, turned_size}
 use Rattle.design_rules.specs.Boxes.{scale}

@@ -3,8 +3,7 @@ use Rattle.std.proofs.Common.{◌≡◌, List, [], ◌∷◌, Option, Some, None
 use Rattle.std.specs.List.{cons_option, filter_map}
 use Rattle.std.specs.Option.{option_map}
 use Rattle.form_meanings.specs.Words.{first}
-use Rattle.def_grammar.specs.DefVias.{ViaClause}
-use Rattle.entry_rules.specs.References.{layers_of_clause}
+use Rattle.def_grammar.specs.DefVias.{ViaClause, layers_of_clause}
 use Rattle.net_rules.specs.ViaRectangles.{array_of_clause, enclosure_of_clause, layer_names, offset_of_clause, origin_of_clause, size_of_clause, spacing_of_clause}
 use Rattle.design_wires.specs.PlanClauses.{Said, all_said, first_said, firsts_said, said_by, said_in}
 use Rattle.design_wires.specs.PlanViews.{IsPlan}

@@ -4,9 +4,8 @@ use Rattle.std.specs.List.{filter_map, list_any}
 use Rattle.std.specs.Option.{option_map, option_or}
 use Rattle.std.specs.Str.{bytes_eq}
 use Rattle.std.proofs.lemmas.Slice.Eq.{bytes_eq-Decides}
-use Rattle.lef_grammar.specs.Firsts.{find_named, has_name, with_all, with_first}
-use Rattle.def_grammar.specs.Rules.{Rule}
-use Rattle.entry_rules.specs.References.{layer_of_rule}
+use Rattle.form_meanings.specs.Firsts.{find_named, has_name, with_all, with_first}
+use Rattle.def_grammar.specs.Rules.{Rule, layer_of_rule}
 use Rattle.net_rules.specs.Widths.{def_rule_width}
 use Rattle.design_wires.specs.RuleLayers.{first_width, layer_name, width_of}
 

@@ -8,7 +8,7 @@ use Rattle.std.proofs.lemmas.Slice.Eq.{bytes_eq-Decides}
 use Rattle.form_meanings.specs.Words.{◌>>=◌}
 use Rattle.def_grammar.specs.DefVias.{DefVia}
 use Rattle.def_grammar.specs.Records.{Record, Entry, entry_of}
-use Rattle.lef_grammar.specs.Firsts.{find_named, has_name, with_first}
+use Rattle.form_meanings.specs.Firsts.{find_named, has_name, with_first}
 use Rattle.lef_grammar.specs.Library.{Library, Via, via_named}
 use Rattle.lef_grammar.specs.Definitions as lef
 use Rattle.entry_rules.specs.ViaLayers.{body_layers, def_via_layers, def_via_named, def_vias, layers_named, or_lef, via_of_entry}

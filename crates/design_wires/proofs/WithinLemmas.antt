@@ -5,7 +5,7 @@ use Rattle.std.proofs.lemmas.Int.{ints, clamps}
 use Rattle.design_model.specs.declared.geometry.Point.{Point}
 use Rattle.design_model.specs.Geometry.{Rectangle, spanned}
 use Rattle.cell_library.specs.Numbers as cells
-use Rattle.wire_rules.specs.Ranges.{IsBoxWithin, IsPointWithin, IsWithin}
+use Rattle.design_model.specs.Ranges.{IsBoxWithin, IsPointWithin, IsWithin}
 
 pub within : (n : ℕ) (z : ℤ) → nat_abs z ≤ n → IsWithin n z
 within n z h = record { low = omega (arith, ints, h); high = omega (arith, ints, h) }

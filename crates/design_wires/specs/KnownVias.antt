@@ -3,7 +3,7 @@ use Rattle.std.specs.Prelude.{◌≡◌, ℕ, Bool, true, ◌||◌, List, ◌++�
 use Rattle.std.specs.List.{list_any}
 use Rattle.def_grammar.specs.DefVias.{DefVia}
 use Rattle.def_grammar.specs.Records.{Record}
-use Rattle.lef_grammar.specs.Firsts.{has_name}
+use Rattle.form_meanings.specs.Firsts.{has_name}
 use Rattle.lef_grammar.specs.Library.{Via}
 use Rattle.entry_rules.specs.ViaLayers.{def_vias, layers_named}
 use Rattle.entry_checks.specs.JoinedLayers.{JoinsThose}

@@ -6,7 +6,7 @@ pub mod PlanClauses
 pub mod PlanViews
 pub mod RuleLayers
 pub mod RuleWidths
-pub mod RulesOf
+pub mod MakingsOf
 pub mod ScaleRange
 pub mod Scales
 pub mod ViaRectsLeft

@@ -2,9 +2,8 @@
 use Rattle.std.specs.Prelude.{ℕ, ℤ, List, Option, Some, None}
 use Rattle.std.specs.Option.{option_map}
 use Rattle.design_model.specs.declared.geometry.Point.{Point}
-use Rattle.lef_grammar.specs.Firsts.{first_of}
-use Rattle.def_grammar.specs.DefVias.{ViaClause}
-use Rattle.entry_rules.specs.References.{layers_of_clause}
+use Rattle.form_meanings.specs.Firsts.{first_of}
+use Rattle.def_grammar.specs.DefVias.{ViaClause, layers_of_clause}
 use Rattle.net_rules.specs.ViaRectangles.{Metals, array_of_clause, enclosure_of_clause, layer_names, offset_of_clause, origin_of_clause, size_of_clause, spacing_of_clause}
 use Rattle.cell_library.specs.ViaViews.{array_view, names_view}
 use Rattle.design_wires.specs.PlanViews.{metals_view}

@@ -3,7 +3,7 @@ use Rattle.std.specs.Prelude.{ℤ, pos, Option, IfSome}
 use Rattle.std.specs.Option.{option_map}
 use Rattle.cell_library.specs.ViaViews.{array_view, names_view}
 use Rattle.net_rules.specs.ViaRectangles.{Metals, generated_of, origin}
-use Rattle.wire_rules.specs.Ranges.{IsPointWithin}
+use Rattle.design_model.specs.Ranges.{IsPointWithin}
 use Rattle.wire_rules.specs.ViaShapes.{GeneratedVia}
 use Rattle.design_wires.specs.declared.via_plan.Metals as code_metals
 use Rattle.design_wires.specs.declared.via_plan.ViaPlan.{ViaPlan}

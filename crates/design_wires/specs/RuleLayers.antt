@@ -2,10 +2,9 @@
 use Rattle.std.specs.Prelude.{ℕ, List, Option, ℤ}
 use Rattle.std.specs.List.{filter_map}
 use Rattle.std.specs.Option.{option_map}
-use Rattle.lef_grammar.specs.Firsts.{find_named}
+use Rattle.form_meanings.specs.Firsts.{find_named}
 use Rattle.def_grammar.specs.Numbers.{int_of}
-use Rattle.def_grammar.specs.Rules.{RuleClause, RuleLayer}
-use Rattle.entry_rules.specs.References.{layer_of_rule}
+use Rattle.def_grammar.specs.Rules.{RuleClause, RuleLayer, layer_of_rule}
 
 abbrev pub layer_name : RuleLayer → List ℕ
 layer_name l = l.layer

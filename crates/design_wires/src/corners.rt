@@ -4,7 +4,7 @@ ghost use Rattle.std.specs.Prelude.{◌≡◌};
 ghost use Rattle.design_model.specs.Views.{rectangle_of};
 ghost use Rattle.def_parts.specs.PointViews.{corners_view};
 ghost use Rattle.net_rules.specs.ViaRectangles.{box_of};
-ghost use Rattle.wire_rules.specs.Ranges.{IsBoxWithin};
+ghost use Rattle.design_model.specs.Ranges.{IsBoxWithin};
 
 use def_parts::points::Corners;
 use design_model::geometry::Rect;

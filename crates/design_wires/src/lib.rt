@@ -1,8 +1,8 @@
 //! What wires and vias of a design are made by, over statements that were read once and over its library.
 //!
 //! Begin with `wires::DesignWires`, which finds all vias of a design and of its library once. With it, as
-//! `rules_of_design::DesignRules`, `wire_reading::net_pieces` and `special_net_pieces` give the pieces of the wires of an
-//! entry. It makes `rules::NetRules` and `special_rules::SpecialRules`, the widths and the vias of one wire, as `wire_shapes`
+//! `makings_of_design::DesignMakings`, `wire_reading::net_pieces` and `special_net_pieces` give the pieces of the wires of an
+//! entry. It makes `rules::NetMakings` and `special_makings::SpecialMakings`, the widths and the vias of one wire, as `wire_shapes`
 //! asks for them; `via_rects::ViaRects` has the rectangles of one via about its origin. What they say is defined in
 //! `net_rules/specs`: `Widths`, `ViaRectangles` and `WirePieces`; `specs/KnownVias` says what the table of vias holds, and
 //! `specs/ViaRectsLeft` which rectangles are left to be given.
@@ -17,13 +17,13 @@ pub mod definitions;
 pub mod known_shapes;
 mod known_via;
 mod layer_rects;
+pub mod makings;
+pub mod makings_of_design;
 mod near_shape;
 mod rule_widths;
-pub mod rules;
-pub mod rules_of_design;
 pub mod scale;
 mod sizes;
-pub mod special_rules;
+pub mod special_makings;
 mod via_clauses;
 mod via_plan;
 mod via_plans;

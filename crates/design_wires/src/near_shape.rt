@@ -1,7 +1,7 @@
 //! Shapes of vias, as a table keeps them.
 
 ghost use Rattle.design_model.specs.Views.{rectangle_of};
-ghost use Rattle.wire_rules.specs.Ranges.{IsBoxWithin};
+ghost use Rattle.design_model.specs.Ranges.{IsBoxWithin};
 ghost use Rattle.wire_shapes.specs.RuleViews.{shape_reach};
 
 use wire_shapes::LayerShape;

@@ -6,7 +6,7 @@ ghost use Rattle.def_grammar.specs.Numbers.{int_of};
 ghost use Rattle.via_parts.specs.RuleViews.{rule_view, rule_clauses_of};
 ghost use Rattle.cell_library.specs.RuleViews.{rule_view as lef_rule_view};
 ghost use Rattle.net_rules.specs.Widths.{def_rule_width, lef_rule_width};
-ghost use Rattle.wire_rules.specs.Ranges.{IsWithin};
+ghost use Rattle.design_model.specs.Ranges.{IsWithin};
 ghost use Rattle.design_wires.specs.RuleLayers.{first_width};
 ghost use Rattle.design_wires.specs.Scales.{units_of};
 

@@ -1,7 +1,7 @@
 //! Lengths and numbers of cuts, put in range.
 
 ghost use Rattle.std.specs.Prelude.{◌≡◌, ◌<◌, ◌≤◌, pos};
-ghost use Rattle.wire_rules.specs.Ranges.{IsPointWithin, IsSize, IsWithin};
+ghost use Rattle.design_model.specs.Ranges.{IsPointWithin, IsSize, IsWithin};
 ghost use Rattle.wire_rules.specs.Sizes.{as_cuts, as_size, as_sizes};
 
 use design_model::geometry::Point;

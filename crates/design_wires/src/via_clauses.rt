@@ -3,7 +3,7 @@
 
 ghost use Rattle.std.specs.Prelude.{◌≡◌, Some, IfSome, is_some};
 ghost use Rattle.std.specs.Option.{option_map};
-ghost use Rattle.lef_grammar.specs.Firsts.{first_of};
+ghost use Rattle.form_meanings.specs.Firsts.{first_of};
 ghost use Rattle.def_grammar.specs.Numbers.{int_of};
 ghost use Rattle.def_grammar.specs.Points.{place_of};
 ghost use Rattle.def_parts.specs.PointViews.{point_view};
@@ -11,7 +11,7 @@ ghost use Rattle.entry_rules.specs.ViaLayers.{rule_of_via};
 ghost use Rattle.net_rules.specs.ViaRectangles.{layer_names, metals_of};
 ghost use Rattle.cell_library.specs.ViaViews.{array_view, names_view};
 ghost use Rattle.via_parts.specs.ViaViews.{by_layer_view, via_clause_view, via_clauses_of, via_layers_view};
-ghost use Rattle.wire_rules.specs.Ranges.{IsPointWithin};
+ghost use Rattle.design_model.specs.Ranges.{IsPointWithin};
 ghost use Rattle.design_wires.specs.PlanClauses.{all_said, first_said, firsts_said, said_by, said_in};
 ghost use Rattle.design_wires.specs.PlanViews.{AreNear, IsPlan, metals_view};
 

@@ -4,7 +4,7 @@ ghost use Rattle.std.specs.Prelude.{◌≡◌, IfSome};
 ghost use Rattle.std.specs.Option.{option_map};
 ghost use Rattle.cell_library.specs.ViaViews.{array_view};
 ghost use Rattle.net_rules.specs.ViaRectangles.{or_else, origin};
-ghost use Rattle.wire_rules.specs.Ranges.{IsPointWithin};
+ghost use Rattle.design_model.specs.Ranges.{IsPointWithin};
 ghost use Rattle.wire_shapes.specs.GeneratedViews.{IsGenerated, generated_view};
 ghost use Rattle.design_wires.specs.PlanViews.{IsPlan, AreNear, one_cut, metals_view, no_metals, plan_view};
 

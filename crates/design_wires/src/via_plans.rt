@@ -7,7 +7,7 @@ ghost use Rattle.net_rules.specs.ViaRectangles.{def_generated, lef_generated, me
 ghost use Rattle.cell_library.specs.Numbers.{point_view};
 ghost use Rattle.cell_library.specs.ViaViews.{generated_view, metals_view as micron_metals};
 ghost use Rattle.via_parts.specs.ViaViews.{via_view};
-ghost use Rattle.wire_rules.specs.Ranges.{IsPointWithin};
+ghost use Rattle.design_model.specs.Ranges.{IsPointWithin};
 ghost use Rattle.design_wires.specs.PlanViews.{AreNear, IsPlan, metals_view, plan_view};
 ghost use Rattle.design_wires.specs.Scales.{units_of};
 

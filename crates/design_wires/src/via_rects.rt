@@ -7,7 +7,7 @@ ghost use Rattle.cell_library.specs.ViaViews.{body_view};
 ghost use Rattle.design_model.specs.Views.{rectangle_of};
 ghost use Rattle.net_rules.specs.ViaRectangles.{body_shapes, def_via_shapes, listed_shape, shapes_if};
 ghost use Rattle.via_parts.specs.ViaViews.{via_clause_view, via_view};
-ghost use Rattle.wire_rules.specs.Ranges.{IsBoxWithin};
+ghost use Rattle.design_model.specs.Ranges.{IsBoxWithin};
 ghost use Rattle.wire_shapes.specs.RuleViews.{GivesShape, shape_reach, shape_view};
 ghost use Rattle.design_wires.specs.FoundVias.{found_view, shapes_of};
 ghost use Rattle.design_wires.specs.PlanViews.{IsPlan, plan_view};

@@ -4,7 +4,7 @@ ghost use Rattle.std.specs.Prelude.{◌≡◌, IfSome};
 ghost use Rattle.std.specs.Option.{option_map};
 ghost use Rattle.lefdef_tokens.specs.Views.{word_view};
 ghost use Rattle.net_rules.specs.Widths.{layer_width, rule_width, wire_width};
-ghost use Rattle.wire_rules.specs.Ranges.{IsSize, IsWithin};
+ghost use Rattle.design_model.specs.Ranges.{IsSize, IsWithin};
 ghost use Rattle.design_wires.specs.RuleWidths.{width_if};
 ghost use Rattle.design_wires.specs.Scales.{units_of};
 

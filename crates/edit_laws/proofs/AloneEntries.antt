@@ -5,14 +5,13 @@ use Rattle.std.proofs.lemmas.List.{length-take, length-drop, length-map}
 use Rattle.design_model.specs.declared.fault.Fault.{Fault}
 use Rattle.design_model.specs.declared.mode.Mode.TheVariants.{Top, In}
 use Rattle.design_model.specs.declared.mode.Section.{Section}
-use Rattle.statement_model.specs.Tokens.{Piece, Lexed, tokens, left_from}
+use Rattle.statement_model.specs.Tokens.{Token, Lexed, tokens, left_from}
 use Rattle.statement_model.specs.Boundaries.{Ending, words, is_whole, cut, statements, statement_from, statement_at}
 use Rattle.statement_model.specs.Cuts.{end_of_all}
 use Rattle.statement_model.specs.Reading.{pos_of, with_left, read_found, read_at}
 use Rattle.def_grammar.specs.Records.{Entry, section_of, Record, entry, def_ending, def}
-use Rattle.design_rules.specs.Edits.{located}
-use Rattle.design_rules.specs.Entries.{bytes_of}
-use Rattle.lefdef_tokens.specs.Laws.{moved_piece}
+use Rattle.def_grammar.specs.Located.{located, bytes_of}
+use Rattle.lefdef_tokens.specs.Laws.{moved_token}
 use Rattle.splicing_laws.specs.SliceLaws.{RunsAreTexts}
 use Rattle.edit_laws.specs.AloneLaws.{EntriesStandAlone}
 use Rattle.edit_laws.specs.EntryLaws.{IsWritten}
@@ -24,24 +23,24 @@ use Rattle.edit_laws.proofs.StandingStatements.{stands}
 use Rattle.edit_laws.proofs.WrittenEntries.{entries_are_written, tokens_need_text}
 
 -- tokens that are one statement are the first, and nothing is left
-one_is_cut : (ending : List ℕ → Ending) (before ps s : List Piece) → statements ending before ps ≡ (s ∷ [], []) → cut ending before ps ≡ Some (s, [])
+one_is_cut : (ending : List ℕ → Ending) (before ps s : List Token) → statements ending before ps ≡ (s ∷ [], []) → cut ending before ps ≡ Some (s, [])
 unfolding statements cut
-one_is_cut ending before [] s e = let none : [] ≡ s ∷ [] = ap (λ (x : List (List Piece) × List Piece). x.0) e in absurd (cc)
+one_is_cut ending before [] s e = let none : [] ≡ s ∷ [] = ap (λ (x : List (List Token) × List Token). x.0) e in absurd (cc)
 one_is_cut ending before (p ∷ ps) s e = ⊎_elim
     (λ whole.
     let later = statements ending [] ps in
     let h = rw whole at e in
-    let all : (before ++ p ∷ []) ∷ later.0 ≡ s ∷ [] = ap (λ (x : List (List Piece) × List Piece). x.0) h in
-    let left : later.1 ≡ [] = ap (λ (x : List (List Piece) × List Piece). x.1) h in
+    let all : (before ++ p ∷ []) ∷ later.0 ≡ s ∷ [] = ap (λ (x : List (List Token) × List Token). x.0) h in
+    let left : later.1 ≡ [] = ap (λ (x : List (List Token) × List Token). x.1) h in
     let first : before ++ p ∷ [] ≡ s = cc in
     let none : later.0 ≡ [] = cc in
-    let empty : ps ≡ [] = sym (all_kept ending [] ps) ∙ ap₂ (λ (ss : List (List Piece)) (rest : List Piece). joined ss ++ rest) none left in
-    rw whole (ap₂ (λ (t rest : List Piece). Some (t, rest)) first empty))
+    let empty : ps ≡ [] = sym (all_kept ending [] ps) ∙ ap₂ (λ (ss : List (List Token)) (rest : List Token). joined ss ++ rest) none left in
+    rw whole (ap₂ (λ (t rest : List Token). Some (t, rest)) first empty))
     (λ more. let h = rw more at e in rw more (one_is_cut ending (before ++ p ∷ []) ps s h))
     (cases (is_whole ending (before ++ p ∷ [])))
 
 -- tokens that are an entry's words are read as it, and nothing is left
-entry_is_next : (ps : List Piece) (end : Result ℕ Fault) (e : Entry) → IsWritten (words ps) e
+entry_is_next : (ps : List Token) (end : Result ℕ Fault) (e : Entry) → IsWritten (words ps) e
     → read_at def (In (section_of e)) (record { pieces = ps; end = end }) ≡ Ok (Some (entry e, In (section_of e), record { pieces = []; end = end }))
 unfolding read_at statement_at
 entry_is_next ps end e is =
@@ -50,21 +49,21 @@ entry_is_next ps end e is =
     let left : Lexed = record { pieces = []; end = end } in
     let reads = entry_reads ps e is in
     let first = one_is_cut def_ending [] ps ps reads.0 in
-    ap (λ (o : Option (List Piece × List Piece)). read_found def m l (statement_from o l)) first
+    ap (λ (o : Option (List Token × List Token)). read_found def m l (statement_from o l)) first
     ∙ ap (with_left def left) reads.1
 
 -- one statement has tokens
-some_tokens : (ps : List Piece) → statements def_ending [] ps ≡ (ps ∷ [], []) → 0 < length ps
+some_tokens : (ps : List Token) → statements def_ending [] ps ≡ (ps ∷ [], []) → 0 < length ps
 unfolding statements
-some_tokens [] e = let none : [] ≡ [] ∷ [] = ap (λ (x : List (List Piece) × List Piece). x.0) e in absurd (cc)
+some_tokens [] e = let none : [] ≡ [] ∷ [] = ap (λ (x : List (List Token) × List Token). x.0) e in absurd (cc)
 some_tokens (p ∷ ps) e = omega arith
 
 -- words are the same wherever they stand
-words_later : (k : ℕ) (ps : List Piece) → words (map (moved_piece k) ps) ≡ words ps
+words_later : (k : ℕ) (ps : List Token) → words (map (moved_token k) ps) ≡ words ps
 words_later k [] = refl
 words_later k (p ∷ ps) = ap (λ (ws : List (List ℕ)). p.bytes ∷ ws) (words_later k ps)
 
-same_length : (ps qs : List Piece) → words ps ≡ words qs → length ps ≡ length qs
+same_length : (ps qs : List Token) → words ps ≡ words qs → length ps ≡ length qs
 same_length ps qs e = sym (length-map ps _) ∙ (ap (λ (ws : List (List ℕ)). length ws) e ∙ length-map qs _)
 
 -- bytes that are there end within the text
@@ -72,8 +71,8 @@ ends_within : (text : List ℕ) (from to : ℕ) → from + length (slice_range t
 ends_within text from to long some = omega (arith, long, some, length-take (to - from) (drop from text), length-drop from text)
 
 -- the tokens of an entry's own bytes
-record OwnTokens (text : List ℕ) (ps : List Piece) : Type 0 where
-  own : List Piece
+record OwnTokens (text : List ℕ) (ps : List Token) : Type 0 where
+  own : List Token
   end : Result ℕ Fault
   read : left_from (bytes_of text ps) 0 ≡ record { pieces = own; end = end }
   same : words own ≡ words ps
@@ -81,7 +80,7 @@ record OwnTokens (text : List ℕ) (ps : List Piece) : Type 0 where
   within : end_of_all ps ≤ length text
 
 -- so an entry with these words is read from them alone
-reads_alone : (text : List ℕ) (ps : List Piece) (e : Entry) (s : Section) (own : OwnTokens text ps) → section_of e ≡ s → IsWritten (words ps) e
+reads_alone : (text : List ℕ) (ps : List Token) (e : Entry) (s : Section) (own : OwnTokens text ps) → section_of e ≡ s → IsWritten (words ps) e
     → read_at def (In s) (left_from (bytes_of text ps) 0) ≡ Ok (Some (entry e, In s, record { pieces = []; end = own.end }))
 reads_alone text ps e s own section says =
     let left : Lexed = record { pieces = []; end = own.end } in
@@ -91,7 +90,7 @@ reads_alone text ps e s own section says =
     ap (read_at def (In s)) own.read ∙ there
 
 module _ (runs_so : RunsAreTexts) where
-  own_tokens : (text : List ℕ) (front ps behind : List Piece) → (tokens text).pieces ≡ front ++ (ps ++ behind) → 0 < length ps → OwnTokens text ps
+  own_tokens : (text : List ℕ) (front ps behind : List Token) → (tokens text).pieces ≡ front ++ (ps ++ behind) → 0 < length ps → OwnTokens text ps
   own_tokens text front [] behind pieces some = absurd (omega arith)
   own_tokens text front (p ∷ run) behind pieces some =
       let bytes = bytes_of text (p ∷ run) in
@@ -110,7 +109,7 @@ module _ (runs_so : RunsAreTexts) where
 
   pub entries_stand_alone : EntriesStandAlone
   entries_stand_alone text design s name ps rec reads found =
-      let x : List Piece × Record = (ps, rec) in
+      let x : List Token × Record = (ps, rec) in
       let is = entry_found s name (located text design) x found in
       let st = is.stands in
       let whole = tokens_read text design reads in

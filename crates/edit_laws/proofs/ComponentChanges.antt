@@ -6,7 +6,7 @@ use Rattle.std.proofs.lemmas.Slice.Eq.{bytes_eq-Decides}
 use Rattle.design_model.specs.declared.edit.EditCode.TheVariants.{Fixed, Number}
 use Rattle.design_model.specs.declared.mode.Mode.TheVariants.{Top}
 use Rattle.design_model.specs.declared.mode.Section.TheVariants.{Components}
-use Rattle.statement_model.specs.Tokens.{Piece}
+use Rattle.statement_model.specs.Tokens.{Token}
 use Rattle.statement_model.specs.Boundaries.{words}
 use Rattle.statement_model.specs.Grammar.{Key}
 use Rattle.statement_model.specs.Reading.{same_words}
@@ -15,7 +15,8 @@ use Rattle.def_grammar.specs.Placing.{placing, is_held}
 use Rattle.def_grammar.specs.Records.{Entry, component, Record, top, in_properties, end_section, entry, entry_key, key_of, read_def}
 use Rattle.lef_grammar.specs.Library.{Library}
 use Rattle.design_rules.specs.ComponentEdits.{ComponentChange, place_at, placed_component, placing_change, place_change, is_out, edited_component, entry_plan, component_plan}
-use Rattle.design_rules.specs.Edits.{of_component, located, component_at, on_component, on_entry, applied}
+use Rattle.design_rules.specs.Edits.{of_component, on_component, on_entry, applied}
+use Rattle.def_grammar.specs.Located.{located, component_at}
 use Rattle.design_rules.specs.Plans.{StatementChange, lowest}
 use Rattle.edit_laws.specs.ComponentLaws.{ComponentsAreFound, ComponentPlansAreMade, ComponentPlansAreOne}
 use Rattle.edit_laws.specs.EntryLaws.{IsWritten, IsEditOf, EntriesAreWritten, OneIsEdited}
@@ -30,7 +31,7 @@ name_stays : (change : ComponentChange) (c : Component) → (edited_component ch
 name_stays (place_at x y o) c = refl
 
 -- a plan for the entry of a component is its change to the edited one
-record IsOne (ps : List Piece) (c new : Component) (changes : List (List Piece × StatementChange)) : Type 0 where
+record IsOne (ps : List Token) (c new : Component) (changes : List (List Token × StatementChange)) : Type 0 where
   change : StatementChange
   is : changes ≡ (ps, change) ∷ []
   holds : IsChange ps (entry (component c)) change
@@ -42,7 +43,7 @@ none_of_two true out e = absurd (cc)
 none_of_two false true e = absurd (cc)
 none_of_two false false e = (refl, refl)
 
-module _ (placings_so : PlacingsAreChanges) (library : Library) (ps : List Piece) (c : Component) (written : IsWritten (words ps) (component c)) where
+module _ (placings_so : PlacingsAreChanges) (library : Library) (ps : List Token) (c : Component) (written : IsWritten (words ps) (component c)) where
   one_change : (change : ComponentChange) → lowest (entry_plan library change ps c).refusals ≡ None → IsOne ps c (edited_component change c) (entry_plan library change ps c).changes
   one_change (place_at x y o) free =
       let none = none_of_two (is_held (placing c.clauses)) (is_out x || is_out y) free in
@@ -99,25 +100,25 @@ module _ (name : List ℕ) (change : ComponentChange) where
   same_keys (r ∷ recs) = ap₂ (λ (k : Key) (ks : List Key). k ∷ ks) (one_key r) (same_keys recs)
 
 -- the component that an edit finds, with its one change
-record Found (library : Library) (text : List ℕ) (design : List Record) (name : List ℕ) (change : ComponentChange) (s : List Piece × Component) : Type 0 where
+record Found (library : Library) (text : List ℕ) (design : List Record) (name : List ℕ) (change : ComponentChange) (s : List Token × Component) : Type 0 where
   stands : StandsAmong (located text design) s.0 (entry (component s.1))
   named : s.1.name ≡ name
   one : IsOne s.0 s.1 (edited_component change s.1) (entry_plan library change s.0 s.1).changes
 
 module _ (found_so : ComponentsAreFound) (written_so : EntriesAreWritten) (placings_so : PlacingsAreChanges) (library : Library) (text : List ℕ) (design : List Record) (name : List ℕ) (change : ComponentChange) (reads : read_def text ≡ Ok design) where
-  found_one : (s : List Piece × Component) → component_at name (located text design) ≡ Some s → lowest (entry_plan library change s.0 s.1).refusals ≡ None → Found library text design name change s
+  found_one : (s : List Token × Component) → component_at name (located text design) ≡ Some s → lowest (entry_plan library change s.0 s.1).refusals ≡ None → Found library text design name change s
   found_one s is free =
       let found = found_so (located text design) name s.0 s.1 is in
       let written = written_so text 0 (Top, []) design s.0 (component s.1) (tokens_read text design reads) found.0 in
       record { stands = found.0; named = found.1; one = one_change placings_so library s.0 s.1 written change free }
 
-  plan_is_one : (found : Option (List Piece × Component)) → component_at name (located text design) ≡ found → lowest (component_plan library change found).refusals ≡ None
-      → (x : List Piece × StatementChange) × ((component_plan library change found).changes ≡ x ∷ [])
+  plan_is_one : (found : Option (List Token × Component)) → component_at name (located text design) ≡ found → lowest (component_plan library change found).refusals ≡ None
+      → (x : List Token × StatementChange) × ((component_plan library change found).changes ≡ x ∷ [])
   plan_is_one None is free = absurd (cc)
   plan_is_one (Some s) is free = let f = found_one s is free in ((s.0, f.one.change), f.one.is)
 
   module _ (one_so : OneIsEdited) (keys_so : SameKeysAreOnce) where
-    plan_is_made : (found : Option (List Piece × Component)) → component_at name (located text design) ≡ found → Plans text design (component_plan library change found) (applied (of_component name change) design)
+    plan_is_made : (found : Option (List Token × Component)) → component_at name (located text design) ≡ found → Plans text design (component_plan library change found) (applied (of_component name change) design)
     plan_is_made None is = λ free. absurd (cc)
     plan_is_made (Some s) is = λ free.
         let f = found_one s is free in
@@ -128,7 +129,7 @@ module _ (found_so : ComponentsAreFound) (written_so : EntriesAreWritten) (placi
         let new = applied (of_component name change) design in
         let made : new ≡ records st.first ++ entry said ∷ records st.others = one_so text 0 (Top, []) design s.0 (component s.1) said (edited name change) whole st (is_edit name change s.1 f.named) in
         let put : new ≡ records st.first ++ (one.change.said ++ records st.others) = made ∙ ap (λ (rs : List Record). records st.first ++ (rs ++ records st.others)) (sym one.said) in (
-          subst (λ (xs : List (List Piece × StatementChange)). Make (located text design) xs new) (sym one.is) (entry (component s.1), st, one.holds, records st.others, refl, put),
+          subst (λ (xs : List (List Token × StatementChange)). Make (located text design) xs new) (sym one.is) (entry (component s.1), st, one.holds, records st.others, refl, put),
           keys_so text 0 Top [] design new whole (same_keys name change design),
         )
 

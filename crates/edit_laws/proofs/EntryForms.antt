@@ -6,7 +6,7 @@ use Rattle.design_model.specs.declared.mode.Section.{Section}
 use Rattle.design_model.specs.declared.mode.Section.TheVariants.{Components, Pins, Regions, Groups, Blockages, Nets, SpecialNets, Vias, NonDefaultRules, ScanChains, PinProperties, Slots, Fills, Styles}
 use Rattle.form_meanings.specs.Meaning.{Meaning, left_meaning, right_meaning}
 use Rattle.form_meanings.specs.Words.{is_word, first_passes}
-use Rattle.statement_model.specs.Tokens.{Piece}
+use Rattle.statement_model.specs.Tokens.{Token}
 use Rattle.statement_model.specs.Boundaries.{words, statements}
 use Rattle.statement_model.specs.Form.{spell, Fits, whole}
 use Rattle.statement_model.specs.Reading.{read_form}
@@ -49,12 +49,12 @@ section_entries Fills = skipped_section_entries Fills
 section_entries Styles = skipped_section_entries Styles
 
 -- what is known of an entry that reads
-pub record IsRead (m : Mode) (ps : List Piece) (e : Entry) (after : Mode) : Type 0 where
+pub record IsRead (m : Mode) (ps : List Token) (e : Entry) (after : Mode) : Type 0 where
   pub mode : m ≡ In (section_of e)
   pub same : after ≡ m
   pub says : IsWritten (words ps) e
 
-module _ (ps : List Piece) (e : Entry) where
+module _ (ps : List Token) (e : Entry) where
   in_mode : (m : Mode) → words ps ≡ spell (statement m) (entry e) → Fits (statement m) (entry e) [] → None ≡ (statement m).of.bad (entry e) [] → (m ≡ In (section_of e)) × IsWritten (words ps) e
   unfolding statement
   in_mode Top spelled fits good = absurd fits

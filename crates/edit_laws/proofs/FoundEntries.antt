@@ -8,9 +8,9 @@ use Rattle.design_model.specs.declared.mode.Section.TheVariants.{Components}
 use Rattle.design_model.specs.EnumWords.{section_word, sections}
 use Rattle.form_meanings.specs.Meaning.{find}
 use Rattle.form_meanings.proofs.Steps.{some_same}
-use Rattle.statement_model.specs.Tokens.{Piece}
+use Rattle.statement_model.specs.Tokens.{Token}
 use Rattle.def_grammar.specs.Records.{Entry, section_of, name_of, Record, top, in_properties, end_section, entry, entry_of}
-use Rattle.design_rules.specs.Entries.{is_named, is_entry, entry_at}
+use Rattle.def_grammar.specs.Located.{is_named, is_entry, entry_at}
 use Rattle.edit_laws.specs.StatementLaws.{StandsAmong}
 
 -- a section is found by its word
@@ -39,13 +39,13 @@ is_entry_of s name (entry e) is =
     record { e = e; says = refl; section = same }
 
 -- an entry of this section stands among statements with their records
-pub record IsFound (s : Section) (all : List (List Piece × Record)) (x : List Piece × Record) : Type 0 where
+pub record IsFound (s : Section) (all : List (List Token × Record)) (x : List Token × Record) : Type 0 where
   pub e : Entry
   pub says : x.1 ≡ entry e
   pub section : section_of e ≡ s
   pub stands : StandsAmong all x.0 (entry e)
 
-found_here : (s : Section) (x : List Piece × Record) (xs : List (List Piece × Record)) → IsEntryOf s x.1 → IsFound s (x ∷ xs) x
+found_here : (s : Section) (x : List Token × Record) (xs : List (List Token × Record)) → IsEntryOf s x.1 → IsFound s (x ∷ xs) x
 found_here s x xs is = record {
   e = is.e;
   says = is.says;
@@ -53,17 +53,17 @@ found_here s x xs is = record {
   stands = record { first = []; others = xs; all_are = ap (λ (rec : Record). (x.0, rec) ∷ xs) is.says };
 }
 
-found_later : (s : Section) (x y : List Piece × Record) (xs : List (List Piece × Record)) → IsFound s xs y → IsFound s (x ∷ xs) y
+found_later : (s : Section) (x y : List Token × Record) (xs : List (List Token × Record)) → IsFound s xs y → IsFound s (x ∷ xs) y
 found_later s x y xs f =
     let st = f.stands in
     record {
       e = f.e;
       says = f.says;
       section = f.section;
-      stands = record { first = x ∷ st.first; others = st.others; all_are = ap (λ (l : List (List Piece × Record)). x ∷ l) st.all_are };
+      stands = record { first = x ∷ st.first; others = st.others; all_are = ap (λ (l : List (List Token × Record)). x ∷ l) st.all_are };
     }
 
-pub entry_found : (s : Section) (name : List ℕ) (all : List (List Piece × Record)) (y : List Piece × Record) → entry_at s name all ≡ Some y → IsFound s all y
+pub entry_found : (s : Section) (name : List ℕ) (all : List (List Token × Record)) (y : List Token × Record) → entry_at s name all ≡ Some y → IsFound s all y
 entry_found s name [] y e = absurd (cc)
 entry_found s name (x ∷ xs) y e = ⊎_elim
     (λ (here : is_entry s name (entry_of x.1) ≡ true).

@@ -5,7 +5,7 @@ use Rattle.std.specs.Str.{bytes_eq}
 use Rattle.std.proofs.lemmas.Bool.{cases_Bool as cases, and_parts, and_from, or_parts}
 use Rattle.std.proofs.lemmas.List.Elements.{All-nil, All-cons}
 use Rattle.std.proofs.lemmas.Slice.Eq.{bytes_eq-Decides}
-use Rattle.statement_model.specs.Tokens.{Piece}
+use Rattle.statement_model.specs.Tokens.{Token}
 use Rattle.statement_model.specs.Folds.{all_from}
 use Rattle.statement_model.specs.Grammar.{Key, Grammar}
 use Rattle.statement_model.specs.Reading.{same_words, is_among, repeats, with_key, read_one}
@@ -60,7 +60,7 @@ module _ {M R : Type 0} (g : Grammar M R) (w : List ℕ) (ws : Key) where
   Apart recs = All (λ r. same_words (w ∷ ws) (g.key r) ≡ false) recs
 
   -- records before a place where the key wasn't seen
-  before_it : (state : M × List Key) (ss : List (List Piece)) (x : List R × (M × List Key)) → all_from (read_one g) state ss ≡ Ok x → is_among x.1.1 (w ∷ ws) ≡ false → (is_among state.1 (w ∷ ws) ≡ false) × Apart x.0
+  before_it : (state : M × List Key) (ss : List (List Token)) (x : List R × (M × List Key)) → all_from (read_one g) state ss ≡ Ok x → is_among x.1.1 (w ∷ ws) ≡ false → (is_among state.1 (w ∷ ws) ≡ false) × Apart x.0
   before_it state [] x e unseen = let same = none_read g state x e in rw same (rw same at unseen, All-nil (λ r. same_words (w ∷ ws) (g.key r) ≡ false))
   before_it state (s ∷ ss) x e unseen =
       let f = first_read g state s ss x e in
@@ -71,7 +71,7 @@ module _ {M R : Type 0} (g : Grammar M R) (w : List ℕ) (ws : Key) where
       rw is (now.0, All-cons (λ r. same_words (w ∷ ws) (g.key r) ≡ false) f.one.0 f.others.0 now.1 later.1)
 
   -- records after a place where it was
-  after_it : (state : M × List Key) (ss : List (List Piece)) (x : List R × (M × List Key)) → all_from (read_one g) state ss ≡ Ok x → is_among state.1 (w ∷ ws) ≡ true → Apart x.0
+  after_it : (state : M × List Key) (ss : List (List Token)) (x : List R × (M × List Key)) → all_from (read_one g) state ss ≡ Ok x → is_among state.1 (w ∷ ws) ≡ true → Apart x.0
   after_it state [] x e among = let same = none_read g state x e in rw same (All-nil (λ r. same_words (w ∷ ws) (g.key r) ≡ false))
   after_it state (s ∷ ss) x e among =
       let f = first_read g state s ss x e in
@@ -82,7 +82,7 @@ module _ {M R : Type 0} (g : Grammar M R) (w : List ℕ) (ws : Key) where
       rw is (All-cons (λ r. same_words (w ∷ ws) (g.key r) ≡ false) f.one.0 f.others.0 (fresh_differs w ws (g.key f.one.0) state.1 among one.fresh) later)
 
   -- a record with the key is alone with it
-  pub stands_once : (state : M × List Key) (ss : List (List Piece)) (x : List R × (M × List Key)) (first : List (List Piece × R)) (s : List Piece) (rec : R) (others : List (List Piece × R)) → Split g state ss x first s rec others
+  pub stands_once : (state : M × List Key) (ss : List (List Token)) (x : List R × (M × List Key)) (first : List (List Token × R)) (s : List Token) (rec : R) (others : List (List Token × R)) → Split g state ss x first s rec others
       → g.key rec ≡ w ∷ ws → Apart (seconds first) × Apart (seconds others)
   stands_once state ss x first s rec others p key =
       let one = reads_one g p.at s (rec, p.after) p.one_read in

@@ -4,7 +4,7 @@ use Rattle.std.proofs.lemmas.List.{length-map}
 use Rattle.design_model.specs.declared.geometry.Orient.{Orient}
 use Rattle.design_model.specs.EnumWords.{status_word}
 use Rattle.form_meanings.specs.Meaning.{spell_all}
-use Rattle.statement_model.specs.Tokens.{Piece}
+use Rattle.statement_model.specs.Tokens.{Token}
 use Rattle.statement_model.specs.Boundaries.{words}
 use Rattle.statement_model.specs.Form.{spell}
 use Rattle.def_grammar.specs.Parts.{point, orient}
@@ -100,7 +100,7 @@ module _ (c : Component) where
   as_it_is cs = spelled_is cs ∙ ap (λ (ws : List (List ℕ)). codes "-" ∷ c.name ∷ c.cell ∷ ws) (sym (append_assoc c.rest (spell_all (spell clause) cs) (codes ";" ∷ [])))
 
 -- the tokens of a component's entry, and what a placement makes of their words
-module _ (tokens_so : PlacementsAreTokens) (fit_so : PlacedComponentsFit) (ps : List Piece) (c : Component) (x y : ℤ) (o : Orient) (x_in : is_out x ≡ false) (y_in : is_out y ≡ false) (is : IsWritten (words ps) (component c)) where
+module _ (tokens_so : PlacementsAreTokens) (fit_so : PlacedComponentsFit) (ps : List Token) (c : Component) (x y : ℤ) (o : Orient) (x_in : is_out x ≡ false) (y_in : is_out y ≡ false) (is : IsWritten (words ps) (component c)) where
   abbrev new : Clause
   new = placement_at x y o
 
@@ -116,7 +116,7 @@ module _ (tokens_so : PlacementsAreTokens) (fit_so : PlacedComponentsFit) (ps : 
 
   within : (change : StatementChange) (a b z : List (List ℕ)) → words ps ≡ a ++ (b ++ z) → length a ≡ change.before → length b ≡ change.taken → change.before + change.taken ≤ length ps
   within change a b z parts before taken =
-      let long : length (words ps) ≡ length ps = length-map ps (λ (p : Piece). p.bytes) in
+      let long : length (words ps) ≡ length ps = length-map ps (λ (p : Token). p.bytes) in
       omega (arith, parts_within change a b z (words ps) parts before taken, long)
 
   changes : (old : Option Clause) → placing c.clauses ≡ old → IsChange ps (entry (component c)) (placing_change x y o c old)

@@ -1,7 +1,7 @@
 -- Bytes that are put before what is left of a text, with a space between where they would be glued to it.
 use Rattle.std.proofs.Common.{◌≡◌, inl, inr, ℕ, ◌+◌, true, false, ◌==◌, List, [], ◌∷◌, ◌++◌, refl, sym, subst, ⊎_elim, append_assoc, append-nil}
 use Rattle.std.proofs.lemmas.Bool.{cases_Bool as cases, not-false}
-use Rattle.statement_model.specs.Tokens.{Open, Piece, next_open, is_white, closes}
+use Rattle.statement_model.specs.Tokens.{Open, Token, next_open, is_white, closes}
 use Rattle.statement_model.specs.Tokens.Open.{between, comment, word, string}
 use Rattle.statement_model.specs.Boundaries.{words}
 use Rattle.statement_model.specs.Cuts.{space_before}
@@ -48,7 +48,7 @@ spaced (b ∷ bs) rest ws alike has = ⊎_elim
 
 module _ (put_so : TokensArePut) where
   -- bytes that are whole tokens before a text that begins apart where what was left does
-  pub put_before : (put left rest : List ℕ) (ps : List Piece) (ws : List (List ℕ)) → AreTokens put ps → (BeginsApart left → BeginsApart rest) → HasWords rest ws
+  pub put_before : (put left rest : List ℕ) (ps : List Token) (ws : List (List ℕ)) → AreTokens put ps → (BeginsApart left → BeginsApart rest) → HasWords rest ws
       → HasWords ((put ++ space_between put left) ++ rest) (words ps ++ ws)
   put_before put left rest ps ws are alike has = ⊎_elim
       (λ (open_end : ends_open put ≡ true).

@@ -4,7 +4,7 @@ use Rattle.std.proofs.lemmas.Bool.{cases_Bool as cases}
 use Rattle.design_model.specs.declared.fault.Fault.{Fault}
 use Rattle.design_model.specs.declared.fault.FaultCode.{FaultCode}
 use Rattle.design_model.specs.declared.mode.Mode.{Mode}
-use Rattle.statement_model.specs.Tokens.{Piece, Lexed}
+use Rattle.statement_model.specs.Tokens.{Token, Lexed}
 use Rattle.statement_model.specs.Boundaries.{words, statements}
 use Rattle.statement_model.specs.Folds.{◌>>◌, all_from}
 use Rattle.statement_model.specs.Grammar.{Key}
@@ -25,22 +25,22 @@ abbrev Read : Type 0
 Read = List Record × (Mode × List Key)
 
 abbrev Statements : Type 0
-Statements = List Record × (Mode × List Key) × List Piece
+Statements = List Record × (Mode × List Key) × List Token
 
 -- tokens that are whole statements of these records in their forms
-pub record AreStatements (m : Mode) (ps : List Piece) (recs : List Record) (after : Mode) : Type 0 where
-  pub each : List (List Piece)
+pub record AreStatements (m : Mode) (ps : List Token) (recs : List Record) (after : Mode) : Type 0 where
+  pub each : List (List Token)
   pub cut : statements def_ending [] ps ≡ (each, [])
   pub read : all_from (read_one forms) (m, []) each ≡ Ok (recs, (after, []))
 
 -- as they are read
-pub to_reading : (m after : Mode) (ps : List Piece) (recs : List Record) → AreStatements m ps recs after → ReadsAs forms (m, []) ps recs (after, [])
+pub to_reading : (m after : Mode) (ps : List Token) (recs : List Record) → AreStatements m ps recs after → ReadsAs forms (m, []) ps recs (after, [])
 to_reading m after ps recs are = cut_reads forms def_ending (λ m. refl) (m, []) (after, []) ps are.each recs are.cut are.read
 
 pub pair_of : {A B : Type 0} (x : A × B) (a : A) (b : B) → x.0 ≡ a → x.1 ≡ b → x ≡ (a, b)
 pair_of {A = A} {B = B} x a b e f = ap₂ (λ (c : A) (d : B). (c, d)) e f
 
-pub from_reading : (m after : Mode) (ps : List Piece) (recs : List Record) → ReadsAs forms (m, []) ps recs (after, []) → AreStatements m ps recs after
+pub from_reading : (m after : Mode) (ps : List Token) (recs : List Record) → ReadsAs forms (m, []) ps recs (after, []) → AreStatements m ps recs after
 from_reading m after ps recs reads =
     let s = statements def_ending [] ps in
     let with_left : Read → Result Statements Fault = λ x. Ok (x.0, x.1, s.1) in
@@ -61,15 +61,15 @@ from_reading m after ps recs reads =
     ok_is x y e = cc
 
 -- statements and then others
-statements_append : (m middle after : Mode) (ps qs : List Piece) (recs others : List Record) → AreStatements m ps recs middle → AreStatements middle qs others after → AreStatements m (ps ++ qs) (recs ++ others) after
+statements_append : (m middle after : Mode) (ps qs : List Token) (recs others : List Record) → AreStatements m ps recs middle → AreStatements middle qs others after → AreStatements m (ps ++ qs) (recs ++ others) after
 statements_append m middle after ps qs recs others a b =
     let x : Read = (recs, (middle, [])) in
     let y : Read = (others, (after, [])) in
     record {
       each = a.each ++ b.each;
       cut = statements_join def_ending ps qs []
-          ∙ (ap (λ (s : List (List Piece) × List Piece). (s.0 ++ (statements def_ending s.1 qs).0, (statements def_ending s.1 qs).1)) a.cut
-          ∙ ap (λ (s : List (List Piece) × List Piece). (a.each ++ s.0, s.1)) b.cut);
+          ∙ (ap (λ (s : List (List Token) × List Token). (s.0 ++ (statements def_ending s.1 qs).0, (statements def_ending s.1 qs).1)) a.cut
+          ∙ ap (λ (s : List (List Token) × List Token). (a.each ++ s.0, s.1)) b.cut);
       read = folds_join (read_one forms) (m, []) a.each b.each
           ∙ (then_goes (all_from (read_one forms) (m, []) a.each) (λ z. (all_from (read_one forms) z.1 b.each >> λ w. Ok (z.0 ++ w.0, w.1))) x a.read
           ∙ then_goes (all_from (read_one forms) (middle, []) b.each) (λ w. Ok (recs ++ w.0, w.1)) y b.read);
@@ -77,10 +77,10 @@ statements_append m middle after ps qs recs others a b =
 
 pub said_append : (m middle after : Mode) (vs ws : List (List ℕ)) (recs others : List Record) → AreSaid m vs recs middle → AreSaid middle ws others after → AreSaid m (vs ++ ws) (recs ++ others) after
 said_append m middle after vs ws recs others a b qs e =
-    let parts = parts_of (λ (p : Piece). p.bytes) qs vs ws e in
+    let parts = parts_of (λ (p : Token). p.bytes) qs vs ws e in
     let first = from_reading m middle parts.front recs (a parts.front parts.front_is) in
     let rest = from_reading middle after parts.rest others (b parts.rest parts.rest_is) in
-    subst (λ (ps : List Piece). ReadsAs forms (m, []) ps (recs ++ others) (after, [])) (sym parts.is)
+    subst (λ (ps : List Token). ReadsAs forms (m, []) ps (recs ++ others) (after, [])) (sym parts.is)
     (to_reading m after (parts.front ++ parts.rest) (recs ++ others) (statements_append m middle after parts.front parts.rest recs others first rest))
 
 -- the keys of records that stand after others, with those of all in the end
@@ -110,7 +110,7 @@ abbrev one_more : Record → Read → Result Read Fault
 one_more rec y = Ok (rec ∷ y.0, y.1)
 
 -- what reads has its forms, and keys that don't repeat
-pub to_forms : (m : Mode) (seen : List Key) (ss : List (List Piece)) (x : Read) → all_from (read_one def) (m, seen) ss ≡ Ok x
+pub to_forms : (m : Mode) (seen : List Key) (ss : List (List Token)) (x : Read) → all_from (read_one def) (m, seen) ss ≡ Ok x
     → (all_from (read_one forms) (m, []) ss ≡ Ok (x.0, (x.1.0, []))) × Once seen x.0 x.1.1
 unfolding all_from
 to_forms m seen [] x e =
@@ -131,7 +131,7 @@ to_forms m seen (s ∷ ss) x e =
     )
 
 -- and the other way round
-pub from_forms : (m after : Mode) (seen last : List Key) (ss : List (List Piece)) (recs : List Record) → all_from (read_one forms) (m, []) ss ≡ Ok (recs, (after, [])) → Once seen recs last
+pub from_forms : (m after : Mode) (seen last : List Key) (ss : List (List Token)) (recs : List Record) → all_from (read_one forms) (m, []) ss ≡ Ok (recs, (after, [])) → Once seen recs last
     → all_from (read_one def) (m, seen) ss ≡ Ok (recs, (after, last))
 unfolding all_from
 from_forms m after seen last [] recs e once =

@@ -3,7 +3,7 @@ use Rattle.std.proofs.Common.{◌≡◌, ℕ, List, [], ◌∷◌, ◌++◌, map
 use Rattle.std.proofs.lemmas.Bool.{cases_Bool as cases}
 use Rattle.design_model.specs.declared.fault.Fault.{Fault}
 use Rattle.design_model.specs.declared.fault.FaultCode.{FaultCode}
-use Rattle.statement_model.specs.Tokens.{Piece, Lexed}
+use Rattle.statement_model.specs.Tokens.{Token, Lexed}
 use Rattle.statement_model.specs.Boundaries.{Ending, statements}
 use Rattle.statement_model.specs.Folds.{◌>>◌, all_from}
 use Rattle.statement_model.specs.Grammar.{Key, Grammar}
@@ -26,14 +26,14 @@ module _ {M R : Type 0} (g : Grammar M R) where
   read_same x y e = ok_same x y e
 
   -- the first statement, and those after it
-  pub record FirstRead (state : M × List Key) (s : List Piece) (ss : List (List Piece)) (x : Read) : Type 0 where
+  pub record FirstRead (state : M × List Key) (s : List Token) (ss : List (List Token)) (x : Read) : Type 0 where
     pub one : R × (M × List Key)
     pub others : Read
     pub is : x ≡ (one.0 ∷ others.0, others.1)
     pub one_read : read_one g state s ≡ Ok one
     pub others_read : all_from (read_one g) one.1 ss ≡ Ok others
 
-  pub first_read : (state : M × List Key) (s : List Piece) (ss : List (List Piece)) (x : Read) → all_from (read_one g) state (s ∷ ss) ≡ Ok x → FirstRead state s ss x
+  pub first_read : (state : M × List Key) (s : List Token) (ss : List (List Token)) (x : Read) → all_from (read_one g) state (s ∷ ss) ≡ Ok x → FirstRead state s ss x
   unfolding all_from
   first_read state s ss x e =
       let one = has_read (read_one g state s) _ x e in
@@ -46,16 +46,16 @@ module _ {M R : Type 0} (g : Grammar M R) where
   none_read state x e = let y : Read = ([], state) in sym (read_same y x e)
 
   -- statements that read, with their records
-  pub zipped : (state : M × List Key) (ss : List (List Piece)) (x : Read) → all_from (read_one g) state ss ≡ Ok x → (firsts (zip ss x.0) ≡ ss) × (seconds (zip ss x.0) ≡ x.0)
+  pub zipped : (state : M × List Key) (ss : List (List Token)) (x : Read) → all_from (read_one g) state ss ≡ Ok x → (firsts (zip ss x.0) ≡ ss) × (seconds (zip ss x.0) ≡ x.0)
   zipped state [] x e = let same = none_read state x e in rw same (refl, refl)
   zipped state (s ∷ ss) x e =
       let f = first_read state s ss x e in
       let r = zipped f.one.1 ss f.others f.others_read in
       let is = f.is in
-      rw is (ap (λ (l : List (List Piece)). s ∷ l) r.0, ap (λ (l : List R). f.one.0 ∷ l) r.1)
+      rw is (ap (λ (l : List (List Token)). s ∷ l) r.0, ap (λ (l : List R). f.one.0 ∷ l) r.1)
 
   -- a statement among others that read
-  pub record Split (state : M × List Key) (ss : List (List Piece)) (x : Read) (first : List (List Piece × R)) (s : List Piece) (rec : R) (others : List (List Piece × R)) : Type 0 where
+  pub record Split (state : M × List Key) (ss : List (List Token)) (x : Read) (first : List (List Token × R)) (s : List Token) (rec : R) (others : List (List Token × R)) : Type 0 where
     pub at : M × List Key
     pub after : M × List Key
     pub statements : ss ≡ firsts first ++ s ∷ firsts others
@@ -69,7 +69,7 @@ module _ {M R : Type 0} (g : Grammar M R) where
   one_before rec y = Ok (rec ∷ y.0, y.1)
 
   -- one more before it
-  split_more : (state : M × List Key) (t : List Piece) (ss : List (List Piece)) (x : Read) (f : FirstRead state t ss x) (first : List (List Piece × R)) (s : List Piece) (rec : R) (others : List (List Piece × R))
+  split_more : (state : M × List Key) (t : List Token) (ss : List (List Token)) (x : Read) (f : FirstRead state t ss x) (first : List (List Token × R)) (s : List Token) (rec : R) (others : List (List Token × R))
       → Split f.one.1 ss f.others first s rec others → Split state (t ∷ ss) x ((t, f.one.0) ∷ first) s rec others
   unfolding all_from
   split_more state t ss x f first s rec others p =
@@ -78,7 +78,7 @@ module _ {M R : Type 0} (g : Grammar M R) where
       record {
         at = p.at;
         after = p.after;
-        statements = ap (λ (l : List (List Piece)). t ∷ l) p.statements;
+        statements = ap (λ (l : List (List Token)). t ∷ l) p.statements;
         records = ap (λ (y : Read). y.0) is ∙ ap (λ (l : List R). f.one.0 ∷ l) p.records;
         first_read = then_goes (read_one g state t) (λ one. (all_from (read_one g) one.1 (firsts first) >> one_before one.0)) f.one f.one_read
             ∙ then_goes (all_from (read_one g) f.one.1 (firsts first)) (one_before f.one.0) y p.first_read;
@@ -87,7 +87,7 @@ module _ {M R : Type 0} (g : Grammar M R) where
       }
 
   -- the first of all
-  split_here : (state : M × List Key) (t : List Piece) (ss : List (List Piece)) (x : Read) (f : FirstRead state t ss x) → Split state (t ∷ ss) x [] t f.one.0 (zip ss f.others.0)
+  split_here : (state : M × List Key) (t : List Token) (ss : List (List Token)) (x : Read) (f : FirstRead state t ss x) → Split state (t ∷ ss) x [] t f.one.0 (zip ss f.others.0)
   unfolding all_from
   split_here state t ss x f =
       let is = f.is in
@@ -95,39 +95,39 @@ module _ {M R : Type 0} (g : Grammar M R) where
       record {
         at = state;
         after = f.one.1;
-        statements = ap (λ (l : List (List Piece)). t ∷ l) (sym z.0);
+        statements = ap (λ (l : List (List Token)). t ∷ l) (sym z.0);
         records = ap (λ (y : Read). y.0) is ∙ ap (λ (l : List R). f.one.0 ∷ l) (sym z.1);
         first_read = refl;
         one_read = f.one_read;
         others_read = ap (all_from (read_one g) f.one.1) z.0 ∙ (f.others_read ∙ ap₂ (λ (l : List R) (m : M × List Key). Ok (l, m)) (sym z.1) (ap (λ (y : Read). y.1) (sym is)));
       }
 
-  pub split : (state : M × List Key) (ss : List (List Piece)) (x : Read) (first : List (List Piece × R)) (s : List Piece) (rec : R) (others : List (List Piece × R)) → all_from (read_one g) state ss ≡ Ok x
+  pub split : (state : M × List Key) (ss : List (List Token)) (x : Read) (first : List (List Token × R)) (s : List Token) (rec : R) (others : List (List Token × R)) → all_from (read_one g) state ss ≡ Ok x
       → zip ss x.0 ≡ first ++ (s, rec) ∷ others → Split state ss x first s rec others
   split state [] x [] s rec others e z = absurd (cc)
   split state [] x (u ∷ first) s rec others e z = absurd (cc)
   split state (t ∷ ss) x [] s rec others e z =
       let f = first_read state t ss x e in
       let all : (t, f.one.0) ∷ zip ss f.others.0 ≡ (s, rec) ∷ others = ap (λ (y : Read). zip (t ∷ ss) y.0) (sym f.is) ∙ z in
-      let here : ◌≡◌ {A = List Piece × R} (t, f.one.0) (s, rec) = cc in
+      let here : ◌≡◌ {A = List Token × R} (t, f.one.0) (s, rec) = cc in
       let rest : zip ss f.others.0 ≡ others = cc in
       let now = split_here state t ss x f in
-      subst (λ (o : List (List Piece × R)). Split state (t ∷ ss) x [] s rec o) rest
-      (subst (λ (y : List Piece × R). Split state (t ∷ ss) x [] y.0 y.1 (zip ss f.others.0)) here now)
+      subst (λ (o : List (List Token × R)). Split state (t ∷ ss) x [] s rec o) rest
+      (subst (λ (y : List Token × R). Split state (t ∷ ss) x [] y.0 y.1 (zip ss f.others.0)) here now)
   split state (t ∷ ss) x (u ∷ first) s rec others e z =
       let f = first_read state t ss x e in
       let all : (t, f.one.0) ∷ zip ss f.others.0 ≡ u ∷ (first ++ (s, rec) ∷ others) = ap (λ (y : Read). zip (t ∷ ss) y.0) (sym f.is) ∙ z in
       let here : (t, f.one.0) ≡ u = cc in
       let rest : zip ss f.others.0 ≡ first ++ (s, rec) ∷ others = cc in
       let later = split f.one.1 ss f.others first s rec others f.others_read rest in
-      subst (λ (y : List Piece × R). Split state (t ∷ ss) x (y ∷ first) s rec others) here (split_more state t ss x f first s rec others later)
+      subst (λ (y : List Token × R). Split state (t ∷ ss) x (y ∷ first) s rec others) here (split_more state t ss x f first s rec others later)
 
   -- nothing is left over at the end, and nothing is read there
   ended_none : (state : M × List Key) (n : ℕ) (o : Option FaultCode) (later : List R) → ended g state n o ≡ Ok later → later ≡ []
   ended_none state n None later e = cc
   ended_none state n (Some code) later e = absurd (cc)
 
-  at_end : (state : M × List Key) (ps : List Piece) (end : Result ℕ Fault) (later : List R) → at_last g state ps end ≡ Ok later → (ps ≡ []) × (later ≡ [])
+  at_end : (state : M × List Key) (ps : List Token) (end : Result ℕ Fault) (later : List R) → at_last g state ps end ≡ Ok later → (ps ≡ []) × (later ≡ [])
   at_end state ps (Err f) later e = absurd (cc)
   at_end state (p ∷ ps) (Ok n) later e = absurd (cc)
   at_end state [] (Ok n) later e = ⊎_elim
@@ -155,15 +155,15 @@ module _ {M R : Type 0} (g : Grammar M R) where
           end = all.0.1;
           read = all.1 ∙ ap (λ (l : List R). Ok (l, all.0.1)) same;
           none = none.0;
-          ended = ap (λ (left : List Piece). at_last g all.0.1 left l.end) (sym none.0) ∙ (last.1 ∙ ap (λ (later : List R). Ok later) none.1);
+          ended = ap (λ (left : List Token). at_last g all.0.1 left l.end) (sym none.0) ∙ (last.1 ∙ ap (λ (later : List R). Ok later) none.1);
         }
 
     -- statements that tokens are cut into, read
-    pub cut_reads : (state after : M × List Key) (ps : List Piece) (ss : List (List Piece)) (recs : List R) → statements ending [] ps ≡ (ss, []) → all_from (read_one g) state ss ≡ Ok (recs, after) → ReadsAs g state ps recs after
+    pub cut_reads : (state after : M × List Key) (ps : List Token) (ss : List (List Token)) (recs : List R) → statements ending [] ps ≡ (ss, []) → all_from (read_one g) state ss ≡ Ok (recs, after) → ReadsAs g state ps recs after
     cut_reads state after ps ss recs cut read =
         let x : Read = (recs, after) in
         statements_by_steps g ending ends state [] ps
-        ∙ (ap (λ (s : List (List Piece) × List Piece). all_from (read_one g) state s.0 >> with_left s.1) cut ∙ then_goes (all_from (read_one g) state ss) (with_left []) x read)
+        ∙ (ap (λ (s : List (List Token) × List Token). all_from (read_one g) state s.0 >> with_left s.1) cut ∙ then_goes (all_from (read_one g) state ss) (with_left []) x read)
       where
-        with_left : List Piece → Read → Result (List R × (M × List Key) × List Piece) Fault
+        with_left : List Token → Read → Result (List R × (M × List Key) × List Token) Fault
         with_left left x = Ok (x.0, x.1, left)

@@ -2,7 +2,7 @@
 use Rattle.std.proofs.Common.{◌≡◌, ℕ, List, [], ◌∷◌, ◌++◌, zip, Result, Ok, Err, refl, sym, ap, subst, ◌∙◌}
 use Rattle.design_model.specs.declared.fault.Fault.{Fault}
 use Rattle.design_model.specs.declared.mode.Mode.{Mode}
-use Rattle.statement_model.specs.Tokens.{Piece, Lexed, lex, left_from}
+use Rattle.statement_model.specs.Tokens.{Token, Lexed, lex, left_from}
 use Rattle.statement_model.specs.Tokens.Open.{between}
 use Rattle.statement_model.specs.Boundaries.{words, statements}
 use Rattle.statement_model.specs.Cuts.{cut_from}
@@ -21,7 +21,7 @@ use Rattle.edit_laws.proofs.SameWords.{form_reads, reads_one, HasForm, same_read
 use Rattle.edit_laws.proofs.Stands.{firsts, seconds, zipped, split, none_read, first_read, whole_text}
 
 -- tokens that read to their end have no fault
-last_is : (state : Mode × List Key) (ps : List Piece) (end : Result ℕ Fault) (recs : List Record) → at_last def state ps end ≡ Ok recs → (n : ℕ) × (end ≡ Ok n)
+last_is : (state : Mode × List Key) (ps : List Token) (end : Result ℕ Fault) (recs : List Record) → at_last def state ps end ≡ Ok recs → (n : ℕ) × (end ≡ Ok n)
 last_is state ps (Ok n) recs e = (n, refl)
 last_is state ps (Err f) recs e = absurd (cc)
 
@@ -35,7 +35,7 @@ zip_parts [] = refl
 zip_parts {A = A} {B = B} (x ∷ xs) = ap (λ (l : List (A × B)). x ∷ l) (zip_parts xs)
 
 -- by forms alone no keys are seen
-no_keys : (m : Mode) (ss : List (List Piece)) (x : List Record × (Mode × List Key)) → all_from (read_one forms) (m, []) ss ≡ Ok x → x.1 ≡ (x.1.0, [])
+no_keys : (m : Mode) (ss : List (List Token)) (x : List Record × (Mode × List Key)) → all_from (read_one forms) (m, []) ss ≡ Ok x → x.1 ≡ (x.1.0, [])
 no_keys m [] x e = let same = none_read forms (m, []) x e in rw same refl
 no_keys m (s ∷ ss) x e =
     let f = first_read forms (m, []) s ss x e in
@@ -45,16 +45,16 @@ no_keys m (s ∷ ss) x e =
     ap (λ (y : List Record × (Mode × List Key)). y.1) f.is ∙ (no_keys f.one.1.0 ss f.others rest ∙ ap (λ (k : Mode). (k, [])) (sym (ap (λ (y : List Record × (Mode × List Key)). y.1.0) f.is)))
 
 -- changes that stand in tokens, whose words with them made are said of new records
-record Said (m after : Mode) (pieces : List Piece) (xs : List (List Piece × StatementChange)) (new : List Record) : Type 0 where
+record Said (m after : Mode) (pieces : List Token) (xs : List (List Token × StatementChange)) (new : List Record) : Type 0 where
   standing : Standing pieces xs
   said : AreSaid m (new_words pieces xs standing) new after
 
 -- the words of statements that are read are said of their records
-are_said : (m after : Mode) (ps : List Piece) (ss : List (List Piece)) (recs : List Record) → statements def_ending [] ps ≡ (ss, []) → all_from (read_one forms) (m, []) ss ≡ Ok (recs, (after, [])) → AreSaid m (words ps) recs after
+are_said : (m after : Mode) (ps : List Token) (ss : List (List Token)) (recs : List Record) → statements def_ending [] ps ≡ (ss, []) → all_from (read_one forms) (m, []) ss ≡ Ok (recs, (after, [])) → AreSaid m (words ps) recs after
 are_said m after ps ss recs cut read = λ qs e.
     same_reading forms (m, []) (after, []) ps qs recs (sym e) (to_reading m after ps recs (record { each = ss; cut = cut; read = read }))
 
-changes_said : (xs : List (List Piece × StatementChange)) (m after : Mode) (pieces : List Piece) (ss : List (List Piece)) (recs new : List Record) → statements def_ending [] pieces ≡ (ss, [])
+changes_said : (xs : List (List Token × StatementChange)) (m after : Mode) (pieces : List Token) (ss : List (List Token)) (recs new : List Record) → statements def_ending [] pieces ≡ (ss, [])
     → all_from (read_one forms) (m, []) ss ≡ Ok (recs, (after, [])) → Make (zip ss recs) xs new → Said m after pieces xs new
 changes_said [] m after pieces ss recs new cut read made =
     let x : List Record × (Mode × List Key) = (recs, (after, [])) in
@@ -68,7 +68,7 @@ changes_said (y ∷ xs) m after pieces ss recs new cut read made =
     let change = made.2 in
     let x : List Record × (Mode × List Key) = (recs, (after, [])) in
     let p = split forms (m, []) ss x s.first ps rec s.others read s.all_are in
-    let parts = parted def_ending pieces (firsts s.first) ps (firsts s.others) (cut ∙ ap (λ (l : List (List Piece)). (l, [])) p.statements) in
+    let parts = parted def_ending pieces (firsts s.first) ps (firsts s.others) (cut ∙ ap (λ (l : List (List Token)). (l, [])) p.statements) in
     let first_state : p.at ≡ (p.at.0, []) = no_keys m (firsts s.first) (seconds s.first, p.at) p.first_read in
     let one = reads_one forms p.at ps (rec, p.after) p.one_read in
     let next_state : p.after ≡ (p.after.0, []) = pair_of p.after p.after.0 [] refl (sym one.seen ∙ ap (λ (k : Mode × List Key). k.1) first_state) in
@@ -76,7 +76,7 @@ changes_said (y ∷ xs) m after pieces ss recs new cut read made =
     let says = change.says p.at.0 p.after.0 (form_reads def p.at.0 ps rec p.after.0 form) in
     let first = are_said m p.at.0 parts.front (firsts s.first) (seconds s.first) parts.first (p.first_read ∙ ap (λ (k : Mode × List Key). Ok (seconds s.first, k)) first_state) in
     let others_read = ap (λ (k : Mode × List Key). all_from (read_one forms) k (firsts s.others)) (sym next_state) ∙ p.others_read in
-    let later = changes_said xs p.after.0 after parts.behind (firsts s.others) (seconds s.others) made.3 parts.others others_read (subst (λ (l : List (List Piece × Record)). Make l xs made.3) (sym (zip_parts s.others)) made.4) in
+    let later = changes_said xs p.after.0 after parts.behind (firsts s.others) (seconds s.others) made.3 parts.others others_read (subst (λ (l : List (List Token × Record)). Make l xs made.3) (sym (zip_parts s.others)) made.4) in
     let ws = changed_words c (words change.put) (words ps) in
     let put : IsPut ps c change.put = record { tokens = change.tokens; some = change.some; within = change.within; apart = change.apart } in
     record {

@@ -3,7 +3,7 @@ use Rattle.std.proofs.Common.{◌≡◌, ◌<◌, ℕ, List, [], ◌∷◌, ◌+
 use Rattle.design_model.specs.declared.mode.Mode.{Mode}
 use Rattle.design_model.specs.declared.mode.Mode.TheVariants.{In}
 use Rattle.design_model.specs.declared.mode.Section.{Section}
-use Rattle.statement_model.specs.Tokens.{Piece, lex, tokens, left_from}
+use Rattle.statement_model.specs.Tokens.{Token, lex, tokens, left_from}
 use Rattle.statement_model.specs.Folds.{all_from}
 use Rattle.statement_model.specs.Reading.{read_form, read_one}
 use Rattle.def_grammar.specs.Records.{Entry, section_of, Record, entry, def_ending, def}
@@ -21,7 +21,7 @@ entries_are_written text from state recs ps e reads s =
     (entry_read ps e st.at.0 st.after.0 (form_reads def st.at.0 ps (entry e) st.after.0 one.form)).says
 
 -- a text with tokens isn't empty
-pub tokens_need_text : (text : List ℕ) (front ps behind : List Piece) → (tokens text).pieces ≡ front ++ (ps ++ behind) → 0 < length ps → 0 < length text
+pub tokens_need_text : (text : List ℕ) (front ps behind : List Token) → (tokens text).pieces ≡ front ++ (ps ++ behind) → 0 < length ps → 0 < length text
 unfolding lex
 tokens_need_text (b ∷ bs) front ps behind e some = omega arith
 tokens_need_text [] (p ∷ front) ps behind e some = absurd (cc)
@@ -41,7 +41,7 @@ written_is_said ws e is = λ qs same.
     to_reading m m qs (entry e ∷ []) (record { each = qs ∷ []; cut = reads.0; read = rw one refl })
 
 -- so they are where another entry of the section was read
-pub written_instead : (ps : List Piece) (e said : Entry) (ws : List (List ℕ)) → section_of said ≡ section_of e → IsWritten ws said → (m after : Mode) → read_form def m ps ≡ Ok (entry e, after) → AreSaid m ws (entry said ∷ []) after
+pub written_instead : (ps : List Token) (e said : Entry) (ws : List (List ℕ)) → section_of said ≡ section_of e → IsWritten ws said → (m after : Mode) → read_form def m ps ≡ Ok (entry e, after) → AreSaid m ws (entry said ∷ []) after
 written_instead ps e said ws section is m after reads =
     let was = entry_read ps e m after reads in
     let here : In (section_of said) ≡ m = ap (λ (s : Section). In s) section ∙ sym was.mode in

@@ -2,16 +2,15 @@
 use Rattle.std.specs.Prelude.{◌≡◌, ◌≤◌, ℕ, List, length, Some, Ok}
 use Rattle.design_model.specs.declared.mode.Mode.TheVariants.{In}
 use Rattle.design_model.specs.declared.mode.Section.{Section}
-use Rattle.statement_model.specs.Tokens.{Piece, Lexed, left_from}
+use Rattle.statement_model.specs.Tokens.{Token, Lexed, left_from}
 use Rattle.statement_model.specs.Cuts.{end_of_all}
 use Rattle.statement_model.specs.Reading.{pos_of, read_at}
 use Rattle.def_grammar.specs.Records.{Entry, Record, entry, def, read_def}
-use Rattle.design_rules.specs.Edits.{located}
-use Rattle.design_rules.specs.Entries.{entry_at, bytes_of}
+use Rattle.def_grammar.specs.Located.{located, entry_at, bytes_of}
 
 -- An entry reads alone, from its first byte to its last, as it does in its text.
 abbrev pub EntriesStandAlone : Type 0
-EntriesStandAlone = (text : List ℕ) (design : List Record) (s : Section) (name : List ℕ) (ps : List Piece) (rec : Record)
+EntriesStandAlone = (text : List ℕ) (design : List Record) (s : Section) (name : List ℕ) (ps : List Token) (rec : Record)
     → read_def text ≡ Ok design
     → entry_at s name (located text design) ≡ Some (ps, rec)
     → (left : Lexed)

@@ -1,18 +1,19 @@
 -- Laws of edits of a component.
 use Rattle.std.specs.Prelude.{◌≡◌, ℕ, List, [], ◌∷◌, Some, None, Ok}
-use Rattle.statement_model.specs.Tokens.{Piece}
+use Rattle.statement_model.specs.Tokens.{Token}
 use Rattle.def_grammar.specs.Components.{Component}
 use Rattle.def_grammar.specs.Records.{component, Record, entry, read_def}
 use Rattle.lef_grammar.specs.Library.{Library}
 use Rattle.design_rules.specs.ComponentEdits.{ComponentChange}
-use Rattle.design_rules.specs.Edits.{of_component, component_at, plan_of, applied}
+use Rattle.design_rules.specs.Edits.{of_component, plan_of, applied}
+use Rattle.def_grammar.specs.Located.{component_at}
 use Rattle.design_rules.specs.Plans.{StatementChange, lowest}
 use Rattle.edit_laws.specs.PlanLaws.{Plans}
 use Rattle.edit_laws.specs.StatementLaws.{StandsAmong}
 
 -- The component that is found by its name stands among the statements, and has that name.
 abbrev pub ComponentsAreFound : Type 0
-ComponentsAreFound = (all : List (List Piece × Record)) (name : List ℕ) (ps : List Piece) (c : Component)
+ComponentsAreFound = (all : List (List Token × Record)) (name : List ℕ) (ps : List Token) (c : Component)
     → component_at name all ≡ Some (ps, c)
     → StandsAmong all ps (entry (component c)) × (c.name ≡ name)
 
@@ -27,4 +28,4 @@ abbrev pub ComponentPlansAreOne : Type 0
 ComponentPlansAreOne = (library : Library) (text : List ℕ) (design : List Record) (name : List ℕ) (change : ComponentChange)
     → read_def text ≡ Ok design
     → lowest (plan_of library text design (of_component name change)).refusals ≡ None
-    → (x : List Piece × StatementChange) × ((plan_of library text design (of_component name change)).changes ≡ x ∷ [])
+    → (x : List Token × StatementChange) × ((plan_of library text design (of_component name change)).changes ≡ x ∷ [])

@@ -1,6 +1,6 @@
 -- Laws of entries, whatever edit asks for a change of one.
 use Rattle.std.specs.Prelude.{◌≡◌, ℕ, false, List, [], ◌∷◌, ◌++◌, map, Some, None, Ok}
-use Rattle.statement_model.specs.Tokens.{Piece, left_from}
+use Rattle.statement_model.specs.Tokens.{Token, left_from}
 use Rattle.statement_model.specs.Boundaries.{words}
 use Rattle.statement_model.specs.Form.{spell, Fits}
 use Rattle.statement_model.specs.Grammar.{Key}
@@ -18,7 +18,7 @@ pub record IsWritten (ws : List (List ℕ)) (e : Entry) : Type 0 where
 
 -- An entry of a text that reads is written so, wherever in the text the reading begins.
 abbrev pub EntriesAreWritten : Type 0
-EntriesAreWritten = (text : List ℕ) (from : ℕ) (state : Mode × List Key) (recs : List Record) (ps : List Piece) (e : Entry)
+EntriesAreWritten = (text : List ℕ) (from : ℕ) (state : Mode × List Key) (recs : List Record) (ps : List Token) (e : Entry)
     → read_from def state (left_from text from) ≡ Ok recs
     → StandsAmong (located_from text from recs) ps (entry e)
     → IsWritten (words ps) e
@@ -32,7 +32,7 @@ pub record IsEditOf (f : Entry → Entry) (e said : Entry) : Type 0 where
 
 -- A name stands once in its section: such an edit of all entries is the change of one.
 abbrev pub OneIsEdited : Type 0
-OneIsEdited = (text : List ℕ) (from : ℕ) (state : Mode × List Key) (recs : List Record) (ps : List Piece) (e said : Entry) (f : Entry → Entry)
+OneIsEdited = (text : List ℕ) (from : ℕ) (state : Mode × List Key) (recs : List Record) (ps : List Token) (e said : Entry) (f : Entry → Entry)
     → read_from def state (left_from text from) ≡ Ok recs
     → (s : StandsAmong (located_from text from recs) ps (entry e))
     → IsEditOf f e said

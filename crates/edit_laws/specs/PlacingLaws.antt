@@ -1,7 +1,7 @@
 -- Laws of placing a component: it is a change within its entry.
 use Rattle.std.specs.Prelude.{◌≡◌, false, ℤ, List, [], ◌∷◌, ◌++◌, None, codes}
 use Rattle.design_model.specs.declared.geometry.Orient.{Orient}
-use Rattle.statement_model.specs.Tokens.{Piece}
+use Rattle.statement_model.specs.Tokens.{Token}
 use Rattle.statement_model.specs.Boundaries.{words}
 use Rattle.statement_model.specs.Form.{spell, Fits}
 use Rattle.def_grammar.specs.Components.{Component, clause, component_form}
@@ -14,8 +14,8 @@ use Rattle.edit_laws.specs.StatementLaws.{IsChange}
 -- The bytes of a placement are the tokens of its clause without the +, and with a + before them all of its tokens.
 abbrev pub PlacementsAreTokens : Type 0
 PlacementsAreTokens = (x y : ℤ) (o : Orient)
-    → ((ps : List Piece) × AreTokens (placed_text x y o) ps × (spell clause (placement_at x y o) ≡ codes "+" ∷ words ps))
-    × ((ps : List Piece) × AreTokens (codes " + " ++ placed_text x y o) ps × (spell clause (placement_at x y o) ≡ words ps))
+    → ((ps : List Token) × AreTokens (placed_text x y o) ps × (spell clause (placement_at x y o) ≡ codes "+" ∷ words ps))
+    × ((ps : List Token) × AreTokens (codes " + " ++ placed_text x y o) ps × (spell clause (placement_at x y o) ≡ words ps))
 
 -- A component that fits its form without an invalid number does so with a placement within the limits of a text.
 abbrev pub PlacedComponentsFit : Type 0
@@ -28,7 +28,7 @@ PlacedComponentsFit = (c : Component) (x y : ℤ) (o : Orient)
 
 -- So placing a component is a change within its entry.
 abbrev pub PlacingsAreChanges : Type 0
-PlacingsAreChanges = (ps : List Piece) (c : Component) (x y : ℤ) (o : Orient)
+PlacingsAreChanges = (ps : List Token) (c : Component) (x y : ℤ) (o : Orient)
     → is_out x ≡ false
     → is_out y ≡ false
     → IsWritten (words ps) (component c)

@@ -5,14 +5,13 @@ use Rattle.design_model.specs.declared.fault.Fault.{Fault}
 use Rattle.design_model.specs.declared.mode.Mode.{Mode}
 use Rattle.design_model.specs.declared.mode.Mode.TheVariants.{In}
 use Rattle.design_model.specs.declared.mode.Section.{Section}
-use Rattle.statement_model.specs.Tokens.{Piece, Lexed, left_from}
+use Rattle.statement_model.specs.Tokens.{Token, Lexed, left_from}
 use Rattle.statement_model.specs.Cuts.{end_of, end_of_all}
 use Rattle.statement_model.specs.Reading.{pos_of, read_at}
-use Rattle.lefdef_tokens.specs.Pieces.{end_after, span_of}
+use Rattle.lefdef_tokens.specs.TokenViews.{end_after, span_of}
 use Rattle.lefdef_tokens.specs.declared.span.Span.{Span}
 use Rattle.def_grammar.specs.Records.{Entry, Record, def, entry, read_def}
-use Rattle.design_rules.specs.Edits.{located}
-use Rattle.design_rules.specs.Entries.{bytes_of, entry_at}
+use Rattle.def_grammar.specs.Located.{located, bytes_of, entry_at}
 use Rattle.edit_laws.specs.AloneLaws.{EntriesStandAlone}
 use Rattle.edit_session.specs.Sessions.{IsAlone, SaysAlone}
 
@@ -20,19 +19,19 @@ pub its_design : (r : Result (List Record) Fault) → IsOk r → (design : List 
 its_design (Ok design) is = (design, refl)
 its_design (Err f) is = absurd (cc)
 
-pub starts : (ps : List Piece) → pos_of ps ≡ (span_of ps).lo
+pub starts : (ps : List Token) → pos_of ps ≡ (span_of ps).lo
 starts [] = refl
 starts (p ∷ ps) = refl
 
-ends_after : (p : Piece) (ps : List Piece) → end_of_all (p ∷ ps) ≡ end_after (end_of p) ps
+ends_after : (p : Token) (ps : List Token) → end_of_all (p ∷ ps) ≡ end_after (end_of p) ps
 ends_after p [] = refl
 ends_after p (q ∷ qs) = ends_after q qs
 
-pub ends : (ps : List Piece) → end_of_all ps ≡ (span_of ps).hi
+pub ends : (ps : List Token) → end_of_all ps ≡ (span_of ps).hi
 ends [] = refl
 ends (p ∷ ps) = ends_after p ps
 
-module _ (law : EntriesStandAlone) (text : List ℕ) (s : Section) (name : List ℕ) (design : List Record) (x : List Piece × Record) (span : Span)
+module _ (law : EntriesStandAlone) (text : List ℕ) (s : Section) (name : List ℕ) (design : List Record) (x : List Token × Record) (span : Span)
     (reads : read_def text ≡ Ok design)
     (found : entry_at s name (located text design) ≡ Some x)
     (lo : pos_of x.0 ≡ span.lo)

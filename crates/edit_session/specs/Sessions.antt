@@ -11,12 +11,12 @@ use Rattle.design_model.specs.declared.mode.Section.{Section}
 use Rattle.lefdef_tokens.specs.declared.span.Span.{Span}
 use Rattle.statement_model.specs.Cuts.{Cut, with_cuts, end_of_all}
 use Rattle.statement_model.specs.Reading.{pos_of, read_at}
-use Rattle.statement_model.specs.Tokens.{Piece, Lexed, left_from}
+use Rattle.statement_model.specs.Tokens.{Token, Lexed, left_from}
 use Rattle.def_grammar.specs.Records.{Entry, Record, def, entry, read_def}
 use Rattle.lef_grammar.specs.Library.{Library}
 use Rattle.design_rules.specs.Diagnostics.{diagnostics}
-use Rattle.design_rules.specs.Edits.{Change, applied, is_long, located}
-use Rattle.design_rules.specs.Entries.{bytes_of, entry_at}
+use Rattle.design_rules.specs.Edits.{Change, applied, is_long}
+use Rattle.def_grammar.specs.Located.{located, bytes_of, entry_at}
 use Rattle.design_rules.specs.Runs.{Makes, WantsMemory, new_text, text_outcome}
 use Rattle.splicing_laws.specs.KeepingLaws.{IsOneCut}
 use Rattle.def_reader.specs.EntryViews.{entry_view}
@@ -59,7 +59,7 @@ StandsAt text s name found =
     (design : List Record)
     × (read_def text ≡ Ok design)
     × MatchOption found (entry_at s name (located text design) ≡ None)
-    (λ span. (x : List Piece × Record) × (entry_at s name (located text design) ≡ Some x) × (pos_of x.0 ≡ span.lo) × (end_of_all x.0 ≡ span.hi))
+    (λ span. (x : List Token × Record) × (entry_at s name (located text design) ≡ Some x) × (pos_of x.0 ≡ span.lo) × (end_of_all x.0 ≡ span.hi))
 
 -- these bytes alone say this entry of a section
 abbrev pub SaysAlone : Section → List ℕ → Entry → Type 0
@@ -74,4 +74,4 @@ Views text s name found =
     (design : List Record)
     × (read_def text ≡ Ok design)
     × MatchOption found (entry_at s name (located text design) ≡ None)
-    (λ v. (ps : List Piece) × (entry_at s name (located text design) ≡ Some (ps, entry (entry_view v.parts))) × (v.bytes.now ≡ bytes_of text ps) × (v.pos ≡ pos_of ps))
+    (λ v. (ps : List Token) × (entry_at s name (located text design) ≡ Some (ps, entry (entry_view v.parts))) × (v.bytes.now ≡ bytes_of text ps) × (v.pos ≡ pos_of ps))

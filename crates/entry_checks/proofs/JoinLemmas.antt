@@ -2,7 +2,7 @@
 use Rattle.std.proofs.Common.{◌≡◌, ◌<◌, ℕ, true, false, List, [], ◌∷◌, length, refl, arith, Some, None}
 use Rattle.std.specs.Str.{bytes_eq}
 use denote.Ref.{Bor}
-use Rattle.lef_grammar.specs.Firsts.{with_all, with_first}
+use Rattle.form_meanings.specs.Firsts.{with_all, with_first}
 use Rattle.lef_grammar.specs.Library.{Library, layer_named}
 use Rattle.wire_rules.specs.Paths.{other_layer}
 use Rattle.entry_rules.specs.ViaLayers.{has_routing, routing_layers}

@@ -2,7 +2,7 @@
 use Rattle.std.proofs.Common.{◌≡◌, ◌≤◌, ◌+◌, ◌*◌, ℕ, Bool, true, false, ◌==◌, List, [], ◌∷◌, ◌++◌, length, drop, refl, suc, arith, length-append, length-drop, if◌then◌else◌}
 use Rattle.std.proofs.lemmas.List.{length-map, length-take}
 use Rattle.design_model.specs.declared.token_kind.TokenKind.TheVariants.{Word, Quoted}
-use Rattle.statement_model.specs.Tokens.{Open, between, comment, word, string, Lexed, Piece, is_white, is_refused, at_end, closes, ended_by, next_open, lex, left_from, before, only_fault}
+use Rattle.statement_model.specs.Tokens.{Open, between, comment, word, string, Lexed, Token, is_white, is_refused, at_end, closes, ended_by, next_open, lex, left_from, before, only_fault}
 use Rattle.lefdef_tokens.specs.Views.{pieces_of, words_of}
 use Rattle.lefdef_tokens.specs.declared.token_run.TokenRun.{TokenRun}
 
@@ -23,7 +23,7 @@ after_comment : (b : Bool) → ahead (if b then between else comment) ≤ 2
 after_comment true = omega arith
 after_comment false = omega arith
 
-after_ended : (b : Bool) (p : Piece) (s : Open) → 2 * length (if b then p ∷ [] else []) + ahead (if b then between else s) ≤ 3
+after_ended : (b : Bool) (p : Token) (s : Open) → 2 * length (if b then p ∷ [] else []) + ahead (if b then between else s) ≤ 3
 after_ended true p s = omega arith
 after_ended false p s = let k = small s in omega (arith, k)
 
@@ -62,5 +62,5 @@ few_words run =
     let lexed = few_lexed run.pos between (drop run.pos text) in
     let left = length-drop run.pos text in
     let taken = length-take run.count pieces in
-    let words = length-map (pieces_of run) (λ (p : Piece). p.bytes) in
+    let words = length-map (pieces_of run) (λ (p : Token). p.bytes) in
     omega (arith, lexed, left, taken, words)

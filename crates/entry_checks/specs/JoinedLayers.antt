@@ -1,7 +1,7 @@
 -- The layers that a via joins, as they are noted one after the other.
 use Rattle.std.specs.Prelude.{◌≡◌, ◌<◌, ℕ, List, [], ◌∷◌, filter, length, Option, Some}
 use Rattle.lef_grammar.specs.Definitions.{LayerShapes}
-use Rattle.lef_grammar.specs.Firsts.{with_all}
+use Rattle.form_meanings.specs.Firsts.{with_all}
 use Rattle.lef_grammar.specs.Library.{Library, layer_named}
 use Rattle.entry_rules.specs.ViaLayers.{has_routing, routing_layers}
 use Rattle.entry_checks.specs.declared.joined_layers.JoinedLayers.{JoinedLayers}

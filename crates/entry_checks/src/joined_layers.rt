@@ -1,7 +1,7 @@
 //! Layers of TYPE ROUTING, each once, as far as it matters which a via joins (LEF/DEF 5.8 Language Reference, "Vias").
 
 ghost use Rattle.std.specs.Prelude.{◌≡◌, ◌∷◌, [], ℕ, List, Some};
-ghost use Rattle.lef_grammar.specs.Firsts.{with_first};
+ghost use Rattle.form_meanings.specs.Firsts.{with_first};
 ghost use Rattle.lef_grammar.specs.Library.{Library as TheLibrary, layer_named};
 ghost use Rattle.wire_rules.specs.Paths.{other_layer};
 ghost use Rattle.wire_shapes.specs.RuleViews.{via_on_view};

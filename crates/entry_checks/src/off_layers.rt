@@ -3,7 +3,7 @@
 ghost use Rattle.std.specs.Prelude.{◌≡◌, ◌++◌, ◌∷◌, [], IfOk, OnOk, flat_map, map};
 ghost use Rattle.std.specs.List.{filter_map};
 ghost use Rattle.def_grammar.specs.Records.{entry as the_entry};
-ghost use Rattle.def_grammar.specs.Wiring.{WireVia as TheWireVia, SpecialVia as TheSpecialVia, special_via, wire_via};
+ghost use Rattle.def_grammar.specs.Wiring.{WireVia as TheWireVia, SpecialVia as TheSpecialVia, special_via, wire_via, via_of_item};
 ghost use Rattle.wire_rules.specs.Paths.{layer_over, or_same};
 ghost use Rattle.wire_parts.specs.NetWireViews.{paths_left};
 ghost use Rattle.wire_parts.specs.PathViews.{items_of};
@@ -11,7 +11,6 @@ ghost use Rattle.wire_parts.specs.SpecialWireViews.{special_paths_left};
 ghost use Rattle.def_reader.specs.EntryViews.{entry_view};
 ghost use Rattle.def_reader.specs.StatementViews.{record_view};
 ghost use Rattle.entry_rules.specs.OffLayer.{off_layer, off_layer_in, off_layer_in_special_wire, off_layer_in_wire, off_layer_lines_of, off_layer_vias};
-ghost use Rattle.entry_rules.specs.References.{via_of_item};
 ghost use Rattle.entry_rules.specs.ViaLayers.{via_layers};
 ghost use Rattle.entry_checks.specs.OffLayerViews.{off_layer_text};
 

@@ -3,14 +3,14 @@
 ghost use Rattle.std.specs.Prelude.{◌≡◌, ◌∷◌, [], is_some, map, None, MatchOption};
 ghost use Rattle.std.specs.List.{filter_map};
 ghost use Rattle.std.specs.Option.{option_map};
-ghost use Rattle.lef_grammar.specs.Firsts.{first_of};
+ghost use Rattle.form_meanings.specs.Firsts.{first_of};
 ghost use Rattle.wire_rules.specs.Paths.{other_layer};
 ghost use Rattle.via_parts.specs.ViaViews.{via_clause_view, via_clauses_of, via_layers_view, via_view};
 ghost use Rattle.cell_library.specs.ShapeViews.{shapes_view};
 ghost use Rattle.cell_library.specs.ViaViews.{body_view};
 ghost use Rattle.lefdef_tokens.specs.Views.{word_view};
 ghost use Rattle.wire_shapes.specs.RuleViews.{via_on_view};
-ghost use Rattle.entry_rules.specs.References.{layer_of_shape, layers_of_clause};
+ghost use Rattle.def_grammar.specs.DefVias.{layer_of_shape, layers_of_clause};
 ghost use Rattle.entry_rules.specs.ViaLayers.{body_layers, def_via_layers, layers_named, rule_of_via, via_layers};
 ghost use Rattle.entry_checks.specs.JoinedLayers.{Joins, JoinsThose, layer_of};
 

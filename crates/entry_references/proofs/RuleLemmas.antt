@@ -4,9 +4,9 @@ use Rattle.std.proofs.lemmas.List.{append-nil, length-map, drop-map, map-append}
 use Rattle.std.proofs.Math.Seq.{drop-append_seam}
 use Rattle.std.specs.List.{filter_map, list_any}
 use Rattle.def_grammar.specs.Clauses.{KeptClause}
-use Rattle.lef_grammar.specs.Firsts.{has_name, with_all}
-use Rattle.def_grammar.specs.Rules.{RuleClause, RuleLayer, rule_has_layer, rule_kept}
-use Rattle.entry_rules.specs.References.{Reference, layer_of_rule, to_layer}
+use Rattle.form_meanings.specs.Firsts.{has_name, with_all}
+use Rattle.def_grammar.specs.Rules.{RuleClause, RuleLayer, rule_has_layer, rule_kept, layer_of_rule}
+use Rattle.entry_rules.specs.References.{Reference, to_layer}
 use Rattle.entry_references.specs.declared.reference.Reference as code
 use Rattle.entry_references.specs.ReferenceViews.{is_to_layer, reference_view, references_view}
 

@@ -2,13 +2,13 @@
 
 ghost use Rattle.std.specs.Prelude.{◌≡◌, ◌++◌, flat_map, OnOk};
 ghost use Rattle.std.specs.Option.{option_map};
-ghost use Rattle.lef_grammar.specs.Firsts.{first_of};
-ghost use Rattle.def_grammar.specs.Nets.{is_net};
+ghost use Rattle.form_meanings.specs.Firsts.{first_of};
+ghost use Rattle.def_grammar.specs.Nets.{is_net, rule_of_clause};
 ghost use Rattle.def_parts.specs.ClauseViews.{bytes_view};
 ghost use Rattle.wire_parts.specs.NetViews.{net_clauses_of, net_entry_view, net_view};
 ghost use Rattle.wire_parts.specs.NetWireViews.{paths_left};
 ghost use Rattle.wire_parts.specs.WiringViews.{taper_view, wire_view};
-ghost use Rattle.entry_rules.specs.References.{net_references, rule_of_clause, taper_references, wire_references};
+ghost use Rattle.entry_rules.specs.References.{net_references, taper_references, wire_references};
 ghost use Rattle.entry_references.specs.ReferenceViews.{net_item_references, references_view};
 
 use crate::reference::{Reference, push};

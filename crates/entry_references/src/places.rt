@@ -2,14 +2,15 @@
 
 ghost use Rattle.std.specs.Prelude.{◌≡◌, ◌++◌, flat_map, OnOk};
 ghost use Rattle.std.specs.Option.{option_map};
-ghost use Rattle.lef_grammar.specs.Firsts.{first_of};
+ghost use Rattle.form_meanings.specs.Firsts.{first_of};
 ghost use Rattle.def_grammar.specs.Groups.{region_named};
 ghost use Rattle.def_parts.specs.ClauseViews.{bytes_view};
 ghost use Rattle.place_parts.specs.BlockageViews.{blockage_entry_view};
 ghost use Rattle.place_parts.specs.ComponentViews.{component_view};
 ghost use Rattle.place_parts.specs.GroupViews.{group_clauses_of, group_view};
 ghost use Rattle.place_parts.specs.PinViews.{pin_clause_view, pin_clauses_of, pin_view};
-ghost use Rattle.entry_rules.specs.References.{blockage_references, component_references, group_references, net_of_clause, pin_references, shape_references};
+ghost use Rattle.entry_rules.specs.References.{blockage_references, component_references, group_references, pin_references, shape_references};
+ghost use Rattle.def_grammar.specs.Pins.{net_of_clause};
 ghost use Rattle.entry_references.specs.ReferenceViews.{references_view};
 
 use crate::reference::{Reference, push};

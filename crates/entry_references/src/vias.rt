@@ -3,9 +3,10 @@
 ghost use Rattle.std.specs.Prelude.{◌≡◌, ◌++◌, map, OnOk};
 ghost use Rattle.std.specs.List.{filter_map};
 ghost use Rattle.std.specs.Option.{option_map};
-ghost use Rattle.lef_grammar.specs.Firsts.{first_of};
+ghost use Rattle.form_meanings.specs.Firsts.{first_of};
 ghost use Rattle.via_parts.specs.ViaViews.{via_clauses_of, via_layers_view, via_view};
-ghost use Rattle.entry_rules.specs.References.{layer_of_shape, layers_of_clause, to_layer, via_references};
+ghost use Rattle.entry_rules.specs.References.{to_layer, via_references};
+ghost use Rattle.def_grammar.specs.DefVias.{layer_of_shape, layers_of_clause};
 ghost use Rattle.entry_references.specs.ReferenceViews.{references_view};
 
 use crate::reference::{Reference, push};

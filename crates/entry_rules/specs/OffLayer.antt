@@ -8,12 +8,11 @@ use Rattle.design_model.specs.Lines.{line_text}
 use Rattle.def_grammar.specs.Nets.{NetEntry, must_join, is_net}
 use Rattle.def_grammar.specs.NetWires.{net_wires}
 use Rattle.def_grammar.specs.SpecialWires.{special_net_wires}
-use Rattle.def_grammar.specs.Wiring.{WireVia, SpecialVia, Wire, SpecialWire}
+use Rattle.def_grammar.specs.Wiring.{WireVia, SpecialVia, Wire, SpecialWire, via_of_item}
 use Rattle.def_grammar.specs.Records as records
 use Rattle.def_grammar.specs.Records.{Record, Entry, entry, section_of, name_of}
 use Rattle.lef_grammar.specs.Library.{Library}
 use Rattle.wire_rules.specs.Paths.{layer_over, or_same, other_layer}
-use Rattle.entry_rules.specs.References.{via_of_item}
 use Rattle.entry_rules.specs.Unknown.{name_or_dash}
 use Rattle.entry_rules.specs.ViaLayers.{via_layers}
 

@@ -3,19 +3,18 @@
 use Rattle.std.specs.Prelude.{ℕ, ◌||◌, List, [], ◌∷◌, ◌++◌, map, flat_map, Option, Some, None, if◌then◌else◌}
 use Rattle.std.specs.List.{filter_map}
 use Rattle.std.specs.Option.{option_map, option_to_list}
-use Rattle.lef_grammar.specs.Firsts.{first_of, with_all}
-use Rattle.def_grammar.specs.Components as components
-use Rattle.def_grammar.specs.Components.{Component}
-use Rattle.def_grammar.specs.Pins.{Pin, PinClause, pin_placed, pin_net, pin_port, pin_has_rectangle, pin_has_via, pin_has_polygon, pin_kept}
+use Rattle.form_meanings.specs.Firsts.{first_of, with_all}
+use Rattle.def_grammar.specs.Components.{Component, region_of_clause}
+use Rattle.def_grammar.specs.Pins.{Pin, PinClause, pin_has_rectangle, pin_has_via, pin_has_polygon, net_of_clause}
 use Rattle.def_grammar.specs.Groups.{Group, region_named}
 use Rattle.def_grammar.specs.Blockages.{BlockageKind, blocks_layer, blocks_placement, BlockageEntry, blocks, blockage_kept}
-use Rattle.def_grammar.specs.DefVias.{DefVia, ViaClause, ViaLayers, via_has_rectangle, via_has_polygon, on_layers}
-use Rattle.def_grammar.specs.Rules.{Rule, RuleClause, RuleLayer, rule_has_layer}
+use Rattle.def_grammar.specs.DefVias.{DefVia, ViaLayers, layers_of_clause, layer_of_shape}
+use Rattle.def_grammar.specs.Rules.{Rule, RuleLayer, layer_of_rule}
 use Rattle.def_grammar.specs.Terminals.{Terminal, is_of_all, is_virtual}
-use Rattle.def_grammar.specs.Nets.{Net, NetEntry, NetClause, net_rule, must_join, is_net}
+use Rattle.def_grammar.specs.Nets.{NetEntry, must_join, is_net, rule_of_clause}
 use Rattle.def_grammar.specs.NetWires.{net_wires}
 use Rattle.def_grammar.specs.SpecialNets.{SpecialNet, SpecialClause, special_rectangle, special_vias, special_polygon, special_has_wiring}
-use Rattle.def_grammar.specs.Wiring.{PathItem, path_via, WireVia, SpecialVia, Taper, tapered_by, Wire, SpecialWire, SpecialWiring, SpecialWiringKind, shields}
+use Rattle.def_grammar.specs.Wiring.{PathItem, WireVia, SpecialVia, Taper, tapered_by, Wire, SpecialWire, SpecialWiring, SpecialWiringKind, shields, via_of_item}
 use Rattle.def_grammar.specs.Rows.{Row}
 use Rattle.def_grammar.specs.Records as records
 use Rattle.def_grammar.specs.Records.{Entry}
@@ -35,17 +34,9 @@ pub data Reference : Type 0 where
 abbrev pub first_to : {A : Type 0} → (List ℕ → Reference) → (A → Option (List ℕ)) → List A → List Reference
 first_to to name_of all = option_to_list (option_map to (first_of name_of all))
 
-abbrev pub region_of_clause : components.Clause → Option (List ℕ)
-region_of_clause (components.region name) = Some name
-region_of_clause _ = None
-
 -- a component: its macro and its first REGION
 abbrev pub component_references : Component → List Reference
 component_references c = to_macro c.cell ∷ first_to to_region region_of_clause c.clauses
-
-abbrev pub net_of_clause : PinClause → Option (List ℕ)
-net_of_clause (pin_net name) = Some name
-net_of_clause _ = None
 
 abbrev pub shape_references : PinClause → List Reference
 shape_references (pin_has_rectangle r) = to_layer r.layer ∷ []
@@ -70,10 +61,6 @@ abbrev pub blockage_references : BlockageEntry → List Reference
 blockage_references (blocks b) = kind_references b.kind
 blockage_references (blockage_kept tokens) = []
 
-abbrev pub layers_of_clause : ViaClause → Option ViaLayers
-layers_of_clause (on_layers layers) = Some layers
-layers_of_clause _ = None
-
 abbrev pub names_of_layers : Option ViaLayers → List (List ℕ)
 names_of_layers None = []
 names_of_layers (Some l) = l.bottom ∷ l.cut ∷ l.top ∷ []
@@ -82,11 +69,6 @@ names_of_layers (Some l) = l.bottom ∷ l.cut ∷ l.top ∷ []
 abbrev pub listed_layers : DefVia → List (List ℕ)
 listed_layers v = names_of_layers (first_of layers_of_clause v.clauses)
 
-abbrev pub layer_of_shape : ViaClause → Option (List ℕ)
-layer_of_shape (via_has_rectangle r) = Some r.layer
-layer_of_shape (via_has_polygon p) = Some p.layer
-layer_of_shape _ = None
-
 -- the layers of its rectangles and polygons
 abbrev pub shape_layers : DefVia → List (List ℕ)
 shape_layers v = filter_map layer_of_shape v.clauses
@@ -94,10 +76,6 @@ shape_layers v = filter_map layer_of_shape v.clauses
 -- a via: these layers, whether it is generated or not
 abbrev pub via_references : DefVia → List Reference
 via_references v = map to_layer (shape_layers v ++ listed_layers v)
-
-abbrev pub layer_of_rule : RuleClause → Option RuleLayer
-layer_of_rule (rule_has_layer l) = Some l
-layer_of_rule _ = None
 
 -- the LAYER clauses of a rule that count: the first of each layer
 abbrev pub rule_layers : Rule → List RuleLayer
@@ -109,10 +87,6 @@ rule_references r = map (λ (l : RuleLayer). to_layer l.layer) (rule_layers r)
 -- a terminal: a pin of a component or of the design. A virtual pin is none, and * stands for no certain one.
 abbrev pub terminal_references : Terminal → List Reference
 terminal_references t = if is_of_all t || is_virtual t then [] else to_terminal t.owner t.pin ∷ []
-
-abbrev pub via_of_item : {Via : Type 0} → (Via → WireVia) → PathItem Via → Option (List ℕ)
-via_of_item via_of (path_via via) = Some (via_of via).name
-via_of_item via_of _ = None
 
 -- the vias that items of a path name
 abbrev pub item_references : {Via : Type 0} → (Via → WireVia) → List (PathItem Via) → List Reference
@@ -128,10 +102,6 @@ wire_references w = to_layer w.layer ∷ taper_references w.taper ++ item_refere
 
 abbrev pub special_wire_references : SpecialWire → List Reference
 special_wire_references w = to_layer w.layer ∷ item_references (λ (v : SpecialVia). v.via) w.path.items
-
-abbrev pub rule_of_clause : NetClause → Option (List ℕ)
-rule_of_clause (net_rule name) = Some name
-rule_of_clause _ = None
 
 -- a net: its terminals, its first NONDEFAULTRULE, and what its wires name
 abbrev pub net_references : NetEntry → List Reference

@@ -8,7 +8,7 @@ use Rattle.design_model.specs.declared.mode.Section.TheVariants.{Regions, Compon
 use Rattle.design_model.specs.EnumWords.{section_word}
 use Rattle.design_model.specs.Lines.{line_text}
 use Rattle.form_meanings.specs.Words.{◌>>=◌, is_word}
-use Rattle.lef_grammar.specs.Firsts.{find_named}
+use Rattle.form_meanings.specs.Firsts.{find_named}
 use Rattle.lef_grammar.specs.Library.{Library, Macro, layer_named, macro_named, pin_named, rule_named, site_named}
 use Rattle.def_grammar.specs.Components.{Component}
 use Rattle.def_grammar.specs.Parts.{is_some}

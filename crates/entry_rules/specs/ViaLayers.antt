@@ -4,7 +4,7 @@ use Rattle.std.specs.Prelude.{ℕ, Bool, true, false, ◌||◌, List, [], ◌∷
 use Rattle.std.specs.List.{filter_map}
 use Rattle.std.specs.Option.{option_map}
 use Rattle.form_meanings.specs.Words.{◌>>=◌}
-use Rattle.lef_grammar.specs.Firsts.{find_named, first_of, with_all}
+use Rattle.form_meanings.specs.Firsts.{find_named, first_of, with_all}
 use Rattle.lef_grammar.specs.Definitions as lef
 use Rattle.lef_grammar.specs.Library.{Library, layer_named, via_named, rule_named}
 use Rattle.def_grammar.specs.DefVias.{DefVia, ViaClause, via_rule}

@@ -14,7 +14,7 @@ use Rattle.lef_grammar.specs.RuleBlock.{opens_rule_layer, opens_rule_via, RuleLa
 use Rattle.lef_grammar.specs.MacroBlock.{MacroRecord, opens_pin, class_of, size_of, origin_of, site_of}
 use Rattle.lef_grammar.specs.PortBlock.{PortRecord, port_layer_of, port_rect_of, is_unchecked}
 use Rattle.lef_grammar.specs.LefRecords.{LefRecord, outside, in_layer, in_site, in_via, in_rule, in_rule_layer, in_macro, in_pin, in_port}
-use Rattle.lef_grammar.specs.Firsts.{headed, first_of, with_all}
+use Rattle.form_meanings.specs.Firsts.{headed, first_of, with_all}
 
 -- a number as it is read. The grammar has none here that doesn't read, so that 0 stands for no word of a text.
 abbrev pub distance_or_0 : Result Distance NumFault → Distance

@@ -1,6 +1,5 @@
 pub mod Definitions
 pub mod Extents
-pub mod Firsts
 pub mod KeptBlocks
 pub mod LayerBlock
 pub mod LefRecords

@@ -3,7 +3,7 @@ use Rattle.std.specs.Prelude.{ℕ, ◌+◌, List, [], ◌∷◌, Option, Result,
 use Rattle.design_model.specs.declared.fault.Fault.{Fault}
 use Rattle.statement_model.specs.Folds.{◌>>◌}
 use Rattle.lef_grammar.specs.LefRecords.{LefRecord, read_lef}
-use Rattle.lef_grammar.specs.Firsts.{find_named, with_all}
+use Rattle.form_meanings.specs.Firsts.{find_named, with_all}
 pub use Rattle.lef_grammar.specs.Definitions.{Layer, Site, Via, Rule, Macro, Pin}
 use Rattle.lef_grammar.specs.Definitions.{layers_of, sites_of, vias_of, rules_of, macros_of}
 

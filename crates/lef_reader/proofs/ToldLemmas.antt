@@ -4,7 +4,7 @@ use Rattle.std.proofs.lemmas.Bool.{cases_Bool}
 use Rattle.design_model.specs.declared.TheConstants.{MAX_TEXT}
 use Rattle.design_model.specs.declared.fault.Fault.{Fault}
 use Rattle.design_model.specs.declared.fault.FaultCode.TheVariants.{TooLong}
-use Rattle.statement_model.specs.Tokens.{Piece, Lexed, tokens}
+use Rattle.statement_model.specs.Tokens.{Token, Lexed, tokens}
 use Rattle.statement_model.specs.Boundaries.{cut, statement_at, statement_from}
 use Rattle.statement_model.specs.Folds.{◌>>◌}
 use Rattle.statement_model.specs.Reading.{fault_at, read_at, read_found, read_form, read_from, read_text, with_left}
@@ -17,7 +17,7 @@ some_left : (l : Lexed) (x : Result (LefRecord × Block) Fault) → with_left le
 some_left l (Ok x) h = absurd (cc)
 some_left l (Err f) h = absurd (cc)
 
-none_at : (b : Block) (l : Lexed) (f : Fault) (c : Option (List Piece × List Piece)) → l.end ≡ Err f → read_found lef b l (statement_from c l) ≡ Ok None → ⊥
+none_at : (b : Block) (l : Lexed) (f : Fault) (c : Option (List Token × List Token)) → l.end ≡ Err f → read_found lef b l (statement_from c l) ≡ Ok None → ⊥
 none_at b l f (Some x) end h = some_left (record { pieces = x.1; end = l.end }) (read_form lef b x.0) h
 none_at b l f None end h = let k = rw end at h in absurd (cc)
 

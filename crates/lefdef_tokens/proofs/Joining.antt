@@ -1,7 +1,7 @@
 -- The tokens of two texts, one after the other.
 use Rattle.std.proofs.Common.{◌≡◌, ℕ, suc, ◌+◌, Bool, true, false, List, [], ◌∷◌, ◌++◌, length, refl, sym, ap, ◌∙◌, append_assoc, add-zero, zero-add, arith, eqb-true, ◌&&◌, ◌||◌, not, ◌==◌, nat_lt, ⊎_elim, Ok}
 use Rattle.std.proofs.lemmas.Bool.{cases_Bool}
-use Rattle.statement_model.specs.Tokens.{Open, Piece, lex, before, next_open, ended_by, at_end, is_white, is_refused}
+use Rattle.statement_model.specs.Tokens.{Open, Token, lex, before, next_open, ended_by, at_end, is_white, is_refused}
 use Rattle.statement_model.specs.Tokens.Open.{between, comment, word, string}
 use Rattle.lefdef_tokens.specs.Laws.{state_after, IsClosed, BeginsApart, TokensJoin}
 
@@ -35,7 +35,7 @@ join (b ∷ s) t pos n state ok closed apart = ⊎_elim
     let h = rw good at ok in
     let later = join s t (pos + 1) n (next_open pos state b) h closed apart in
     let sum : pos + suc (length s) ≡ pos + 1 + length s = omega arith in
-    rw (good, sum) (ap (before (ended_by state b)) later ∙ ap (λ (ps : List Piece). record { pieces = ps; end = (lex (pos + 1 + length s) between t).end }) (sym (append_assoc (ended_by state b) (lex (pos + 1) (next_open pos state b) s).pieces (lex (pos + 1 + length s) between t).pieces))))
+    rw (good, sum) (ap (before (ended_by state b)) later ∙ ap (λ (ps : List Token). record { pieces = ps; end = (lex (pos + 1 + length s) between t).end }) (sym (append_assoc (ended_by state b) (lex (pos + 1) (next_open pos state b) s).pieces (lex (pos + 1 + length s) between t).pieces))))
     (cases_Bool (is_refused b))
 
 pub tokens_join : TokensJoin

@@ -10,7 +10,7 @@ use Rattle.std.proofs.lemmas.Slice.Eq.{bytes_eq-Decides}
 use Rattle.std.proofs.Math.Nat.{eq-or-lt_of_le}
 use Rattle.memchr.specs.Find.{Nowhere, Passes}
 use Rattle.form_meanings.specs.Words.{is_semicolon}
-use Rattle.statement_model.specs.Tokens.{Lexed, Piece, before, is_white, left_from}
+use Rattle.statement_model.specs.Tokens.{Lexed, Token, before, is_white, left_from}
 use Rattle.design_model.specs.declared.token_kind.TokenKind.TheVariants.{Word}
 use Rattle.lefdef_tokens.specs.Runs.{begins, piece_at, stops}
 use Rattle.lefdef_tokens.specs.Skipping.{HasBegun, IsWordStart, Skips, begins_after, begins_at, is_special}
@@ -58,7 +58,7 @@ other_word text start end lt plain = false_from_ne_true _ (λ is.
     no_semicolon (get_or text start 0) plain here)
 
 -- a place later, over white space or over a word
-abbrev IsPlain : Piece → Type 0
+abbrev IsPlain : Token → Type 0
 IsPlain p = is_semicolon p.bytes ≡ false
 
 skips_none : (text : List ℕ) (from : ℕ) → Skips text from from 0
@@ -67,14 +67,14 @@ skips_none text from = record { passed = []; many = refl; goes = refl; plain = A
 skips_same : (text : List ℕ) (from start to n : ℕ) → Skips text from start n → left_from text start ≡ left_from text to → Skips text from to n
 skips_same text from start to n s same = record { passed = s.passed; many = s.many; goes = s.goes ∙ ap (before s.passed) same; plain = s.plain }
 
-skips_word : (text : List ℕ) (from start to n : ℕ) (p : Piece) → Skips text from start n → left_from text start ≡ before (p ∷ []) (left_from text to) → is_semicolon p.bytes ≡ false → Skips text from to (n + 1)
+skips_word : (text : List ℕ) (from start to n : ℕ) (p : Token) → Skips text from start n → left_from text start ≡ before (p ∷ []) (left_from text to) → is_semicolon p.bytes ≡ false → Skips text from to (n + 1)
 skips_word text from start to n p s one plain =
     let rest = left_from text to in
     let many = s.many in
     record {
       passed = s.passed ++ p ∷ [];
       many = omega (arith, length-append s.passed (p ∷ []));
-      goes = s.goes ∙ ap (before s.passed) one ∙ ap (λ (ps : List Piece). let l : Lexed = record { pieces = ps; end = rest.end } in l) (sym (append_assoc s.passed (p ∷ []) rest.pieces));
+      goes = s.goes ∙ ap (before s.passed) one ∙ ap (λ (ps : List Token). let l : Lexed = record { pieces = ps; end = rest.end } in l) (sym (append_assoc s.passed (p ∷ []) rest.pieces));
       plain = All-append IsPlain s.passed (p ∷ []) s.plain (All-cons IsPlain p [] plain (All-nil IsPlain));
     }
 

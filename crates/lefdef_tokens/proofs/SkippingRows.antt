@@ -3,7 +3,7 @@ use Rattle.std.proofs.Common.{◌≡◌, ℕ, List, [], ◌∷◌, false, refl, 
 use Rattle.std.specs.List.{filter, range_with_len}
 use Rattle.std.proofs.lemmas.List.Elements.{All-cons, All-nil}
 use Rattle.form_meanings.specs.Words.{is_semicolon}
-use Rattle.statement_model.specs.Tokens.{Piece, lex}
+use Rattle.statement_model.specs.Tokens.{Token, lex}
 use Rattle.design_model.specs.declared.token_kind.TokenKind.TheVariants.{Word}
 use Rattle.lefdef_tokens.specs.Skipping.{Skips, begins_at, is_special}
 
@@ -19,10 +19,10 @@ special_bytes = refl
 words_begin : filter (begins_at (codes "- a  bc\td")) (range_with_len 1 8) ≡ 2 ∷ 5 ∷ 8 ∷ []
 words_begin = refl
 
-abbrev IsPlain : Piece → Type 0
+abbrev IsPlain : Token → Type 0
 IsPlain p = is_semicolon p.bytes ≡ false
 
-abbrev word : List ℕ → ℕ → Piece
+abbrev word : List ℕ → ℕ → Token
 word bytes pos = record { kind = Word; bytes = bytes; pos = pos }
 
 -- between the first word and the semicolon stand two

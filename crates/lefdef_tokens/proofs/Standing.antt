@@ -3,7 +3,7 @@ use Rattle.std.proofs.Common.{◌≡◌, ℕ, zero, suc, ◌+◌, ◌-◌, ◌<�
 use Rattle.std.specs.List.{slice_range}
 use Rattle.std.proofs.lemmas.Bool.{cases_Bool}
 use Rattle.std.proofs.lemmas.List.Edits.{between_more, length-between}
-use Rattle.statement_model.specs.Tokens.{Open, Piece, Lexed, lex, before, next_open, ended_by, at_end, is_white, is_refused, closes}
+use Rattle.statement_model.specs.Tokens.{Open, Token, Lexed, lex, before, next_open, ended_by, at_end, is_white, is_refused, closes}
 use Rattle.statement_model.specs.Tokens.Open.{between, comment, word, string}
 use Rattle.design_model.specs.declared.token_kind.TokenKind.{TokenKind}
 use Rattle.design_model.specs.declared.token_kind.TokenKind.TheVariants.{Word, Quoted}
@@ -25,9 +25,9 @@ Fits text from i comment = from ≤ i
 Fits text from i (word start bytes) = (from ≤ start) × (start < i) × (bytes ≡ slice_range text start i)
 Fits text from i (string start bytes last) = (from ≤ start) × (start < i) × (bytes ≡ slice_range text start i)
 
-piece_stands : (kind : TokenKind) (text : List ℕ) (from start i : ℕ) (bytes : List ℕ) (ps : List Piece) → from ≤ start → start < i → i ≤ length text → bytes ≡ slice_range text start i → StandIn text i ps
+token_stands : (kind : TokenKind) (text : List ℕ) (from start i : ℕ) (bytes : List ℕ) (ps : List Token) → from ≤ start → start < i → i ≤ length text → bytes ≡ slice_range text start i → StandIn text i ps
     → StandIn text from (record { kind = kind; bytes = bytes; pos = start } ∷ ps)
-piece_stands kind text from start i bytes ps low before within is later =
+token_stands kind text from start i bytes ps low before within is later =
     let long : length bytes ≡ i - start = ap length is ∙ length-between text start i within in
     let end : start + length bytes ≡ i = omega arith in
     (low, omega arith, omega arith, subst (λ (j : ℕ). bytes ≡ slice_range text start j) (sym end) is, subst (λ (j : ℕ). StandIn text j ps) (sym end) later)
@@ -35,7 +35,7 @@ piece_stands kind text from start i bytes ps low before within is later =
 stands_at_end : (text : List ℕ) (from i : ℕ) (s : Open) → i ≤ length text → Fits text from i s → StandIn text from (at_end i s).pieces
 stands_at_end text from i between le fits = tt
 stands_at_end text from i comment le fits = tt
-stands_at_end text from i (word start bytes) le fits = piece_stands Word text from start i bytes [] fits.0 fits.1 le fits.2 tt
+stands_at_end text from i (word start bytes) le fits = token_stands Word text from start i bytes [] fits.0 fits.1 le fits.2 tt
 stands_at_end text from i (string start bytes last) le fits = tt
 
 fits_open : (text : List ℕ) (from i : ℕ) → i < length text → from ≤ i → Fits text from (i + 1) (next_open i between (get_or text i 0))
@@ -58,16 +58,16 @@ stands_step text from i between lt fits later = later from _ (fits_open text fro
 stands_step text from i comment lt fits later = later from _ (of_if (Fits text from (i + 1)) (get_or text i 0 == 10) between comment (omega arith) (omega arith))
 stands_step text from i (word start bytes) lt fits later =
     let byte = get_or text i 0 in
-    let P = λ (ps : List Piece) (s : Open). StandIn text from (ps ++ (lex (i + 1) s (drop (i + 1) text)).pieces) in
+    let P = λ (ps : List Token) (s : Open). StandIn text from (ps ++ (lex (i + 1) s (drop (i + 1) text)).pieces) in
     of_ifs P (is_white byte) (record { kind = Word; bytes = bytes; pos = start } ∷ []) [] between (word start (bytes ++ byte ∷ []))
-    (piece_stands Word text from start i bytes _ fits.0 fits.1 (omega arith) fits.2 (later i between (omega arith)))
+    (token_stands Word text from start i bytes _ fits.0 fits.1 (omega arith) fits.2 (later i between (omega arith)))
     (later from _ (fits.0, omega arith, grown text start i bytes fits.1 lt fits.2))
 stands_step text from i (string start bytes last) lt fits later =
     let byte = get_or text i 0 in
-    let P = λ (ps : List Piece) (s : Open). StandIn text from (ps ++ (lex (i + 1) s (drop (i + 1) text)).pieces) in
+    let P = λ (ps : List Token) (s : Open). StandIn text from (ps ++ (lex (i + 1) s (drop (i + 1) text)).pieces) in
     let more = grown text start i bytes fits.1 lt fits.2 in
     of_ifs P (closes last byte) (record { kind = Quoted; bytes = bytes ++ byte ∷ []; pos = start } ∷ []) [] between (string start (bytes ++ byte ∷ []) byte)
-    (piece_stands Quoted text from start (i + 1) (bytes ++ byte ∷ []) _ fits.0 (omega arith) (omega arith) more (later (i + 1) between (le_refl (i + 1))))
+    (token_stands Quoted text from start (i + 1) (bytes ++ byte ∷ []) _ fits.0 (omega arith) (omega arith) more (later (i + 1) between (le_refl (i + 1))))
     (later from _ (fits.0, omega arith, more))
 
 stands : (text : List ℕ) (n i : ℕ) → i + n ≡ length text → Later text i

@@ -1,7 +1,7 @@
 -- Laws of the tokens of a text.
 use Rattle.std.specs.Prelude.{◌≡◌, ◌≤◌, ◌<◌, ℕ, ◌+◌, true, List, [], ◌∷◌, ◌++◌, length, Result, Ok, Err, map}
 use Rattle.std.specs.List.{slice_range}
-use Rattle.statement_model.specs.Tokens.{Open, Piece, Lexed, lex, before, next_open, is_white, tokens}
+use Rattle.statement_model.specs.Tokens.{Open, Token, Lexed, lex, before, next_open, is_white, tokens}
 use Rattle.design_model.specs.declared.fault.Fault.{Fault}
 use Rattle.statement_model.specs.Tokens.Open.{between, comment, word, string}
 
@@ -27,8 +27,8 @@ abbrev pub TokensJoin : Type 0
 TokensJoin = (s t : List ℕ) (n : ℕ) → (tokens s).end ≡ Ok n → IsClosed (state_after 0 between s) → BeginsApart t → tokens (s ++ t) ≡ before (tokens s).pieces (lex (length s) between t)
 
 -- the same, k bytes later
-abbrev pub moved_piece : ℕ → Piece → Piece
-moved_piece k p = record { kind = p.kind; bytes = p.bytes; pos = k + p.pos }
+abbrev pub moved_token : ℕ → Token → Token
+moved_token k p = record { kind = p.kind; bytes = p.bytes; pos = k + p.pos }
 
 abbrev pub moved_state : ℕ → Open → Open
 moved_state k between = between
@@ -41,14 +41,14 @@ moved_end k (Ok n) = Ok (k + n)
 moved_end k (Err f) = Err (record { code = f.code; pos = k + f.pos })
 
 abbrev pub moved : ℕ → Lexed → Lexed
-moved k l = record { pieces = map (moved_piece k) l.pieces; end = moved_end k l.end }
+moved k l = record { pieces = map (moved_token k) l.pieces; end = moved_end k l.end }
 
 -- What is read doesn't depend on where it stands, but for the places.
 abbrev pub TokensMove : Type 0
 TokensMove = (text : List ℕ) (k pos : ℕ) → lex (k + pos) between text ≡ moved k (lex pos between text)
 
 -- The tokens stand in the text one after the other, from a place on, and their bytes are what the text has there.
-abbrev pub StandIn : List ℕ → ℕ → List Piece → Type 0
+abbrev pub StandIn : List ℕ → ℕ → List Token → Type 0
 StandIn text from [] = Unit {0}
 StandIn text from (p ∷ ps) =
     (from ≤ p.pos)

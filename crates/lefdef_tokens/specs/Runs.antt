@@ -3,14 +3,14 @@ use Rattle.std.specs.Prelude.{◌≡◌, ◌≢◌, ℕ, ◌+◌, ◌-◌, ◌�
 use Rattle.std.specs.Int.{bit_at}
 use Rattle.std.specs.List.{slice_range}
 use Rattle.memchr.specs.Find.{Nowhere, Passes, is_byte}
-use Rattle.statement_model.specs.Tokens.{Piece, is_white, is_refused, closes, before, left_from, only_fault}
+use Rattle.statement_model.specs.Tokens.{Token, is_white, is_refused, closes, before, left_from, only_fault}
 use Rattle.design_model.specs.declared.fault.Fault.{Fault}
 use Rattle.design_model.specs.declared.token_kind.TokenKind.{TokenKind}
 use Rattle.design_model.specs.declared.token_kind.TokenKind.TheVariants.{Word, Quoted}
 
 -- From a place between two tokens on, reading comes to the returned place of the text, also between two tokens, after the
 -- given tokens; or to nothing but the fault.
-abbrev pub GoesTo : List ℕ → ℕ → (ℕ → List Piece) → Result ℕ Fault → Type 0
+abbrev pub GoesTo : List ℕ → ℕ → (ℕ → List Token) → Result ℕ Fault → Type 0
 GoesTo text from given r =
     MatchResult r
     (λ end. (from ≤ end) × (end ≤ length text) × (left_from text from ≡ before (given end) (left_from text end)))
@@ -44,11 +44,11 @@ abbrev pub begins : ℕ → Bool
 begins b = not (is_refused b) && not (is_white b) && not (b == 35)
 
 -- the word, or the string, from start up to end
-abbrev pub piece_at : TokenKind → List ℕ → ℕ → ℕ → Piece
+abbrev pub piece_at : TokenKind → List ℕ → ℕ → ℕ → Token
 piece_at kind text start end = record { kind = kind; bytes = slice_range text start end; pos = start }
 
 -- a token that stands from start up to end: a string where its first byte is a quote
-abbrev pub token_from : List ℕ → ℕ → ℕ → Piece
+abbrev pub token_from : List ℕ → ℕ → ℕ → Token
 token_from text start end = piece_at (if slice_index text start == 34 then Quoted else Word) text start end
 
 -- the first token from a place between two tokens on stands from start up to end

@@ -1,12 +1,12 @@
 -- Words that are gone over many bytes at a time.
 use Rattle.std.specs.Prelude.{◌≡◌, ◌≤◌, ◌<◌, ◌+◌, ◌-◌, ℕ, Bool, true, false, not, ◌&&◌, ◌||◌, ◌==◌, nat_le, List, length, slice_index}
 use Rattle.std.specs.List.{All}
-use Rattle.statement_model.specs.Tokens.{Piece, before, is_white, left_from}
+use Rattle.statement_model.specs.Tokens.{Token, before, is_white, left_from}
 use Rattle.form_meanings.specs.Words.{is_semicolon}
 
 -- From one place between two tokens to another stand n tokens, none of which is a semicolon.
 pub record Skips (text : List ℕ) (from to n : ℕ) : Type 0 where
-  pub passed : List Piece
+  pub passed : List Token
   pub many : length passed ≡ n
   pub goes : left_from text from ≡ before passed (left_from text to)
   pub plain : All (λ p. is_semicolon p.bytes ≡ false) passed

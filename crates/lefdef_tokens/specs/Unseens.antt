@@ -1,7 +1,7 @@
 -- Tokens of which none was looked for yet, as the words that are left.
 use Rattle.std.specs.Prelude.{◌≡◌, ◌≤◌, ℕ, List, Option, Some, IfSome}
 use Rattle.form_meanings.specs.Words.{Rest}
-use Rattle.lefdef_tokens.specs.Pieces.{words_of}
+use Rattle.lefdef_tokens.specs.TokenViews.{words_of}
 use Rattle.lefdef_tokens.specs.declared.token.Token.{Token}
 use Rattle.lefdef_tokens.specs.declared.token_run.TokenRun.{TokenRun}
 use Rattle.lefdef_tokens.specs.declared.unseen.Unseen.{Unseen}

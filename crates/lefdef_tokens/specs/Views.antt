@@ -5,7 +5,7 @@ use Rattle.form_meanings.specs.Words.{Rest}
 use Rattle.lefdef_tokens.specs.declared.cursor.Cursor.{Cursor}
 use Rattle.lefdef_tokens.specs.declared.token.Token.{Token}
 use Rattle.lefdef_tokens.specs.declared.token_run.TokenRun.{TokenRun}
-pub use Rattle.lefdef_tokens.specs.Pieces.{piece_of, found_of, IsIn, IsNext, Steps, pieces_of, words_of, span_of}
+pub use Rattle.lefdef_tokens.specs.TokenViews.{token_of, found_of, IsIn, IsNext, Steps, pieces_of, words_of, span_of}
 
 -- a word that is lent
 abbrev pub word_view : Bor (List ℕ) → List ℕ

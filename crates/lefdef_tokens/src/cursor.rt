@@ -24,7 +24,7 @@ impl<'t> Cursor<'t> {
     ghost use Rattle.std.specs.Prelude.{◌∷◌, List, [], length, false, ℕ, IfSome, MatchOption};
     ghost use Rattle.form_meanings.specs.Words.{Gives, is_done, is_name, is_plain, is_place, is_plus, is_semicolon, is_stop, is_word, key, name_at, next_passes, next_word, noted, split_rest, word_that};
     ghost use Rattle.statement_model.specs.Form.{◌▸◌, read, word};
-    ghost use Rattle.lefdef_tokens.specs.Pieces.{StandsFirst};
+    ghost use Rattle.lefdef_tokens.specs.TokenViews.{StandsFirst};
     ghost use Rattle.lefdef_tokens.specs.Unseens.{IsFurther, unseen_rest};
     ghost use Rattle.lefdef_tokens.specs.Views.{IsIn, IsLater, rest_of, run_of, word_of, words_of};
 

@@ -1,8 +1,8 @@
 //! The tokens of a text, one at a time.
 
 ghost use Rattle.std.specs.Prelude.{◌≡◌, ◌≤◌, ◌+◌, length, IfOk, IfSome};
-ghost use Rattle.statement_model.specs.Tokens.{tokens, first_piece, later_pieces};
-ghost use Rattle.lefdef_tokens.specs.Pieces.{IsIn, found_of};
+ghost use Rattle.statement_model.specs.Tokens.{tokens, first_token, later_tokens};
+ghost use Rattle.lefdef_tokens.specs.TokenViews.{IsIn, found_of};
 
 use crate::step::token_at;
 use crate::token::Token;
@@ -36,8 +36,8 @@ impl<'t> Scanner<'t> {
     }
 
     pub fn next(&mut self) -> Result<Option<Token<'t>>, Fault>
-        ensures gives { found_of result ≡ first_piece self.old.left }
-        ensures left { self.new.left ≡ later_pieces self.old.left }
+        ensures gives { found_of result ≡ first_token self.old.left }
+        ensures left { self.new.left ≡ later_tokens self.old.left }
         ensures text { self.new.text ≡ self.old.text }
         ensures slice { IfOk result (λ found. IfSome found (λ t. IsIn self.old.text t)) }
     {

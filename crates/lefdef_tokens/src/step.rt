@@ -1,7 +1,7 @@
 //! The first token of what is left of a text.
 
 ghost use Rattle.std.specs.Prelude.{◌≡◌, ◌≤◌, ◌<◌, ◌+◌, length, slice_index, IfOk, IfSome};
-ghost use Rattle.lefdef_tokens.specs.Pieces.{IsIn, IsNext, Steps, piece_of};
+ghost use Rattle.lefdef_tokens.specs.TokenViews.{IsIn, IsNext, Steps, token_of};
 ghost use Rattle.statement_model.specs.Tokens.{left_from};
 ghost use Rattle.lefdef_tokens.specs.Runs.{ComesFirst, FirstStands, token_from};
 ghost use Rattle.lefdef_tokens.specs.Windows.{IsNextLow, LowMarks};
@@ -105,7 +105,7 @@ pub fn first_bounds(text: &[u8], pos: usize) -> (usize, usize)
 pub fn token_between<'t>(text: &'t [u8], start: usize, end: usize) -> Token<'t>
     requires some { start < end }
     requires within { end ≤ length text.now }
-    ensures piece { piece_of result ≡ token_from text.now start end }
+    ensures piece { token_of result ≡ token_from text.now start end }
     ensures slice { IsIn text.now result }
     ensures len { length result.bytes.now + start ≡ end }
 {

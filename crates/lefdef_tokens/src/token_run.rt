@@ -24,7 +24,7 @@ impl<'t> TokenRun<'t> {
     ghost use Rattle.statement_model.specs.Tokens.{tokens};
     ghost use Rattle.form_meanings.specs.Words.{Gives};
     ghost use Rattle.lefdef_tokens.specs.Runs.{ComesFirst};
-    ghost use Rattle.lefdef_tokens.specs.Pieces.{IsIn, IsNext, StandsFirst, piece_of, pieces_of, span_of, words_of};
+    ghost use Rattle.lefdef_tokens.specs.TokenViews.{IsIn, IsNext, StandsFirst, token_of, pieces_of, span_of, words_of};
 
     /// All tokens of a text.
     pub fn of_text(text: &'t [u8]) -> Result<TokenRun<'t>, Fault>
@@ -83,7 +83,7 @@ impl<'t> TokenRun<'t> {
     #[inline(always)]
     pub(crate) fn after(self, first: Token<'t>) -> TokenRun<'t>
         requires { StandsFirst self first }
-        ensures pieces { pieces_of self.entry ≡ piece_of first.entry ∷ pieces_of result }
+        ensures pieces { pieces_of self.entry ≡ token_of first.entry ∷ pieces_of result }
         ensures words { words_of self.entry ≡ first.entry.bytes.now ∷ words_of result }
         ensures same { result.text.now ≡ self.entry.text.now }
         ensures pos { result.pos ≡ first.entry.pos + length first.entry.bytes.now }
@@ -99,7 +99,7 @@ impl<'t> TokenRun<'t> {
     /// The first token, and the tokens after it.
     #[inline(always)]
     pub fn split_first(self) -> Option<(Token<'t>, TokenRun<'t>)>
-        ensures pieces { MatchOption result (pieces_of self.entry ≡ []) (λ x. pieces_of self.entry ≡ piece_of x.0 ∷ pieces_of x.1) }
+        ensures pieces { MatchOption result (pieces_of self.entry ≡ []) (λ x. pieces_of self.entry ≡ token_of x.0 ∷ pieces_of x.1) }
         ensures words { MatchOption result (words_of self.entry ≡ []) (λ x. words_of self.entry ≡ x.0.bytes.now ∷ words_of x.1) }
         ensures slice { IfSome result (λ x. IsIn self.entry.text.now x.0) }
         ensures same { IfSome result (λ x. x.1.text.now ≡ self.entry.text.now) }
@@ -158,7 +158,7 @@ impl<'t> TokenRun<'t> {
 
     /// The token after `n` others.
     pub fn token(self, n: usize) -> Option<Token<'t>>
-        ensures gives { Gives piece_of result (slice_get (pieces_of self.entry) n) }
+        ensures gives { Gives token_of result (slice_get (pieces_of self.entry) n) }
         ensures slice { IfSome result (λ t. IsIn self.entry.text.now t) }
     {
         let (token, _) = self.skip(n).split_first()?;

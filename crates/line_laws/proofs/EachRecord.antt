@@ -4,7 +4,7 @@ use Rattle.std.proofs.lemmas.Bool.{cases_Bool as cases}
 use Rattle.design_model.specs.declared.TheConstants.{MAX_TEXT}
 use Rattle.design_model.specs.declared.fault.Fault.{Fault}
 use Rattle.design_model.specs.declared.fault.FaultCode.{FaultCode}
-use Rattle.statement_model.specs.Tokens.{Piece, tokens}
+use Rattle.statement_model.specs.Tokens.{Token, tokens}
 use Rattle.statement_model.specs.Boundaries.{words, is_whole}
 use Rattle.statement_model.specs.Folds.{◌>>◌}
 use Rattle.statement_model.specs.Form.{whole}
@@ -23,25 +23,25 @@ module _ {M R : Type 0} (g : Grammar M R) (P : R → Type 0) (holds : (m : M) (w
   abbrev State : Type 0
   State = M × List Key
 
-  of_form : (m : M) (ps : List Piece) (o : Option (R × Option ℕ)) (x : R × M) → whole (g.form m) (words ps) ≡ o → formed g m ps o ≡ Ok x → P x.0
+  of_form : (m : M) (ps : List Token) (o : Option (R × Option ℕ)) (x : R × M) → whole (g.form m) (words ps) ≡ o → formed g m ps o ≡ Ok x → P x.0
   of_form m ps None x is e = absurd (cc)
   of_form m ps (Some (rec, None)) x is e =
       let made : R × M = (rec, g.after m rec) in
       subst P (ap (λ (z : R × M). z.0) (ok_same made x e)) (holds m (words ps) rec is)
   of_form m ps (Some (rec, Some left)) x is e = absurd (cc)
 
-  not_repeated : (ps : List Piece) (again : Option FaultCode) (rec : R) (m : M) (seen : List Key) (x : R × State) → P rec → unless_repeated g ps again rec m seen ≡ Ok x → P x.0
+  not_repeated : (ps : List Token) (again : Option FaultCode) (rec : R) (m : M) (seen : List Key) (x : R × State) → P rec → unless_repeated g ps again rec m seen ≡ Ok x → P x.0
   not_repeated ps None rec m seen x of_rec e =
       let made : R × State = (rec, (m, with_key (g.key rec) seen)) in
       subst P (ap (λ (z : R × State). z.0) (ok_same made x e)) of_rec
   not_repeated ps (Some code) rec m seen x of_rec e = absurd (cc)
 
-  of_read : (state : State) (ps : List Piece) (r : Result (R × M) Fault) (x : R × State) → ((y : R × M) → r ≡ Ok y → P y.0)
+  of_read : (state : State) (ps : List Token) (r : Result (R × M) Fault) (x : R × State) → ((y : R × M) → r ≡ Ok y → P y.0)
       → (r >> λ y. unless_repeated g ps (repeats state.1 (g.key y.0)) y.0 y.1 state.1) ≡ Ok x → P x.0
   of_read state ps (Ok y) x of_y e = not_repeated ps (repeats state.1 (g.key y.0)) y.0 y.1 state.1 x (of_y y refl) e
   of_read state ps (Err f) x of_y e = absurd (cc)
 
-  of_one : (state : State) (ps : List Piece) (x : R × State) → read_one g state ps ≡ Ok x → P x.0
+  of_one : (state : State) (ps : List Token) (x : R × State) → read_one g state ps ≡ Ok x → P x.0
   of_one state ps x e = of_read state ps (read_form g state.0 ps) x (λ y is. of_form state.0 ps (whole (g.form state.0) (words ps)) y refl is) e
 
   last_is_none : (state : State) (n : ℕ) (lacks : Option FaultCode) (recs : List R) → ended g state n lacks ≡ Ok recs → Each P recs
@@ -52,7 +52,7 @@ module _ {M R : Type 0} (g : Grammar M R) (P : R → Type 0) (holds : (m : M) (w
   at_end state n true recs f e = last_is_none state n (g.lacks state.1) recs e
   at_end state n false recs f e = absurd (cc)
 
-  of_last : (state : State) (ps : List Piece) (end : Result ℕ Fault) (recs : List R) → at_last g state ps end ≡ Ok recs → Each P recs
+  of_last : (state : State) (ps : List Token) (end : Result ℕ Fault) (recs : List R) → at_last g state ps end ≡ Ok recs → Each P recs
   of_last state ps (Err f) recs e = absurd (cc)
   of_last state (p ∷ ps) (Ok n) recs e = absurd (cc)
   of_last state [] (Ok n) recs e = at_end state n (g.may_end state.0) recs _ e
@@ -67,7 +67,7 @@ module _ {M R : Type 0} (g : Grammar M R) (P : R → Type 0) (holds : (m : M) (w
   of_next (Ok x) later recs of_x of_rs e = of_later x (later x.1) recs (of_x x refl) (of_rs x.1) e
   of_next (Err f) later recs of_x of_rs e = absurd (cc)
 
-  of_all : (state : State) (begun ps : List Piece) (end : Result ℕ Fault) (recs : List R) → read_on g state begun ps end ≡ Ok recs → Each P recs
+  of_all : (state : State) (begun ps : List Token) (end : Result ℕ Fault) (recs : List R) → read_on g state begun ps end ≡ Ok recs → Each P recs
   unfolding read_on
   of_all state begun [] end recs e = of_last state begun end recs e
   of_all state begun (p ∷ ps) end recs e = ⊎_elim

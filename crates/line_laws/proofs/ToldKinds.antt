@@ -7,10 +7,10 @@ use Rattle.std.proofs.lemmas.List.{append_assoc}
 use Rattle.std.proofs.lemmas.List.Sums.{take_while-cons}
 use Rattle.design_model.specs.declared.diagnostic.DiagKind.{DiagKind}
 use Rattle.design_model.specs.declared.diagnostic.DiagKind.TheVariants.{Count}
-use Rattle.design_model.specs.Lines.{IsLineOf, kind_word, line_text}
+use Rattle.design_model.specs.Lines.{IsLineOf, kind_word, line_text, kinds}
 use Rattle.form_meanings.specs.Meaning.{find}
 use Rattle.form_meanings.proofs.Steps.{some_same}
-use Rattle.line_laws.specs.KindLaws.{kinds, is_no_space, kind_of, KindsAreTold}
+use Rattle.line_laws.specs.KindLaws.{is_no_space, kind_of, KindsAreTold}
 
 -- a word before the first space
 abbrev has_no_space : List ℕ → Bool

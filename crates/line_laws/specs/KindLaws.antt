@@ -1,13 +1,9 @@
 -- Laws of the kinds of lines.
-use Rattle.std.specs.Prelude.{◌≡◌, ℕ, Bool, not, ◌==◌, List, [], ◌∷◌, Option}
+use Rattle.std.specs.Prelude.{◌≡◌, ℕ, Bool, not, ◌==◌, List, Option}
 use Rattle.std.specs.List.{take_while}
 use Rattle.design_model.specs.declared.diagnostic.DiagKind.{DiagKind}
-use Rattle.design_model.specs.declared.diagnostic.DiagKind.TheVariants.{Count, Overlap, Unknown, ViaLayer, Unchecked, OffRow, OffSite, Flip, Outside, Blocked, Fence, Intruder}
-use Rattle.design_model.specs.Lines.{IsLineOf, kind_word}
+use Rattle.design_model.specs.Lines.{IsLineOf, kind_word, kinds}
 use Rattle.form_meanings.specs.Meaning.{find}
-
-abbrev pub kinds : List DiagKind
-kinds = Count ∷ Overlap ∷ Unknown ∷ ViaLayer ∷ Unchecked ∷ OffRow ∷ OffSite ∷ Flip ∷ Outside ∷ Blocked ∷ Fence ∷ Intruder ∷ []
 
 abbrev pub is_no_space : ℕ → Bool
 is_no_space b = not (b == 32)

@@ -7,18 +7,17 @@ use Rattle.design_model.specs.declared.geometry.Point.{Point}
 use Rattle.design_model.specs.Geometry.{Rectangle, spanned}
 use Rattle.form_meanings.specs.Words.{◌>>=◌}
 use Rattle.lef_grammar.specs.Definitions as lef
-use Rattle.lef_grammar.specs.Firsts.{first_of}
+use Rattle.form_meanings.specs.Firsts.{first_of}
 use Rattle.lef_grammar.specs.Library.{Library, via_named}
 use Rattle.lef_grammar.specs.Measures.{point_in, point_or_0, rectangle_in}
 use Rattle.def_grammar.specs.Numbers.{int_of}
 use Rattle.def_grammar.specs.Parts.{Coordinates}
 use Rattle.def_grammar.specs.Points.{Corners, corner_points, place_of}
 use Rattle.def_grammar.specs.DefVias as def
-use Rattle.def_grammar.specs.DefVias.{DefVia, ViaClause, ViaRectangle, ViaLayers, ByLayer, CutArray, via_has_rectangle, cut_size, cut_spacing, enclosure, row_col, via_origin, via_offset}
+use Rattle.def_grammar.specs.DefVias.{DefVia, ViaClause, ViaRectangle, ViaLayers, ByLayer, CutArray, via_has_rectangle, cut_size, cut_spacing, enclosure, row_col, via_origin, via_offset, layers_of_clause}
 use Rattle.def_grammar.specs.Records.{Record}
 use Rattle.wire_rules.specs.Sizes.{as_cuts, as_sizes}
 use Rattle.wire_rules.specs.ViaShapes.{NamedShape, GeneratedVia, generated_shapes}
-use Rattle.entry_rules.specs.References.{layers_of_clause}
 use Rattle.entry_rules.specs.ViaLayers.{by_rule, def_via_named, or_lef, rule_of_via}
 
 -- two corners, of which the second may have a *

@@ -6,7 +6,7 @@ use Rattle.design_model.specs.Units.{nearest}
 use Rattle.form_meanings.specs.Words.{◌>>=◌}
 use Rattle.wire_rules.specs.Sizes.{as_size}
 use Rattle.lef_grammar.specs.Definitions as lef
-use Rattle.lef_grammar.specs.Firsts.{find_named}
+use Rattle.form_meanings.specs.Firsts.{find_named}
 use Rattle.lef_grammar.specs.Library.{Library, layer_named, rule_named}
 use Rattle.lef_grammar.specs.Measures.{width_in}
 use Rattle.def_grammar.specs.Numbers.{int_of}

@@ -5,7 +5,7 @@ ghost use Rattle.std.specs.Int.{int_min, int_max};
 ghost use Rattle.design_model.specs.Geometry.{IsNear, IsNearRectangle, turned_point, spanned, turned, moved, placed, placed_box, overlap};
 ghost use Rattle.design_model.specs.Views.{rectangle_of};
 ghost use Rattle.wire_rules.specs.Placed.{turned_at};
-ghost use Rattle.wire_rules.specs.Ranges.{IsPointWithin};
+ghost use Rattle.design_model.specs.Ranges.{IsPointWithin};
 
 use design_model::geometry::{Orient, Point, Rect};
 

@@ -6,12 +6,11 @@ use Rattle.design_model.specs.declared.geometry.Point.{Point}
 use Rattle.design_model.specs.declared.geometry.Orient.{Orient}
 use Rattle.design_model.specs.declared.geometry.Orient.TheVariants.{N, W, S, E, FN, FS, FW, FE}
 use Rattle.design_model.specs.Geometry.{Rectangle, turned, moved, placed_box, IsNear, IsNearRectangle}
-use Rattle.def_grammar.specs.Components.{Component}
+use Rattle.def_grammar.specs.Components.{Component, region_of_clause}
 use Rattle.def_grammar.specs.Numbers.{int_of}
 use Rattle.def_grammar.specs.Parts.{Coordinates}
-use Rattle.entry_rules.specs.References.{region_of_clause}
 use Rattle.lef_grammar.specs.Definitions.{Distances, Macro}
-use Rattle.lef_grammar.specs.Firsts.{first_of}
+use Rattle.form_meanings.specs.Firsts.{first_of}
 use Rattle.lef_grammar.specs.Measures.{point_or_0}
 use Rattle.cell_library.specs.Numbers.{IsWithin}
 use Rattle.design_rules.specs.Boxes.{Boxed, box_at, boundary_of, is_cover}

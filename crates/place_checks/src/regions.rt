@@ -3,7 +3,7 @@
 ghost use Rattle.std.specs.Prelude.{◌≡◌, IfOk, map};
 ghost use Rattle.std.specs.Option.{option_map};
 ghost use Rattle.design_model.specs.Views.{rectangle_of};
-ghost use Rattle.lef_grammar.specs.Firsts.{first_of};
+ghost use Rattle.form_meanings.specs.Firsts.{first_of};
 ghost use Rattle.def_grammar.specs.Regions.{region_points};
 ghost use Rattle.def_reader.specs.StatementViews.{record_view, records_view};
 ghost use Rattle.place_parts.specs.AgainViews.{region_at_view};

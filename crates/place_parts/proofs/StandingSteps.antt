@@ -3,9 +3,8 @@ use Rattle.std.proofs.Common.{◌≡◌, ◌-◌, ℕ, Bool, true, false, List, 
 use Rattle.std.specs.Option.{option_map, option_or}
 use Rattle.form_meanings.specs.Words.{Rest, next_passes}
 use Rattle.form_meanings.specs.Meaning.{repeat}
-use Rattle.def_grammar.specs.Components.{Clause, placed, unplaced, region, other}
-use Rattle.lef_grammar.specs.Firsts.{first_of}
-use Rattle.entry_rules.specs.References.{region_of_clause}
+use Rattle.def_grammar.specs.Components.{Clause, placed, unplaced, region, other, region_of_clause}
+use Rattle.form_meanings.specs.Firsts.{first_of}
 use Rattle.lefdef_tokens.specs.Views.{word_view}
 use Rattle.place_parts.specs.StandingViews.{standing_by, standing_of}
 use Rattle.place_parts.specs.declared.standing.Standing.{Standing}

@@ -2,8 +2,8 @@
 
 ghost use Rattle.std.specs.Prelude.{◌≡◌};
 ghost use Rattle.std.specs.Option.{option_map};
-ghost use Rattle.lef_grammar.specs.Firsts.{first_of};
-ghost use Rattle.entry_rules.specs.References.{region_of_clause};
+ghost use Rattle.form_meanings.specs.Firsts.{first_of};
+ghost use Rattle.def_grammar.specs.Components.{region_of_clause};
 ghost use Rattle.place_parts.specs.ClauseViews.{clauses_of};
 ghost use Rattle.lefdef_tokens.specs.Views.{word_view};
 ghost use Rattle.place_parts.specs.StandingViews.{standing_of};

@@ -5,7 +5,7 @@ use Rattle.std.specs.Fmt.{signed_decimal}
 use Rattle.std.specs.List.{list_all}
 use Rattle.std.proofs.lemmas.Bool.{and_from, and_parts, or_parts, not-true}
 use Rattle.std.proofs.lemmas.Bool.Decides.{nat_tests}
-use Rattle.statement_model.specs.Tokens.{Open, Piece, Lexed, lex, is_white, is_refused, tokens}
+use Rattle.statement_model.specs.Tokens.{Open, Token, Lexed, lex, is_white, is_refused, tokens}
 use Rattle.statement_model.specs.Tokens.Open.{between, word}
 use Rattle.statement_model.specs.Boundaries.{words}
 use Rattle.lefdef_tokens.specs.Laws.{state_after, IsClosed}
@@ -140,7 +140,7 @@ printed_is_one_word (pos n) = digits_are_one_word (decimal n) (decimal_digits n)
 printed_is_one_word (negsuc n) = minus_is_one_word (decimal (suc n)) (decimal_digits (suc n))
 
 -- such bytes at the front of a text
-words_are_tokens : (text : List ℕ) (ws : List (List ℕ)) → IsWords 0 text ws → (ps : List Piece) × AreTokens text ps × (words ps ≡ ws)
+words_are_tokens : (text : List ℕ) (ws : List (List ℕ)) → IsWords 0 text ws → (ps : List Token) × AreTokens text ps × (words ps ≡ ws)
 words_are_tokens text ws is = ((tokens text).pieces, record { pieces = refl; end = is.end ∙ ap Ok (zero-add (length text)); closed = is.closed }, is.words)
 
 pub spaced_are_tokens : SpacedAreTokens

@@ -1,6 +1,6 @@
 -- The text up to the place of a token.
 use Rattle.std.proofs.Common.{◌≡◌, ℕ, ◌+◌, true, false, List, [], ◌∷◌, ◌++◌, Ok, refl, ap, subst, ◌∙◌, ⊎_elim, add-zero, ◌==◌, Result}
-use Rattle.statement_model.specs.Tokens.{Open, Piece, Lexed, lex, before, next_open, ended_by, at_end, is_white, is_refused, closes}
+use Rattle.statement_model.specs.Tokens.{Open, Token, Lexed, lex, before, next_open, ended_by, at_end, is_white, is_refused, closes}
 use Rattle.statement_model.specs.Tokens.Open.{between, comment, word, string}
 use Rattle.design_model.specs.declared.fault.Fault.{Fault}
 use Rattle.design_model.specs.declared.token_kind.TokenKind.TheVariants.{Word, Quoted}
@@ -9,23 +9,23 @@ use Rattle.lefdef_tokens.specs.Laws.{state_after}
 use Rattle.splicing_laws.proofs.SplicingParts.{Part, longer, first_is, none_is_one}
 
 -- an open word or string is the first token
-word_starts : (bytes : List ℕ) (pos : ℕ) (end : Result ℕ Fault) (start : ℕ) (so_far : List ℕ) (after : List Piece) (p : Piece) → lex pos (word start so_far) bytes ≡ record { pieces = p ∷ after; end = end } → start ≡ p.pos
+word_starts : (bytes : List ℕ) (pos : ℕ) (end : Result ℕ Fault) (start : ℕ) (so_far : List ℕ) (after : List Token) (p : Token) → lex pos (word start so_far) bytes ≡ record { pieces = p ∷ after; end = end } → start ≡ p.pos
 unfolding lex
 word_starts [] pos end start so_far after p e =
     let is = first_is (record { kind = Word; bytes = so_far; pos = start }) p (record { pieces = []; end = Ok pos }) after end e in
-    ap (λ (q : Piece). q.pos) is.0
+    ap (λ (q : Token). q.pos) is.0
 word_starts (b ∷ bytes) pos end start so_far after p e = ⊎_elim
     (λ refused. let h = rw refused at e in absurd (none_is_one [] after p (ap (λ (l : Lexed). l.pieces) h)))
     (λ (good : is_refused b ≡ false). ⊎_elim
     (λ (white : is_white b ≡ true).
     let h = rw (good, white) at e in
     let is = first_is (record { kind = Word; bytes = so_far; pos = start }) p (lex (pos + 1) between bytes) after end h in
-    ap (λ (q : Piece). q.pos) is.0)
+    ap (λ (q : Token). q.pos) is.0)
     (λ (more : is_white b ≡ false). let h = rw (good, more) at e in word_starts bytes (pos + 1) end start (so_far ++ b ∷ []) after p h)
     (cases (is_white b)))
     (cases (is_refused b))
 
-string_starts : (bytes : List ℕ) (pos : ℕ) (end : Result ℕ Fault) (start last : ℕ) (so_far : List ℕ) (after : List Piece) (p : Piece) → lex pos (string start so_far last) bytes ≡ record { pieces = p ∷ after; end = end } → start ≡ p.pos
+string_starts : (bytes : List ℕ) (pos : ℕ) (end : Result ℕ Fault) (start last : ℕ) (so_far : List ℕ) (after : List Token) (p : Token) → lex pos (string start so_far last) bytes ≡ record { pieces = p ∷ after; end = end } → start ≡ p.pos
 unfolding lex
 string_starts [] pos end start last so_far after p e = absurd (none_is_one [] after p (ap (λ (l : Lexed). l.pieces) e))
 string_starts (b ∷ bytes) pos end start last so_far after p e = ⊎_elim
@@ -34,7 +34,7 @@ string_starts (b ∷ bytes) pos end start last so_far after p e = ⊎_elim
     (λ (quote : closes last b ≡ true).
     let h = rw (good, quote) at e in
     let is = first_is (record { kind = Quoted; bytes = so_far ++ b ∷ []; pos = start }) p (lex (pos + 1) between bytes) after end h in
-    ap (λ (q : Piece). q.pos) is.0)
+    ap (λ (q : Token). q.pos) is.0)
     (λ (more : closes last b ≡ false). let h = rw (good, more) at e in string_starts bytes (pos + 1) end start b (so_far ++ b ∷ []) after p h)
     (cases (closes last b)))
     (cases (is_refused b))
@@ -44,11 +44,11 @@ abbrev pub Nothing : Open → List ℕ → Type 0
 Nothing state rest = state ≡ between
 
 -- the text up to the place of a token, with these tokens before it
-abbrev pub Starts : ℕ → Open → List ℕ → List Piece → Piece → Type 0
+abbrev pub Starts : ℕ → Open → List ℕ → List Token → Token → Type 0
 Starts pos state bytes first p = Part Nothing pos state bytes first p.pos
 
 -- an open word or string is one of these tokens
-abbrev IsAmong : Open → List Piece → Type 0
+abbrev IsAmong : Open → List Token → Type 0
 IsAmong between first = Unit {0}
 IsAmong comment first = Unit {0}
 IsAmong (word start bytes) [] = ⊥
@@ -57,24 +57,24 @@ IsAmong (string start bytes last) [] = ⊥
 IsAmong (string start bytes last) (q ∷ qs) = Unit {0}
 
 abbrev Later : ℕ → List ℕ → Type 0
-Later pos bytes = (end : Result ℕ Fault) (state : Open) (first after : List Piece) (p : Piece) → IsAmong state first → lex pos state bytes ≡ record { pieces = first ++ p ∷ after; end = end } → Starts pos state bytes first p
+Later pos bytes = (end : Result ℕ Fault) (state : Open) (first after : List Token) (p : Token) → IsAmong state first → lex pos state bytes ≡ record { pieces = first ++ p ∷ after; end = end } → Starts pos state bytes first p
 
 -- a byte that ends no token
-none_ends : (pos : ℕ) (end : Result ℕ Fault) (b : ℕ) (state next : Open) (bytes : List ℕ) (first after : List Piece) (p : Piece) → is_refused b ≡ false → ended_by state b ≡ [] → next_open pos state b ≡ next
+none_ends : (pos : ℕ) (end : Result ℕ Fault) (b : ℕ) (state next : Open) (bytes : List ℕ) (first after : List Token) (p : Token) → is_refused b ≡ false → ended_by state b ≡ [] → next_open pos state b ≡ next
     → IsAmong next first → lex (pos + 1) next bytes ≡ record { pieces = first ++ p ∷ after; end = end } → Later (pos + 1) bytes → Starts pos state (b ∷ bytes) first p
 none_ends pos end b state next bytes first after p good ended opens among e later =
     longer Nothing pos p.pos b state next bytes [] first good ended opens (later end next first after p among e)
 
 -- a byte that ends the first
-one_ends : (pos : ℕ) (end : Result ℕ Fault) (b : ℕ) (state : Open) (bytes : List ℕ) (qs after : List Piece) (p q r : Piece) → is_refused b ≡ false → ended_by state b ≡ r ∷ [] → next_open pos state b ≡ between
+one_ends : (pos : ℕ) (end : Result ℕ Fault) (b : ℕ) (state : Open) (bytes : List ℕ) (qs after : List Token) (p q r : Token) → is_refused b ≡ false → ended_by state b ≡ r ∷ [] → next_open pos state b ≡ between
     → before (r ∷ []) (lex (pos + 1) between bytes) ≡ record { pieces = q ∷ (qs ++ p ∷ after); end = end } → Later (pos + 1) bytes → Starts pos state (b ∷ bytes) (q ∷ qs) p
 one_ends pos end b state bytes qs after p q r good ended opens e later =
     let is = first_is r q (lex (pos + 1) between bytes) (qs ++ p ∷ after) end e in
-    subst (λ (t : Piece). Part Nothing pos state (b ∷ bytes) (t ∷ qs) p.pos) is.0
+    subst (λ (t : Token). Part Nothing pos state (b ∷ bytes) (t ∷ qs) p.pos) is.0
     (longer Nothing pos p.pos b state between bytes (r ∷ []) qs good ended opens (later end between qs after p tt is.1))
 
 -- a token begins here
-here : (pos : ℕ) (bytes : List ℕ) (p : Piece) → pos ≡ p.pos → Starts pos between bytes [] p
+here : (pos : ℕ) (bytes : List ℕ) (p : Token) → pos ≡ p.pos → Starts pos between bytes [] p
 unfolding lex state_after
 here pos bytes p is = record {
   front = [];
@@ -85,18 +85,18 @@ here pos bytes p is = record {
   left = refl;
 }
 
-word_opens : (pos : ℕ) (end : Result ℕ Fault) (b : ℕ) (bytes : List ℕ) (first after : List Piece) (p : Piece) → is_refused b ≡ false → next_open pos between b ≡ word pos (b ∷ [])
+word_opens : (pos : ℕ) (end : Result ℕ Fault) (b : ℕ) (bytes : List ℕ) (first after : List Token) (p : Token) → is_refused b ≡ false → next_open pos between b ≡ word pos (b ∷ [])
     → lex (pos + 1) (word pos (b ∷ [])) bytes ≡ record { pieces = first ++ p ∷ after; end = end } → Later (pos + 1) bytes → Starts pos between (b ∷ bytes) first p
 word_opens pos end b bytes [] after p good opens e later = here pos (b ∷ bytes) p (word_starts bytes (pos + 1) end pos (b ∷ []) after p e)
 word_opens pos end b bytes (q ∷ qs) after p good opens e later = none_ends pos end b between (word pos (b ∷ [])) bytes (q ∷ qs) after p good refl opens tt e later
 
-string_opens : (pos : ℕ) (end : Result ℕ Fault) (b : ℕ) (bytes : List ℕ) (first after : List Piece) (p : Piece) → is_refused b ≡ false → next_open pos between b ≡ string pos (b ∷ []) b
+string_opens : (pos : ℕ) (end : Result ℕ Fault) (b : ℕ) (bytes : List ℕ) (first after : List Token) (p : Token) → is_refused b ≡ false → next_open pos between b ≡ string pos (b ∷ []) b
     → lex (pos + 1) (string pos (b ∷ []) b) bytes ≡ record { pieces = first ++ p ∷ after; end = end } → Later (pos + 1) bytes → Starts pos between (b ∷ bytes) first p
 string_opens pos end b bytes [] after p good opens e later = here pos (b ∷ bytes) p (string_starts bytes (pos + 1) end pos b (b ∷ []) after p e)
 string_opens pos end b bytes (q ∷ qs) after p good opens e later = none_ends pos end b between (string pos (b ∷ []) b) bytes (q ∷ qs) after p good refl opens tt e later
 
 -- a byte between tokens
-between_step : (pos : ℕ) (end : Result ℕ Fault) (b : ℕ) (bytes : List ℕ) (first after : List Piece) (p : Piece) → is_refused b ≡ false
+between_step : (pos : ℕ) (end : Result ℕ Fault) (b : ℕ) (bytes : List ℕ) (first after : List Token) (p : Token) → is_refused b ≡ false
     → lex (pos + 1) (next_open pos between b) bytes ≡ record { pieces = first ++ p ∷ after; end = end } → Later (pos + 1) bytes → Starts pos between (b ∷ bytes) first p
 between_step pos end b bytes first after p good e later = ⊎_elim
     (λ (white : is_white b ≡ true).
@@ -114,7 +114,7 @@ between_step pos end b bytes first after p good e later = ⊎_elim
     (cases (is_white b))
 
 -- one byte
-starts_step : (pos : ℕ) (end : Result ℕ Fault) (b : ℕ) (state : Open) (bytes : List ℕ) (first after : List Piece) (p : Piece) → is_refused b ≡ false → IsAmong state first
+starts_step : (pos : ℕ) (end : Result ℕ Fault) (b : ℕ) (state : Open) (bytes : List ℕ) (first after : List Token) (p : Token) → is_refused b ≡ false → IsAmong state first
     → before (ended_by state b) (lex (pos + 1) (next_open pos state b) bytes) ≡ record { pieces = first ++ p ∷ after; end = end } → Later (pos + 1) bytes → Starts pos state (b ∷ bytes) first p
 starts_step pos end b between bytes first after p good among e later = between_step pos end b bytes first after p good e later
 starts_step pos end b comment bytes first after p good among e later = ⊎_elim
@@ -141,7 +141,7 @@ starts_step pos end b (string start so_far last) bytes (q ∷ qs) after p good a
     (cases (closes last b))
 
 -- no token begins at the end
-none_at_end : (pos : ℕ) (end : Result ℕ Fault) (state : Open) (first after : List Piece) (p : Piece) → IsAmong state first → at_end pos state ≡ record { pieces = first ++ p ∷ after; end = end } → ⊥
+none_at_end : (pos : ℕ) (end : Result ℕ Fault) (state : Open) (first after : List Token) (p : Token) → IsAmong state first → at_end pos state ≡ record { pieces = first ++ p ∷ after; end = end } → ⊥
 none_at_end pos end between first after p among e = none_is_one first after p (ap (λ (l : Lexed). l.pieces) e)
 none_at_end pos end comment first after p among e = none_is_one first after p (ap (λ (l : Lexed). l.pieces) e)
 none_at_end pos end (word start so_far) [] after p among e = among
@@ -159,5 +159,5 @@ starts (b ∷ bytes) pos end state first after p among e = ⊎_elim
     (cases (is_refused b))
 
 -- what is left at a place, up to the place of a token
-pub token_starts : (bytes : List ℕ) (at : ℕ) (end : Result ℕ Fault) (first after : List Piece) (p : Piece) → lex at between bytes ≡ record { pieces = first ++ p ∷ after; end = end } → Starts at between bytes first p
+pub token_starts : (bytes : List ℕ) (at : ℕ) (end : Result ℕ Fault) (first after : List Token) (p : Token) → lex at between bytes ≡ record { pieces = first ++ p ∷ after; end = end } → Starts at between bytes first p
 token_starts bytes at end first after p e = starts bytes at end between first after p tt e

@@ -2,11 +2,11 @@
 use Rattle.std.proofs.Common.{◌≡◌, ℕ, suc, ◌+◌, List, [], ◌∷◌, ◌++◌, length, map, zero-add, Ok, Err, refl, sym, ap, ap₂, subst, ◌∙◌, ⊎_elim, add-zero, append_assoc, arith, Result}
 use Rattle.std.proofs.lemmas.List.{map-append}
 use Rattle.design_model.specs.declared.fault.Fault.{Fault}
-use Rattle.statement_model.specs.Tokens.{Open, Piece, Lexed, lex, before, next_open, ended_by, is_refused, tokens}
+use Rattle.statement_model.specs.Tokens.{Open, Token, Lexed, lex, before, next_open, ended_by, is_refused, tokens}
 use Rattle.statement_model.specs.Tokens.Open.{between, comment, word, string}
 use Rattle.statement_model.specs.Boundaries.{words}
 use Rattle.std.proofs.lemmas.Bool.{cases_Bool as cases}
-use Rattle.lefdef_tokens.specs.Laws.{state_after, BeginsApart, moved_piece, moved_end, moved}
+use Rattle.lefdef_tokens.specs.Laws.{state_after, BeginsApart, moved_token, moved_end, moved}
 use Rattle.lefdef_tokens.proofs.Joining.{tokens_join}
 use Rattle.lefdef_tokens.proofs.Moving.{tokens_move}
 use Rattle.splicing_laws.specs.SplicingLaws.{AreTokens, HasWords}
@@ -24,7 +24,7 @@ end_is (b ∷ bs) pos n state e = ⊎_elim
     (cases (is_refused b))
 
 -- words are the same wherever they stand
-moved_words : (k : ℕ) (ps : List Piece) → words ps ≡ words (map (moved_piece k) ps)
+moved_words : (k : ℕ) (ps : List Token) → words ps ≡ words (map (moved_token k) ps)
 moved_words k [] = refl
 moved_words k (p ∷ ps) = ap (λ (ws : List (List ℕ)). p.bytes ∷ ws) (moved_words k ps)
 
@@ -48,7 +48,7 @@ end_at k n (Ok m) e = (m, refl)
 end_at k n (Err f) e = absurd (cc)
 
 -- what is read from a place on
-pub words_left : (text : List ℕ) (k n : ℕ) (ps : List Piece) → lex k between text ≡ record { pieces = ps; end = Ok n } → HasWords text (words ps)
+pub words_left : (text : List ℕ) (k n : ℕ) (ps : List Token) → lex k between text ≡ record { pieces = ps; end = Ok n } → HasWords text (words ps)
 words_left text k n ps e =
     let here : moved k (tokens text) ≡ record { pieces = ps; end = Ok n } = sym (read_at text k) ∙ e in
     let end = end_at k n (tokens text).end (ap (λ (l : Lexed). l.end) here) in
@@ -58,7 +58,7 @@ words_left text k n ps e =
     }
 
 -- what is left at a place is read as two
-pub joined : (at : ℕ) (front rest : List ℕ) (ps : List Piece) (ws : List (List ℕ)) → (lex at between front).pieces ≡ ps
+pub joined : (at : ℕ) (front rest : List ℕ) (ps : List Token) (ws : List (List ℕ)) → (lex at between front).pieces ≡ ps
     → lex at between (front ++ rest) ≡ before (lex at between front).pieces (lex (at + length front) between rest) → HasWords rest ws → HasWords (front ++ rest) (words ps ++ ws)
 joined at front rest ps ws is e has =
     let later = at_place rest ws (at + length front) has in
@@ -66,11 +66,11 @@ joined at front rest ps ws is e has =
     let all : lex at between (front ++ rest) ≡ record { pieces = (lex at between front).pieces ++ qs; end = Ok (at + length front + length rest) }
     = e ∙ ap (λ (r : Result ℕ Fault). record { pieces = (lex at between front).pieces ++ qs; end = r }) later.end in
     subst (λ (vs : List (List ℕ)). HasWords (front ++ rest) vs)
-    (map-append (λ (p : Piece). p.bytes) (lex at between front).pieces qs ∙ ap₂ (λ (vs us : List (List ℕ)). vs ++ us) (ap words is) later.words)
+    (map-append (λ (p : Token). p.bytes) (lex at between front).pieces qs ∙ ap₂ (λ (vs us : List (List ℕ)). vs ++ us) (ap words is) later.words)
     (words_left (front ++ rest) at (at + length front + length rest) ((lex at between front).pieces ++ qs) all)
 
 -- whole tokens before a text that begins apart
-pub tokens_before : (put rest : List ℕ) (ps : List Piece) (ws : List (List ℕ)) → AreTokens put ps → BeginsApart rest → HasWords rest ws → HasWords (put ++ rest) (words ps ++ ws)
+pub tokens_before : (put rest : List ℕ) (ps : List Token) (ws : List (List ℕ)) → AreTokens put ps → BeginsApart rest → HasWords rest ws → HasWords (put ++ rest) (words ps ++ ws)
 tokens_before put rest ps ws are apart has =
     joined 0 put rest ps ws are.pieces (tokens_join put rest (length put) are.end are.closed apart ∙ ap (λ (k : ℕ). before (tokens put).pieces (lex k between rest)) (sym (zero-add (length put)))) has
 
@@ -86,10 +86,10 @@ closed_before (b ∷ bs) rest pos n state ok closed = ⊎_elim
     let later = closed_before bs rest (pos + 1) n (next_open pos state b) h closed in
     let sum : pos + suc (length bs) ≡ pos + 1 + length bs = omega arith in
     let behind = lex (pos + 1 + length bs) between rest in
-    rw (good, sum) (ap (before (ended_by state b)) later ∙ ap (λ (ps : List Piece). record { pieces = ps; end = behind.end }) (sym (append_assoc (ended_by state b) (lex (pos + 1) (next_open pos state b) bs).pieces behind.pieces))))
+    rw (good, sum) (ap (before (ended_by state b)) later ∙ ap (λ (ps : List Token). record { pieces = ps; end = behind.end }) (sym (append_assoc (ended_by state b) (lex (pos + 1) (next_open pos state b) bs).pieces behind.pieces))))
     (cases (is_refused b))
 
-pub gap_before : (front rest : List ℕ) (n : ℕ) (ps : List Piece) (ws : List (List ℕ)) → tokens front ≡ record { pieces = ps; end = Ok n } → state_after 0 between front ≡ between → HasWords rest ws
+pub gap_before : (front rest : List ℕ) (n : ℕ) (ps : List Token) (ws : List (List ℕ)) → tokens front ≡ record { pieces = ps; end = Ok n } → state_after 0 between front ≡ between → HasWords rest ws
     → HasWords (front ++ rest) (words ps ++ ws)
 gap_before front rest n ps ws is closed has = joined 0 front rest ps ws (ap (λ (l : Lexed). l.pieces) is) (closed_before front rest 0 n between (ap (λ (l : Lexed). l.end) is) closed) has
 

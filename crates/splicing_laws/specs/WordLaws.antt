@@ -4,7 +4,7 @@ use Rattle.std.specs.Fmt.{signed_decimal}
 use Rattle.std.specs.List.{list_all}
 use Rattle.design_model.specs.Units.{whole}
 use Rattle.form_meanings.specs.Words.{is_place}
-use Rattle.statement_model.specs.Tokens.{Piece, is_white, is_refused}
+use Rattle.statement_model.specs.Tokens.{Token, is_white, is_refused}
 use Rattle.statement_model.specs.Boundaries.{words}
 use Rattle.splicing_laws.specs.SplicingLaws.{AreTokens}
 
@@ -31,7 +31,7 @@ abbrev pub SpacedAreTokens : Type 0
 SpacedAreTokens = (blanks : List ℕ) (ws : List (List ℕ))
     → list_all is_white blanks ≡ true
     → list_all is_one_word ws ≡ true
-    → (ps : List Piece) × AreTokens (blanks ++ spaced ws) ps × (words ps ≡ ws)
+    → (ps : List Token) × AreTokens (blanks ++ spaced ws) ps × (words ps ≡ ws)
 
 -- A printed number is one word, and can stand in the place of a number.
 abbrev pub PrintedNumbersAreWords : Type 0

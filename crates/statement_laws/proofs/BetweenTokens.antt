@@ -5,7 +5,7 @@ use Rattle.std.proofs.Math.Nat.{eq-or-lt_of_le}
 use Rattle.std.proofs.lemmas.Bool.{cases_lt}
 use Rattle.std.proofs.lemmas.List.{drop-drop, get_or-drop}
 use Rattle.std.proofs.lemmas.List.Elements.{All-nil, All-cons, All-append, All-head, All-tail}
-use Rattle.statement_model.specs.Tokens.{Open, Piece, lex, next_open, ended_by, at_end, is_white, is_refused, closes, tokens}
+use Rattle.statement_model.specs.Tokens.{Open, Token, lex, next_open, ended_by, at_end, is_white, is_refused, closes, tokens}
 use Rattle.statement_model.specs.Tokens.Open.{between, comment, word, string}
 use Rattle.design_model.specs.declared.token_kind.TokenKind.{TokenKind}
 use Rattle.design_model.specs.declared.token_kind.TokenKind.TheVariants.{Word, Quoted}
@@ -55,18 +55,18 @@ hash_is_no_feed : (b : ℕ) → b ≡ 35 → b ≢ 10
 hash_is_no_feed b hash feed = cc
 
 -- a place in a token is not outside of it
-in_first : (k pos start : ℕ) (kind : TokenKind) (bytes : List ℕ) (ps : List Piece) → start + length bytes ≡ pos → start ≤ k → k < pos → IsOutside (record { kind = kind; bytes = bytes; pos = start } ∷ ps) k → ⊥
-in_first k pos start kind bytes ps stands from to out = All-head (λ (p : Piece). IsInside k p → ⊥) (record { kind = kind; bytes = bytes; pos = start }) ps out (from, omega arith)
+in_first : (k pos start : ℕ) (kind : TokenKind) (bytes : List ℕ) (ps : List Token) → start + length bytes ≡ pos → start ≤ k → k < pos → IsOutside (record { kind = kind; bytes = bytes; pos = start } ∷ ps) k → ⊥
+in_first k pos start kind bytes ps stands from to out = All-head (λ (p : Token). IsInside k p → ⊥) (record { kind = kind; bytes = bytes; pos = start }) ps out (from, omega arith)
 
 one_longer : (start pos b : ℕ) (bytes : List ℕ) → start + length bytes ≡ pos → start + length (bytes ++ b ∷ []) ≡ pos + 1
 one_longer start pos b bytes e = omega (arith, length-append bytes (b ∷ []))
 
 outside_none : (i : ℕ) → IsOutside [] i
-outside_none i = All-nil (λ (p : Piece). IsInside i p → ⊥)
+outside_none i = All-nil (λ (p : Token). IsInside i p → ⊥)
 
 -- one token more that a place is not in
-outside_more : (i : ℕ) (p : Piece) (ps : List Piece) → (IsInside i p → ⊥) → IsOutside ps i → IsOutside (p ∷ ps) i
-outside_more i p ps apart out = All-cons (λ (q : Piece). IsInside i q → ⊥) p ps apart out
+outside_more : (i : ℕ) (p : Token) (ps : List Token) → (IsInside i p → ⊥) → IsOutside ps i → IsOutside (p ∷ ps) i
+outside_more i p ps apart out = All-cons (λ (q : Token). IsInside i q → ⊥) p ps apart out
 
 before_token : (i start : ℕ) (kind : TokenKind) (bytes : List ℕ) → i < start → IsOutside (record { kind = kind; bytes = bytes; pos = start } ∷ []) i
 before_token i start kind bytes before = outside_more i (record { kind = kind; bytes = bytes; pos = start }) [] (λ inside. omega (arith, inside.0)) (outside_none i)
@@ -101,20 +101,20 @@ unfolding lex
 before_all [] i pos state lt before = before_last i pos state before
 before_all (b ∷ bs) i pos state lt before = ⊎_elim
     (λ bad. rw bad (outside_none i))
-    (λ good. rw good (All-append (λ (p : Piece). IsInside i p → ⊥) (ended_by state b) _ (before_ended i pos b state before) (before_all bs i (pos + 1) (next_open pos state b) (omega arith) (before_next i pos b state lt before))))
+    (λ good. rw good (All-append (λ (p : Token). IsInside i p → ⊥) (ended_by state b) _ (before_ended i pos b state before) (before_all bs i (pos + 1) (next_open pos state b) (omega arith) (before_next i pos b state lt before))))
     (cases (is_refused b))
 
 -- places from one on that are in none of these tokens are in none of the text
-abbrev Covers : List ℕ → ℕ → List Piece → Type 0
+abbrev Covers : List ℕ → ℕ → List Token → Type 0
 Covers text from ps = (i : ℕ) → from ≤ i → IsOutside ps i → IsOutside (tokens text).pieces i
 
 module _ (text bs : List ℕ) (pos n k b : ℕ) (here : slice_index text pos ≡ b) (within : k < pos + suc (length bs)) where
   -- the tokens after the byte, where this is open
-  abbrev left_in : Open → List Piece
+  abbrev left_in : Open → List Token
   left_in state = (lex (pos + 1) state bs).pieces
 
   -- what is read after the byte, with tokens that it ends, which begin at a place or after it
-  abbrev Reads : ℕ → List Piece → Open → Type 0
+  abbrev Reads : ℕ → List Token → Open → Type 0
   Reads low ps state = (lex (pos + 1) state bs).end ≡ Ok n → IsOutside (ps ++ left_in state) k → Covers text low (ps ++ left_in state) → IsBlank text k
 
   -- at the place, and after it
@@ -190,11 +190,11 @@ module _ (text bs : List ℕ) (pos n k b : ℕ) (here : slice_index text pos ≡
         → (end ≤ k → Reads end [] between)
         → Reads start (record { kind = kind; bytes = bytes; pos = start } ∷ []) between
     behind_token kind start end bytes stands from low goes_on ok out covers =
-        let p : Piece = record { kind = kind; bytes = bytes; pos = start } in
+        let p : Token = record { kind = kind; bytes = bytes; pos = start } in
         let ps = left_in between in
         ⊎_elim
         (λ (inside : k < end). absurd (in_first k end start kind bytes ps stands from inside out))
-        (λ (behind : end ≤ k). goes_on behind ok (All-tail (λ (q : Piece). IsInside k q → ⊥) p ps out) (λ i from_end outside. covers i (omega arith) (outside_more i p ps (λ inside. omega (arith, inside.1)) outside)))
+        (λ (behind : end ≤ k). goes_on behind ok (All-tail (λ (q : Token). IsInside k q → ⊥) p ps out) (λ i from_end outside. covers i (omega arith) (outside_more i p ps (λ inside. omega (arith, inside.1)) outside)))
         (cases_lt k end)
 
     behind_word : (start : ℕ) (bytes : List ℕ) → start + length bytes ≡ pos → start ≤ k → Reads start (ended_by (word start bytes) b) (next_open pos (word start bytes) b)

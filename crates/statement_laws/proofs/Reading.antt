@@ -2,7 +2,7 @@
 use Rattle.std.proofs.Common.{◌≡◌, ℕ, true, false, List, [], ◌∷◌, ◌++◌, Result, Ok, Err, refl, sym, ap, ◌∙◌, ⊎_elim, append-nil}
 use Rattle.std.proofs.lemmas.Bool.{cases_Bool as cases}
 use Rattle.design_model.specs.declared.fault.Fault.{Fault}
-use Rattle.statement_model.specs.Tokens.{Piece}
+use Rattle.statement_model.specs.Tokens.{Token}
 use Rattle.statement_model.specs.Boundaries.{is_whole, statements}
 use Rattle.statement_model.specs.Folds.{◌>>◌, all_from}
 use Rattle.statement_model.specs.Grammar.{Key, Grammar}
@@ -13,11 +13,11 @@ use Rattle.statement_laws.proofs.Folds.{bind_ok, bind_bind, folds_join}
 module _ {M R : Type 0} (g : Grammar M R) where
   -- the records of whole statements, the state after them, and what is left over
   abbrev Whole : Type 0
-  Whole = Result (List R × (M × List Key) × List Piece) Fault
+  Whole = Result (List R × (M × List Key) × List Token) Fault
 
-  module _ (rest : M × List Key → List Piece → Result (List R) Fault) where
+  module _ (rest : M × List Key → List Token → Result (List R) Fault) where
     -- what comes after whole statements
-    abbrev goes_on : List R × (M × List Key) × List Piece → Result (List R) Fault
+    abbrev goes_on : List R × (M × List Key) × List Token → Result (List R) Fault
     goes_on x = rest x.1 x.2 >> λ later. Ok (x.0 ++ later)
 
     one_before_rest : (rec : R) (recs : List R) (r : Result (List R) Fault) → ((r >> λ later. Ok (recs ++ later)) >> λ all. Ok (rec ∷ all)) ≡ (r >> λ later. Ok (rec ∷ recs ++ later))
@@ -51,17 +51,17 @@ module _ {M R : Type 0} (g : Grammar M R) where
   records_join = folds_join (read_one g)
 
   -- records and the state after them, with what is left over
-  abbrev with_left : List Piece → List R × (M × List Key) → Whole
+  abbrev with_left : List Token → List R × (M × List Key) → Whole
   with_left left x = Ok (x.0, x.1, left)
 
   abbrev one_more : R → List R × (M × List Key) → Result (List R × (M × List Key)) Fault
   one_more rec x = Ok (rec ∷ x.0, x.1)
 
-  abbrev one_more_whole : R → List R × (M × List Key) × List Piece → Whole
+  abbrev one_more_whole : R → List R × (M × List Key) × List Token → Whole
   one_more_whole rec x = Ok (rec ∷ x.0, x.1, x.2)
 
   -- one statement, and then those after it
-  one_by_one : (left : List Piece) (r : Result (R × (M × List Key)) Fault) (later : M × List Key → Whole) (steps : M × List Key → Result (List R × (M × List Key)) Fault)
+  one_by_one : (left : List Token) (r : Result (R × (M × List Key)) Fault) (later : M × List Key → Whole) (steps : M × List Key → Result (List R × (M × List Key)) Fault)
       → ((state : M × List Key) → later state ≡ (steps state >> with_left left))
       → (r >> λ x. (later x.1 >> one_more_whole x.0)) ≡ ((r >> λ x. (steps x.1 >> one_more x.0)) >> with_left left)
   one_by_one left (Ok x) later steps same =
@@ -80,10 +80,10 @@ module _ {M R : Type 0} (g : Grammar M R) where
       (cases (is_whole ending (begun ++ p ∷ []))))
 
   -- the records of tokens, from those of their statements
-  read_whole : (state : M × List Key) (begun ps : List Piece) (end : Result ℕ Fault)
+  read_whole : (state : M × List Key) (begun ps : List Token) (end : Result ℕ Fault)
       → read_on g state begun ps end ≡ (read_statements g state begun ps >> λ x. (at_last g x.1 x.2 end >> λ later. Ok (x.0 ++ later)))
   unfolding read_on
-  read_whole state begun ps end = ap (λ (qs : List Piece). read_on g state begun qs end) (sym (append-nil ps)) ∙ reading_goes_on state begun ps [] end
+  read_whole state begun ps end = ap (λ (qs : List Token). read_on g state begun qs end) (sym (append-nil ps)) ∙ reading_goes_on state begun ps [] end
 
   pub reading_by_steps : ReadingBySteps g
   reading_by_steps ending ends state begun ps end =

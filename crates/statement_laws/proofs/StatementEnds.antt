@@ -8,7 +8,7 @@ use Rattle.design_model.specs.declared.TheConstants.{MAX_TEXT}
 use Rattle.design_model.specs.declared.mode.Mode.{Mode}
 use Rattle.design_model.specs.declared.mode.Mode.TheVariants.{Top}
 use Rattle.form_meanings.specs.Words.{is_word, is_semicolon, is_quoted}
-use Rattle.statement_model.specs.Tokens.{Piece, tokens}
+use Rattle.statement_model.specs.Tokens.{Token, tokens}
 use Rattle.statement_model.specs.Boundaries.{alone, with_next, up_to, last_of, words, statements}
 use Rattle.statement_model.specs.Folds.{◌>>◌, all_from}
 use Rattle.statement_model.specs.Form.{whole}
@@ -45,12 +45,12 @@ ends_of w = ⊎_elim
     (cases (is_word (codes "PROPERTYDEFINITIONS") w))
 
 -- a statement that reads has a form
-has_form : (m : Mode) (ps : List Piece) (o : Option (Record × Option ℕ)) (y : Record × Mode) → formed def m ps o ≡ Ok y → (x : Record × Option ℕ) × (o ≡ Some x)
+has_form : (m : Mode) (ps : List Token) (o : Option (Record × Option ℕ)) (y : Record × Mode) → formed def m ps o ≡ Ok y → (x : Record × Option ℕ) × (o ≡ Some x)
 has_form m ps (Some x) y e = (x, refl)
 has_form m ps None y e = absurd (cc)
 
 -- the last token of a statement that reads is no string
-last_is_plain : (m : Mode) (p q : Piece) (qs : List Piece) (y : Record × Mode) → Ends p.bytes → IsStatement def_ending (p ∷ q ∷ qs) → read_form def m (p ∷ q ∷ qs) ≡ Ok y
+last_is_plain : (m : Mode) (p q : Token) (qs : List Token) (y : Record × Mode) → Ends p.bytes → IsStatement def_ending (p ∷ q ∷ qs) → read_form def m (p ∷ q ∷ qs) ≡ Ok y
     → is_quoted (last_of q qs).bytes ≡ false
 unfolding last_of
 last_is_plain m p q qs y (by_itself ends plain) is e = let h = rw ends at is.0 in absurd (cc)
@@ -63,19 +63,19 @@ last_is_plain m p q qs y (by_ext ends) is e = let h = rw ends at is.1 in not_quo
 last_is_plain m p q qs y (by_semicolon ends) is e = let h = rw ends at is.1 in not_quoted (codes ";") (last_of q qs).bytes h refl
 
 -- a statement of one token is no string
-only_is_plain : (p : Piece) → Ends p.bytes → IsStatement def_ending (p ∷ []) → is_quoted p.bytes ≡ false
+only_is_plain : (p : Token) → Ends p.bytes → IsStatement def_ending (p ∷ []) → is_quoted p.bytes ≡ false
 only_is_plain p (by_itself ends plain) is = plain
 only_is_plain p (by_end ends same) is = let h = rw ends at is in absurd (cc)
 only_is_plain p (by_ext ends) is = let h = rw ends at is in absurd (cc)
 only_is_plain p (by_semicolon ends) is = let h = rw ends at is in absurd (cc)
 
 -- the last of some tokens is one of them
-last_among : (P : Piece → Type 0) (p : Piece) (ps : List Piece) → All P (p ∷ ps) → P (last_of p ps)
+last_among : (P : Token → Type 0) (p : Token) (ps : List Token) → All P (p ∷ ps) → P (last_of p ps)
 unfolding last_of
 last_among P p [] all = All-head P p [] all
 last_among P p (q ∷ qs) all = last_among P q qs (All-tail P p (q ∷ qs) all)
 
-statement_ends : (text : List ℕ) (m : Mode) (s : List Piece) (y : Record × Mode) → IsStatement def_ending s → All (WordEndsApart text) s → read_form def m s ≡ Ok y → EndApart text s
+statement_ends : (text : List ℕ) (m : Mode) (s : List Token) (y : Record × Mode) → IsStatement def_ending s → All (WordEndsApart text) s → read_form def m s ≡ Ok y → EndApart text s
 unfolding last_of
 statement_ends text m [] y is all e = tt
 statement_ends text m (p ∷ []) y is all e = All-head (WordEndsApart text) p [] all (only_is_plain p (ends_of p.bytes) is)
@@ -86,12 +86,12 @@ has_read : {A B F : Type 0} (r : Result A F) (f : A → Result B F) (b : B) → 
 has_read (Ok a) f b e = (a, refl, e)
 has_read (Err x) f b e = absurd (cc)
 
-all_end : (text : List ℕ) (state : Mode × List Key) (ss : List (List Piece)) (y : List Record × (Mode × List Key)) → all_from (read_one def) state ss ≡ Ok y
+all_end : (text : List ℕ) (state : Mode × List Key) (ss : List (List Token)) (y : List Record × (Mode × List Key)) → all_from (read_one def) state ss ≡ Ok y
     → All (λ s. IsStatement def_ending s × All (WordEndsApart text) s) ss → All (EndApart text) ss
 unfolding all_from
 all_end text state [] y e all = All-nil (EndApart text)
 all_end text state (s ∷ ss) y e all =
-    let Part = λ (s : List Piece). IsStatement def_ending s × All (WordEndsApart text) s in
+    let Part = λ (s : List Token). IsStatement def_ending s × All (WordEndsApart text) s in
     let one = has_read (read_one def state s) _ y e in
     let others = has_read (all_from (read_one def) one.0.1 ss) _ y one.2 in
     let form = has_read (read_form def state.0 s) _ one.0 one.1 in

@@ -3,7 +3,7 @@ use Rattle.std.proofs.Common.{◌≡◌, ℕ, ◌+◌, true, false, List, [], �
 use Rattle.std.specs.List.{All}
 use Rattle.std.proofs.lemmas.List.{drop-drop}
 use Rattle.std.proofs.lemmas.List.Elements.{All-nil, All-cons, All-append}
-use Rattle.statement_model.specs.Tokens.{Open, Piece, lex, next_open, ended_by, at_end, is_white, is_refused, closes, tokens}
+use Rattle.statement_model.specs.Tokens.{Open, Token, lex, next_open, ended_by, at_end, is_white, is_refused, closes, tokens}
 use Rattle.statement_model.specs.Tokens.Open.{between, comment, word, string}
 use Rattle.design_model.specs.declared.token_kind.TokenKind.TheVariants.{Word, Quoted}
 use Rattle.form_meanings.specs.Words.{is_quoted}
@@ -11,7 +11,7 @@ use Rattle.lefdef_tokens.specs.Laws.{BeginsApart}
 use Rattle.std.proofs.lemmas.Bool.{cases_Bool as cases}
 
 -- a token that is no string ends before white space or where the text does
-abbrev pub WordEndsApart : List ℕ → Piece → Type 0
+abbrev pub WordEndsApart : List ℕ → Token → Type 0
 WordEndsApart text p = is_quoted p.bytes ≡ false → BeginsApart (drop (p.pos + length p.bytes) text)
 
 -- what is open at a place is what the text has before it
@@ -52,7 +52,7 @@ still_stands pos b (string start bytes last) stands = ⊎_elim
     (λ more. rw more (still_quoted bytes (b ∷ []) stands))
     (cases (closes last b))
 
-only : (text : List ℕ) (p : Piece) → WordEndsApart text p → All (WordEndsApart text) (p ∷ [])
+only : (text : List ℕ) (p : Token) → WordEndsApart text p → All (WordEndsApart text) (p ∷ [])
 only text p h = All-cons (WordEndsApart text) p [] h (All-nil (WordEndsApart text))
 
 ended_apart : (text bs : List ℕ) (pos b : ℕ) (state : Open) → drop pos text ≡ b ∷ bs → Stands pos state → All (WordEndsApart text) (ended_by state b)

@@ -1,14 +1,14 @@
 -- Laws of the bytes of a text that are in no token.
 use Rattle.std.specs.Prelude.{◌≡◌, ◌≢◌, ◌⊎◌, ◌≤◌, ◌<◌, ℕ, ◌+◌, true, List, length, Ok, slice_index}
 use Rattle.std.specs.List.{All}
-use Rattle.statement_model.specs.Tokens.{Piece, is_white, tokens}
+use Rattle.statement_model.specs.Tokens.{Token, is_white, tokens}
 
 -- a place inside of a token
-abbrev pub IsInside : ℕ → Piece → Type 0
+abbrev pub IsInside : ℕ → Token → Type 0
 IsInside k p = (p.pos ≤ k) × (k < p.pos + length p.bytes)
 
 -- a place outside of these tokens
-abbrev pub IsOutside : List Piece → ℕ → Type 0
+abbrev pub IsOutside : List Token → ℕ → Type 0
 IsOutside ps k = All (λ p. IsInside k p → ⊥) ps
 
 -- a place in a comment: at it or before it stands a #, with no line feed and no token from that on up to the place

@@ -1,6 +1,6 @@
 -- Laws of texts, one after the other.
 use Rattle.std.specs.Prelude.{◌≡◌, ℕ, ◌+◌, List, ◌++◌, length, Ok}
-use Rattle.statement_model.specs.Tokens.{Piece, lex}
+use Rattle.statement_model.specs.Tokens.{Token, lex}
 use Rattle.statement_model.specs.Tokens.Open.{between}
 use Rattle.statement_model.specs.Boundaries.{Ending, statements}
 use Rattle.statement_model.specs.Folds.{◌>>◌}
@@ -28,7 +28,7 @@ TextsJoin {M = M} {R = R} g = (pos : ℕ) (s t : List ℕ) (state after : M × L
 -- The statements of two such texts, one after the other, are those of the first, and then those of the second at its
 -- place, with the tokens that the first leaves over before them.
 abbrev pub StatementsOfTextsJoin : Type 0
-StatementsOfTextsJoin = (ending : List ℕ → Ending) (pos : ℕ) (begun : List Piece) (s t : List ℕ)
+StatementsOfTextsJoin = (ending : List ℕ → Ending) (pos : ℕ) (begun : List Token) (s t : List ℕ)
     → IsWholeText pos s
     → BeginsApart t
     → let first = statements ending begun (lex pos between s).pieces in

@@ -1,6 +1,6 @@
 -- Cuts of a text (own): bytes that take the place of others.
 use Rattle.std.specs.Prelude.{ℕ, ◌+◌, List, [], ◌∷◌, ◌++◌, length, drop, slice_range, if◌then◌else◌}
-use Rattle.statement_model.specs.Tokens.{Piece, is_white}
+use Rattle.statement_model.specs.Tokens.{Token, is_white}
 
 -- bytes that take the place of those from lo up to hi
 pub record Cut : Type 0 where
@@ -17,10 +17,10 @@ abbrev pub with_cuts : List Cut → List ℕ → List ℕ
 with_cuts cuts text = cut_from 0 cuts text
 
 -- the place after a token, and after the last of some
-abbrev pub end_of : Piece → ℕ
+abbrev pub end_of : Token → ℕ
 end_of p = p.pos + length p.bytes
 
-abbrev pub end_of_all : List Piece → ℕ
+abbrev pub end_of_all : List Token → ℕ
 end_of_all [] = 0
 end_of_all (p ∷ []) = end_of p
 end_of_all (p ∷ q ∷ qs) = end_of_all (q ∷ qs)

@@ -14,7 +14,7 @@ abbrev pub is_refused : ℕ → Bool
 is_refused b = (nat_lt b 32 && not (is_white b)) || b == 127
 
 -- a token: its kind, its bytes, and where they begin
-pub record Piece : Type 0 where
+pub record Token : Type 0 where
   pub kind : TokenKind
   pub bytes : List ℕ
   pub pos : ℕ
@@ -39,7 +39,7 @@ next_open pos (word start bytes) b = if is_white b then between else word start 
 next_open pos (string start bytes last) b = if closes last b then between else string start (bytes ++ b ∷ []) b
 
 -- the token that the byte b ends: white space ends a word before it, a quote ends a string with it
-abbrev pub ended_by : Open → ℕ → List Piece
+abbrev pub ended_by : Open → ℕ → List Token
 ended_by between b = []
 ended_by comment b = []
 ended_by (word start bytes) b = if is_white b then record { kind = Word; bytes = bytes; pos = start } ∷ [] else []
@@ -47,10 +47,10 @@ ended_by (string start bytes last) b = if closes last b then record { kind = Quo
 
 -- tokens in order, and then the text's length or its fault
 pub record Lexed : Type 0 where
-  pub pieces : List Piece
+  pub pieces : List Token
   pub end : Result ℕ Fault
 
-abbrev pub before : List Piece → Lexed → Lexed
+abbrev pub before : List Token → Lexed → Lexed
 before ps l = record { pieces = ps ++ l.pieces; end = l.end }
 
 -- at the end of the text
@@ -80,20 +80,20 @@ abbrev pub left_from : List ℕ → ℕ → Lexed
 left_from text from = lex from between (drop from text)
 
 -- one token at a time: the first of them, and what is left then; at the end the end, for good
-abbrev pub first_of : List Piece → Result ℕ Fault → Result (Option Piece) Fault
+abbrev pub first_of : List Token → Result ℕ Fault → Result (Option Token) Fault
 first_of (p ∷ ps) end = Ok (Some p)
 first_of [] (Ok n) = Ok None
 first_of [] (Err f) = Err f
 
-abbrev pub first_piece : Lexed → Result (Option Piece) Fault
-first_piece l = first_of l.pieces l.end
+abbrev pub first_token : Lexed → Result (Option Token) Fault
+first_token l = first_of l.pieces l.end
 
-abbrev pub without_first : List Piece → List Piece
+abbrev pub without_first : List Token → List Token
 without_first [] = []
 without_first (p ∷ ps) = ps
 
-abbrev pub later_pieces : Lexed → Lexed
-later_pieces l = record { pieces = without_first l.pieces; end = l.end }
+abbrev pub later_tokens : Lexed → Lexed
+later_tokens l = record { pieces = without_first l.pieces; end = l.end }
 
 -- a scanner: its text, and what of the text's tokens is left
 pub record Scan : Type 0 where

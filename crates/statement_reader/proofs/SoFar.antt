@@ -6,7 +6,7 @@ use Rattle.design_model.specs.declared.TheConstants.{MAX_TEXT}
 use Rattle.design_model.specs.declared.fault.Fault.{Fault}
 use Rattle.design_model.specs.declared.fault.FaultCode.{FaultCode}
 use Rattle.design_model.specs.declared.fault.FaultCode.TheVariants.{TooLong}
-use Rattle.statement_model.specs.Tokens.{Piece, Lexed, left_from, tokens}
+use Rattle.statement_model.specs.Tokens.{Token, Lexed, left_from, tokens}
 use Rattle.statement_model.specs.Boundaries.{statement_at}
 use Rattle.statement_model.specs.Folds.{◌>>◌}
 use Rattle.statement_model.specs.Grammar.{Key, Grammar}
@@ -45,7 +45,7 @@ module _ {M R : Type 0} (g : Grammar M R) (start : M) (text : List ℕ) where
     pub so_far_fault : (f : Fault) → read_at g m (left_from text pos) ≡ Err f → read_text g start text ≡ Err f
     so_far_fault f read = so_far.reads ∙ ap (with_front front) (faults_stop g m seen (left_from text pos) f read)
 
-    pub so_far_repeats : (after : M) (left : Lexed) (ps : List Piece) (rec : R) (code : FaultCode)
+    pub so_far_repeats : (after : M) (left : Lexed) (ps : List Token) (rec : R) (code : FaultCode)
         → statement_at (g.ending m) (left_from text pos) ≡ Ok (Some (ps, left))
         → read_at g m (left_from text pos) ≡ Ok (Some (rec, after, left))
         → repeats seen (g.key rec) ≡ Some code

@@ -7,7 +7,7 @@ use Rattle.design_model.specs.declared.fault.Fault.{Fault}
 use Rattle.design_model.specs.declared.fault.FaultCode.{FaultCode}
 use Rattle.design_model.specs.declared.fault.FaultCode.TheVariants.{Unfinished}
 use Rattle.form_meanings.proofs.Steps.{some_same}
-use Rattle.statement_model.specs.Tokens.{Piece, Lexed, tokens}
+use Rattle.statement_model.specs.Tokens.{Token, Lexed, tokens}
 use Rattle.statement_model.specs.Boundaries.{Ending, is_whole, cut, statement_at, statement_from, unfinished}
 use Rattle.statement_model.specs.Folds.{◌>>◌}
 use Rattle.statement_model.specs.Grammar.{Key, Grammar}
@@ -34,52 +34,52 @@ then_ok (Ok a) f b h = (a, refl, h)
 then_ok (Err e) f b h = absurd (cc)
 
 module _ (e : List ℕ → Ending) where
-  abbrev pub CutTo : Lexed → List Piece → Lexed → Option (List Piece × List Piece) → Type 0
+  abbrev pub CutTo : Lexed → List Token → Lexed → Option (List Token × List Token) → Type 0
   CutTo l ps left found = (found ≡ Some (ps, left.pieces)) × (left.end ≡ l.end)
 
   -- a statement that was found is cut, and what is left comes after it
-  none_found : (l left : Lexed) (ps qs : List Piece) (end : Result ℕ Fault) → unfinished qs end ≡ Ok (Some (ps, left)) → CutTo l ps left None
+  none_found : (l left : Lexed) (ps qs : List Token) (end : Result ℕ Fault) → unfinished qs end ≡ Ok (Some (ps, left)) → CutTo l ps left None
   none_found l left ps qs (Err f) k = absurd (cc)
   none_found l left ps [] (Ok n) k = absurd (cc)
   none_found l left ps (q ∷ qs) (Ok n) k = absurd (cc)
 
-  found_cut : (l left : Lexed) (ps : List Piece) (found : Option (List Piece × List Piece)) → statement_from found l ≡ Ok (Some (ps, left)) → CutTo l ps left found
+  found_cut : (l left : Lexed) (ps : List Token) (found : Option (List Token × List Token)) → statement_from found l ≡ Ok (Some (ps, left)) → CutTo l ps left found
   found_cut l left ps (Some x) h =
-      let a : List Piece × Lexed = (x.0, record { pieces = x.1; end = l.end }) in
-      let b : List Piece × Lexed = (ps, left) in
+      let a : List Token × Lexed = (x.0, record { pieces = x.1; end = l.end }) in
+      let b : List Token × Lexed = (ps, left) in
       let same = found_same a b h in
-      (ap (λ (z : List Piece × Lexed). Some (z.0, z.1.pieces)) same, sym (ap (λ (z : List Piece × Lexed). z.1.end) same))
+      (ap (λ (z : List Token × Lexed). Some (z.0, z.1.pieces)) same, sym (ap (λ (z : List Token × Lexed). z.1.end) same))
   found_cut l left ps None h = none_found l left ps l.pieces l.end h
 
-  pub is_cut : (l left : Lexed) (ps : List Piece) → statement_at e l ≡ Ok (Some (ps, left)) → CutTo l ps left (cut e [] l.pieces)
+  pub is_cut : (l left : Lexed) (ps : List Token) → statement_at e l ≡ Ok (Some (ps, left)) → CutTo l ps left (cut e [] l.pieces)
   unfolding statement_at
   is_cut l left ps h = found_cut l left ps (cut e [] l.pieces) h
 
 module _ {M R : Type 0} (g : Grammar M R) where
   -- a statement that is cut is read first
-  reads_first : (m : M) (seen : List Key) (end : Result ℕ Fault) (ps before s later : List Piece) → cut (g.ending m) before ps ≡ Some (s, later)
+  reads_first : (m : M) (seen : List Key) (end : Result ℕ Fault) (ps before s later : List Token) → cut (g.ending m) before ps ≡ Some (s, later)
       → read_on g (m, seen) before ps end ≡ (read_one g (m, seen) s >> λ x. (read_on g x.1 [] later end >> λ recs. Ok (x.0 ∷ recs)))
   unfolding read_on cut
   reads_first m seen end [] before s later h = absurd (cc)
   reads_first m seen end (p ∷ ps) before s later h = elim (cases_Bool (is_whole (g.ending m) (before ++ p ∷ []))) [
     | inl whole ↦
         let k = rw whole at h in
-        let x : List Piece × List Piece = (before ++ p ∷ [], ps) in
-        let y : List Piece × List Piece = (s, later) in
-        rw whole (ap (λ (z : List Piece × List Piece). read_one g (m, seen) z.0 >> λ x. (read_on g x.1 [] z.1 end >> λ recs. Ok (x.0 ∷ recs))) (some_same x y k))
+        let x : List Token × List Token = (before ++ p ∷ [], ps) in
+        let y : List Token × List Token = (s, later) in
+        rw whole (ap (λ (z : List Token × List Token). read_one g (m, seen) z.0 >> λ x. (read_on g x.1 [] z.1 end >> λ recs. Ok (x.0 ∷ recs))) (some_same x y k))
     | inr more ↦ let k = rw more at h in rw more (reads_first m seen end ps (before ++ p ∷ []) s later k)
   ]
 
   -- where none is cut, the tokens are the last
-  reads_last : (m : M) (seen : List Key) (end : Result ℕ Fault) (ps before : List Piece) → cut (g.ending m) before ps ≡ None
+  reads_last : (m : M) (seen : List Key) (end : Result ℕ Fault) (ps before : List Token) → cut (g.ending m) before ps ≡ None
       → read_on g (m, seen) before ps end ≡ at_last g (m, seen) (before ++ ps) end
   unfolding read_on cut
-  reads_last m seen end [] before h = ap (λ (z : List Piece). at_last g (m, seen) z end) (sym (append-nil before))
+  reads_last m seen end [] before h = ap (λ (z : List Token). at_last g (m, seen) z end) (sym (append-nil before))
   reads_last m seen end (p ∷ ps) before h = elim (cases_Bool (is_whole (g.ending m) (before ++ p ∷ []))) [
     | inl whole ↦ let k = rw whole at h in absurd (cc)
     | inr more ↦
         let k = rw more at h in
-        rw more (reads_last m seen end ps (before ++ p ∷ []) k ∙ ap (λ (z : List Piece). at_last g (m, seen) z end) (append_more before p ps))
+        rw more (reads_last m seen end ps (before ++ p ∷ []) k ∙ ap (λ (z : List Token). at_last g (m, seen) z end) (append_more before p ps))
   ]
 
   -- what a form that was read says
@@ -96,7 +96,7 @@ module _ {M R : Type 0} (g : Grammar M R) where
   form_fault left (Err e) f k = err_same e f k
 
   -- the form of a statement that was read
-  pub form_read : (m after : M) (l left : Lexed) (ps : List Piece) (rec : R) → statement_at (g.ending m) l ≡ Ok (Some (ps, left)) → read_at g m l ≡ Ok (Some (rec, after, left))
+  pub form_read : (m after : M) (l left : Lexed) (ps : List Token) (rec : R) → statement_at (g.ending m) l ≡ Ok (Some (ps, left)) → read_at g m l ≡ Ok (Some (rec, after, left))
       → read_form g m ps ≡ Ok (rec, after)
   unfolding read_at
   form_read m after l left ps rec h r = (form_of left (read_form g m ps) rec after left (sym (ap (read_found g m l) h) ∙ r)).0
@@ -106,10 +106,10 @@ module _ {M R : Type 0} (g : Grammar M R) where
   none_has_no_record m (Err f) x h = cc
   none_has_no_record m (Ok n) x h = elim (cases_Bool (g.may_end m)) [ inl may ↦ let k = rw may at h in cc | inr others ↦ let k = rw others at h in cc ]
 
-  abbrev pub HasStatement : Lexed → Result (Option (List Piece × Lexed)) Fault → Type 0
-  HasStatement left found = (ps : List Piece) × (found ≡ Ok (Some (ps, left)))
+  abbrev pub HasStatement : Lexed → Result (Option (List Token × Lexed)) Fault → Type 0
+  HasStatement left found = (ps : List Token) × (found ≡ Ok (Some (ps, left)))
 
-  found_record : (m after : M) (l left : Lexed) (rec : R) (found : Result (Option (List Piece × Lexed)) Fault) → read_found g m l found ≡ Ok (Some (rec, after, left)) → HasStatement left found
+  found_record : (m after : M) (l left : Lexed) (rec : R) (found : Result (Option (List Token × Lexed)) Fault) → read_found g m l found ≡ Ok (Some (rec, after, left)) → HasStatement left found
   found_record m after l left rec (Err f) h = absurd (cc)
   found_record m after l left rec (Ok None) h = absurd (none_has_no_record m l.end (rec, after, left) h)
   found_record m after l left rec (Ok (Some x)) h =
@@ -121,7 +121,7 @@ module _ {M R : Type 0} (g : Grammar M R) where
   has_statement m after l left rec h = found_record m after l left rec (statement_at (g.ending m) l) h
 
   -- a statement with a fault
-  last_fault : (m : M) (seen : List Key) (l : Lexed) (f : Fault) (qs : List Piece) (end : Result ℕ Fault) → l.end ≡ end → read_found g m l (unfinished qs end) ≡ Err f
+  last_fault : (m : M) (seen : List Key) (l : Lexed) (f : Fault) (qs : List Token) (end : Result ℕ Fault) → l.end ≡ end → read_found g m l (unfinished qs end) ≡ Err f
       → at_last g (m, seen) qs end ≡ Err f
   last_fault m seen l f qs (Err e) is h = err_same e f h
   last_fault m seen l f (q ∷ qs) (Ok n) is h = err_same (fault_at Unfinished q.pos) f h
@@ -132,7 +132,7 @@ module _ {M R : Type 0} (g : Grammar M R) where
         | inr others ↦ let none = rw others at k in rw others (err_same (fault_at Unfinished n) f none)
       ]
 
-  cut_fault : (m : M) (seen : List Key) (l : Lexed) (f : Fault) (found : Option (List Piece × List Piece)) → cut (g.ending m) [] l.pieces ≡ found → read_found g m l (statement_from found l) ≡ Err f
+  cut_fault : (m : M) (seen : List Key) (l : Lexed) (f : Fault) (found : Option (List Token × List Token)) → cut (g.ending m) [] l.pieces ≡ found → read_found g m l (statement_from found l) ≡ Err f
       → read_from g (m, seen) l ≡ Err f
   cut_fault m seen l f None c h = reads_last m seen l.end l.pieces [] c ∙ last_fault m seen l f l.pieces l.end refl h
   cut_fault m seen l f (Some x) c h =
@@ -157,19 +157,19 @@ module _ {M R : Type 0} (g : Grammar M R) where
       reads_first m seen l.end l.pieces [] found.0 left.pieces c.0 ∙ rw (form, fresh, sym c.1) refl
 
   -- where no statement is left, no token is left
-  abbrev NothingLeft : List Piece → Result ℕ Fault → Type 0
+  abbrev NothingLeft : List Token → Result ℕ Fault → Type 0
   NothingLeft ps end = (ps ≡ []) × ((n : ℕ) × (end ≡ Ok n))
 
   form_of_none : (left : Lexed) (x : Result (R × M) Fault) → with_left g left x ≡ Ok None → ⊥
   form_of_none left (Ok y) h = cc
   form_of_none left (Err f) h = cc
 
-  last_none : (m : M) (l : Lexed) (qs : List Piece) (end : Result ℕ Fault) → read_found g m l (unfinished qs end) ≡ Ok None → NothingLeft qs end
+  last_none : (m : M) (l : Lexed) (qs : List Token) (end : Result ℕ Fault) → read_found g m l (unfinished qs end) ≡ Ok None → NothingLeft qs end
   last_none m l qs (Err f) h = absurd (cc)
   last_none m l (q ∷ qs) (Ok n) h = absurd (cc)
   last_none m l [] (Ok n) h = (refl, (n, refl))
 
-  cut_none : (m : M) (l : Lexed) (found : Option (List Piece × List Piece)) → read_found g m l (statement_from found l) ≡ Ok None → NothingLeft l.pieces l.end
+  cut_none : (m : M) (l : Lexed) (found : Option (List Token × List Token)) → read_found g m l (statement_from found l) ≡ Ok None → NothingLeft l.pieces l.end
   cut_none m l None h = last_none m l l.pieces l.end h
   cut_none m l (Some x) h = absurd (form_of_none (record { pieces = x.1; end = l.end }) (read_form g m x.0) h)
 
@@ -220,13 +220,13 @@ module _ {M R : Type 0} (g : Grammar M R) where
   records_are_read m seen l recs h = read_as m seen l recs (read_at g m l) h refl
 
   -- what one statement of such a text says
-  fresh_one : (seen : List Key) (s : List Piece) (rec : R) (after : M) (x : R × (M × List Key)) (again : Option FaultCode) → unless_repeated g s again rec after seen ≡ Ok x
+  fresh_one : (seen : List Key) (s : List Token) (rec : R) (after : M) (x : R × (M × List Key)) (again : Option FaultCode) → unless_repeated g s again rec after seen ≡ Ok x
       → x ≡ (rec, (after, with_key (g.key rec) seen))
   fresh_one seen s rec after x None h = sym (ok_same (rec, (after, with_key (g.key rec) seen)) x h)
   fresh_one seen s rec after x (Some code) h = absurd (cc)
 
   -- one statement, and the records after it
-  record_first : (m : M) (seen : List Key) (s : List Piece) (later : M × List Key → Result (List R) Fault) (recs : List R)
+  record_first : (m : M) (seen : List Key) (s : List Token) (later : M × List Key → Result (List R) Fault) (recs : List R)
       → (read_one g (m, seen) s >> λ x. (later x.1 >> λ rest. Ok (x.0 ∷ rest))) ≡ Ok recs
       → (y : R × M) × (rest : List R) × (read_form g m s ≡ Ok y) × (later (y.1, with_key (g.key y.0) seen) ≡ Ok rest) × (y.0 ∷ rest ≡ recs)
   record_first m seen s later recs h =
@@ -238,7 +238,7 @@ module _ {M R : Type 0} (g : Grammar M R) where
       let two = then_ok (later (y.1, with_key (g.key y.0) seen)) (λ rest. Ok (y.0 ∷ rest)) recs left in
       (y, two.0, form.1, two.1, ok_same (y.0 ∷ two.0) recs two.2)
 
-  last_located : (m : M) (seen : List Key) (before : List Piece) (end : Result ℕ Fault) (recs : List R) → at_last g (m, seen) before end ≡ Ok recs → recs ≡ []
+  last_located : (m : M) (seen : List Key) (before : List Token) (end : Result ℕ Fault) (recs : List R) → at_last g (m, seen) before end ≡ Ok recs → recs ≡ []
   last_located m seen before (Err f) recs h = absurd (cc)
   last_located m seen (p ∷ ps) (Ok n) recs h = absurd (cc)
   last_located m seen [] (Ok n) recs h = elim (cases_Bool (g.may_end m)) [
@@ -246,8 +246,8 @@ module _ {M R : Type 0} (g : Grammar M R) where
     | inr others ↦ let k = rw others at h in absurd (cc)
   ]
 
-  located_on_is : (end : Result ℕ Fault) (ps before : List Piece) (m : M) (seen : List Key) (recs : List R) → read_on g (m, seen) before ps end ≡ Ok recs
-      → map (λ (s : List Piece × R). s.1) (located_on g m before ps) ≡ recs
+  located_on_is : (end : Result ℕ Fault) (ps before : List Token) (m : M) (seen : List Key) (recs : List R) → read_on g (m, seen) before ps end ≡ Ok recs
+      → map (λ (s : List Token × R). s.1) (located_on g m before ps) ≡ recs
   unfolding read_on located_on
   located_on_is end [] before m seen recs h = sym (last_located m seen before end recs h)
   located_on_is end (p ∷ ps) before m seen recs h = elim (cases_Bool (is_whole (g.ending m) (before ++ p ∷ []))) [
@@ -258,7 +258,7 @@ module _ {M R : Type 0} (g : Grammar M R) where
     | inr more ↦ let k = rw more at h in rw more (located_on_is end ps (before ++ p ∷ []) m seen recs k)
   ]
 
-  pub located_from_is : (m : M) (seen : List Key) (l : Lexed) (recs : List R) → read_from g (m, seen) l ≡ Ok recs → map (λ (s : List Piece × R). s.1) (located_from g m l) ≡ recs
+  pub located_from_is : (m : M) (seen : List Key) (l : Lexed) (recs : List R) → read_from g (m, seen) l ≡ Ok recs → map (λ (s : List Token × R). s.1) (located_from g m l) ≡ recs
   located_from_is m seen l recs h = located_on_is l.end l.pieces [] m seen recs h
 
   pub records_are_located : RecordsAreLocated g

@@ -2,7 +2,7 @@
 use Rattle.std.specs.Prelude.{◌≡◌, ℕ, List, [], ◌∷◌, Option, Some, None, Result, Ok, Err, map}
 use Rattle.design_model.specs.declared.fault.Fault.{Fault}
 use Rattle.design_model.specs.declared.fault.FaultCode.{FaultCode}
-use Rattle.statement_model.specs.Tokens.{Piece, Lexed}
+use Rattle.statement_model.specs.Tokens.{Token, Lexed}
 use Rattle.statement_model.specs.Boundaries.{statement_at}
 use Rattle.statement_model.specs.Folds.{◌>>◌}
 use Rattle.statement_model.specs.Grammar.{Key, Grammar}
@@ -17,7 +17,7 @@ module _ {M R : Type 0} (g : Grammar M R) where
   -- so is a key that stands already, where the statement begins
   abbrev pub RepeatsStop : Type 0
   RepeatsStop =
-      (m after : M) (seen : List Key) (l left : Lexed) (ps : List Piece) (rec : R) (code : FaultCode)
+      (m after : M) (seen : List Key) (l left : Lexed) (ps : List Token) (rec : R) (code : FaultCode)
       → statement_at (g.ending m) l ≡ Ok (Some (ps, left))
       → read_at g m l ≡ Ok (Some (rec, after, left))
       → repeats seen (g.key rec) ≡ Some code

@@ -4,7 +4,7 @@ ghost use Rattle.std.specs.Prelude.{◌≡◌, ◌≤◌, ◌<◌, ◌+◌, [], 
 ghost use Rattle.statement_model.specs.Tokens.{before, left_from};
 ghost use Rattle.statement_model.specs.Boundaries.{is_alone, is_last};
 ghost use Rattle.statement_model.specs.Reading.{pos_of};
-ghost use Rattle.lefdef_tokens.specs.Views.{IsNext, piece_of, pieces_of, span_of};
+ghost use Rattle.lefdef_tokens.specs.Views.{IsNext, token_of, pieces_of, span_of};
 ghost use Rattle.statement_reader.specs.Endings.{ending_view, Runs};
 ghost use Rattle.statement_reader.specs.Passing.{PassesOver};
 
@@ -59,7 +59,7 @@ pub fn statement_run<'t>(
 ) -> Result<(TokenRun<'t>, usize), Fault>
     requires further { pos < second }
     requires within { second ≤ length text.now }
-    requires begins { left_from text.now pos ≡ before (piece_of first.now ∷ []) (left_from text.now second) }
+    requires begins { left_from text.now pos ≡ before (token_of first.now ∷ []) (left_from text.now second) }
     requires next { IsNext pos first.now second }
     ensures within { IfOk result (λ x. (pos < x.1) × (x.1 ≤ length text.now)) }
     ensures lent { IfOk result (λ x. x.0.text.now ≡ text.now) }

@@ -2,11 +2,10 @@
 use Rattle.std.proofs.Common.{◌≡◌, List}
 use Rattle.std.specs.Prelude.{flat_map, MatchOption}
 use Rattle.std.specs.Option.{option_map}
-use Rattle.lef_grammar.specs.Firsts.{first_of}
-use Rattle.def_grammar.specs.Nets.{NetClause}
+use Rattle.form_meanings.specs.Firsts.{first_of}
+use Rattle.def_grammar.specs.Nets.{NetClause, rule_of_clause}
 use Rattle.def_grammar.specs.NetWires.{wires_of}
 use Rattle.lefdef_tokens.specs.Views.{word_view}
-use Rattle.entry_rules.specs.References.{rule_of_clause}
 use Rattle.wire_parts.specs.NetWireViews.{paths_left}
 use Rattle.wire_reading.specs.NetBegun.{begun_wires, first_then}
 use Rattle.wire_reading.specs.declared.beginning.Begun.{Begun}

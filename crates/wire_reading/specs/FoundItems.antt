@@ -1,7 +1,7 @@
 -- What an item of a text gives.
 use Rattle.std.specs.Prelude.{◌≡◌, List, [], ◌∷◌, ◌++◌, Option, Some, None, IfSome, MatchOption}
 use Rattle.wire_rules.specs.Paths.{PathItem, ViaUse}
-use Rattle.wire_rules.specs.Ranges.{IsArray}
+use Rattle.design_model.specs.Ranges.{IsArray}
 use Rattle.wire_shapes.specs.ItemViews.{IsItemInRange, IsPlace, item_view}
 use Rattle.wire_shapes.specs.declared.path_items.PathItem as code_item
 use Rattle.wire_shapes.specs.declared.path_items.ViaUse as code_via

@@ -2,10 +2,10 @@
 
 ghost use Rattle.std.specs.Prelude.{◌≡◌, flat_map, None};
 ghost use Rattle.std.specs.Option.{option_map};
-ghost use Rattle.lef_grammar.specs.Firsts.{first_of};
+ghost use Rattle.form_meanings.specs.Firsts.{first_of};
 ghost use Rattle.def_grammar.specs.NetWires.{wires_of};
 ghost use Rattle.lefdef_tokens.specs.Views.{word_view};
-ghost use Rattle.entry_rules.specs.References.{rule_of_clause};
+ghost use Rattle.def_grammar.specs.Nets.{rule_of_clause};
 ghost use Rattle.wire_parts.specs.NetViews.{net_clause_view, net_clauses_of};
 ghost use Rattle.wire_reading.specs.NetBegun.{NotesWires, begun_wires, first_then};
 

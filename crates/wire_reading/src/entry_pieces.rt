@@ -11,11 +11,11 @@ ghost use Rattle.wire_reading.specs.WiresLeft.{net_left, special_left};
 
 use crate::beginning::{Begun, begin};
 use crate::items::{NetItems, SpecialItems};
-use crate::ruled_wires::{NetWires, RuledWires, SpecialNetWires, net_wire_pieces};
-use crate::rules_of::{NetRulesOf, SpecialRulesOf};
+use crate::made_wires::{MadeWires, NetWires, SpecialNetWires, net_wire_pieces};
+use crate::makings_of::{NetMakingsOf, SpecialMakingsOf};
 use wire_parts::nets::NetParts;
 use wire_parts::special_nets::SpecialNetParts;
-use wire_shapes::{LayerShapes, PathItems, PathPieces, Piece, WiringRules};
+use wire_shapes::{LayerShapes, PathItems, PathPieces, Piece, WiringMakings};
 
 /// Gives the pieces of the wires of an entry in their order, wire by wire. It takes no memory.
 #[derive(Drop)]
@@ -53,9 +53,9 @@ pub type SpecialNetPieces<'a, 't, M, R, S> = EntryPieces<
 pub fn net_pieces<'a, 't: 'a, M, R, S>(parts: &NetParts<'t>, maker: M) -> NetPieces<'a, 't, M, R, S>
 where
     S: LayerShapes<'a>,
-    R: WiringRules<'a, Shapes = S>,
-    M: NetRulesOf<'a, Rules = R>,
-    ensures { entry_left (net_left M.rules_of) net_items_left R.rules S.shapes result ≡ net_pieces_by (M.rules_of maker) (net_view parts.now) }
+    R: WiringMakings<'a, Shapes = S>,
+    M: NetMakingsOf<'a, Rules = R>,
+    ensures { entry_left (net_left M.makings_of) net_items_left R.rules S.shapes result ≡ net_pieces_by (M.makings_of maker) (net_view parts.now) }
 {
     let Begun { rule, first, paths } = begin(&parts.clauses);
     let present = match first {
@@ -75,9 +75,9 @@ pub fn special_net_pieces<'a, 't: 'a, M, R, S>(
 ) -> SpecialNetPieces<'a, 't, M, R, S>
 where
     S: LayerShapes<'a>,
-    R: WiringRules<'a, Shapes = S>,
-    M: SpecialRulesOf<'a, Rules = R>,
-    ensures { entry_left (special_left M.rules_of) special_items_left R.rules S.shapes result ≡ special_net_pieces_by (M.rules_of maker) (special_net_view parts.now) }
+    R: WiringMakings<'a, Shapes = S>,
+    M: SpecialMakingsOf<'a, Rules = R>,
+    ensures { entry_left (special_left M.makings_of) special_items_left R.rules S.shapes result ≡ special_net_pieces_by (M.makings_of maker) (special_net_view parts.now) }
 {
     let special_paths = parts.paths();
     EntryPieces::of(SpecialNetWires {
@@ -92,7 +92,7 @@ fn next_of_wire<'a, I, R, S>(present: &mut Option<PathPieces<'a, I, R, S>>) -> O
 where
     I: PathItems<'a>,
     S: LayerShapes<'a>,
-    R: WiringRules<'a, Shapes = S>,
+    R: WiringMakings<'a, Shapes = S>,
     ensures { GivesPiece (wire_left I.items R.rules S.shapes present.old) result (wire_left I.items R.rules S.shapes present.new) }
 {
     match present {
@@ -105,8 +105,8 @@ impl<
     'a,
     I: PathItems<'a>,
     S: LayerShapes<'a>,
-    R: WiringRules<'a, Shapes = S>,
-    W: RuledWires<'a, I, R, S>,
+    R: WiringMakings<'a, Shapes = S>,
+    W: MadeWires<'a, I, R, S>,
 > Iterator for EntryPieces<'a, W, I, R, S> {
     ghost use Rattle.std.specs.Iterator.{item_count};
     ghost use Rattle.wire_shapes.specs.PieceViews.{GivesPiece};

@@ -4,7 +4,7 @@ ghost use Rattle.std.specs.Prelude.{◌≡◌, IsTrue};
 ghost use Rattle.def_grammar.specs.Numbers.{int_of};
 ghost use Rattle.entry_rules.specs.WireItems.{count_of, extension_of};
 ghost use Rattle.wire_parts.specs.PathViews.{wire_point_view};
-ghost use Rattle.wire_rules.specs.Ranges.{IsArray, IsSize};
+ghost use Rattle.design_model.specs.Ranges.{IsArray, IsSize};
 ghost use Rattle.wire_rules.specs.Sizes.{as_size, is_array};
 ghost use Rattle.wire_shapes.specs.ItemViews.{IsPast};
 

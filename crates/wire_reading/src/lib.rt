@@ -2,7 +2,7 @@
 //!
 //! Begin with `net_pieces`, the pieces of all wires of an entry of NETS, and `special_net_pieces`, those of SPECIALNETS;
 //! `net_path_pieces` and `special_path_pieces` have those of one path. Who knows the design says what wires are made by: those
-//! of NETS by their nondefault rule (`NetRulesOf`), those of SPECIALNETS by their width (`SpecialRulesOf`).
+//! of NETS by their nondefault rule (`NetMakingsOf`), those of SPECIALNETS by their width (`SpecialMakingsOf`).
 //!
 //! What they give is defined in `specs/PiecesBy`; by the rules of a design it is `net_rules/specs/WirePieces` (the law
 //! `pieces_of_design`). Paths become items in numbers on the way (`WireItems`, `entry_rules/specs/WireItems`). The other files
@@ -16,15 +16,15 @@ mod entry_pieces;
 mod item_numbers;
 mod items;
 mod laws;
+mod made_wires;
+mod makings_of;
 mod pieces;
-mod ruled_wires;
-mod rules_of;
 mod used_vias;
 mod wire_rule;
 
 pub use entry_pieces::{EntryPieces, NetPieces, SpecialNetPieces, net_pieces, special_net_pieces};
 pub use items::{ItemParts, NetItems, SpecialItems, WireItems};
 pub use laws::pieces_of_design;
+pub use made_wires::{MadeWires, NetWires, SpecialNetWires};
+pub use makings_of::{NetMakingsOf, SpecialMakingsOf};
 pub use pieces::{net_path_pieces, special_path_pieces};
-pub use ruled_wires::{NetWires, RuledWires, SpecialNetWires};
-pub use rules_of::{NetRulesOf, SpecialRulesOf};

@@ -10,10 +10,10 @@ ghost use Rattle.wire_reading.specs.ItemsLeft.{net_items_left, special_items_lef
 use crate::item_numbers::extension_of;
 use crate::items::{NetItems, SpecialItems, WireItems};
 use wire_parts::paths::{Path, SpecialVia, WireVia};
-use wire_shapes::{LayerShapes, PathPieces, WiringRules};
+use wire_shapes::{LayerShapes, PathPieces, WiringMakings};
 
 /// The pieces of a path of NETS, which begins on a layer.
-pub fn net_path_pieces<'a, 't: 'a, S: LayerShapes<'a>, R: WiringRules<'a, Shapes = S>>(
+pub fn net_path_pieces<'a, 't: 'a, S: LayerShapes<'a>, R: WiringMakings<'a, Shapes = S>>(
     rules: R,
     layer: &'a [u8],
     path: &Path<'t, WireVia<'t>>,
@@ -27,7 +27,7 @@ pub fn net_path_pieces<'a, 't: 'a, S: LayerShapes<'a>, R: WiringRules<'a, Shapes
 }
 
 /// The pieces of a path of SPECIALNETS, which begins on a layer.
-pub fn special_path_pieces<'a, 't: 'a, S: LayerShapes<'a>, R: WiringRules<'a, Shapes = S>>(
+pub fn special_path_pieces<'a, 't: 'a, S: LayerShapes<'a>, R: WiringMakings<'a, Shapes = S>>(
     rules: R,
     layer: &'a [u8],
     path: &Path<'t, SpecialVia<'t>>,

@@ -3,7 +3,7 @@
 ghost use Rattle.std.specs.Prelude.{◌≡◌, Some};
 ghost use Rattle.entry_rules.specs.WireItems.{net_via, special_via, turned_as, via_in_array};
 ghost use Rattle.wire_parts.specs.PathViews.{special_via_view, via_array_view, wire_via_view};
-ghost use Rattle.wire_rules.specs.Ranges.{IsArray};
+ghost use Rattle.design_model.specs.Ranges.{IsArray};
 ghost use Rattle.wire_shapes.specs.ItemViews.{IsPlace, via_use_view};
 ghost use Rattle.wire_reading.specs.FoundItems.{IsUseInRange};
 

@@ -1,5 +1,4 @@
 pub mod Paths
 pub mod Placed
-pub mod Ranges
 pub mod Sizes
 pub mod ViaShapes

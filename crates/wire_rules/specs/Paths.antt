@@ -27,7 +27,7 @@ pub data PathItem : Type 0 where
 
 -- what a wire is made by: its width on each layer, how far it goes past its ends where nothing is said, by its width; and of a
 -- via its layers that are of TYPE ROUTING, each once, and its shapes, where it is known
-pub record WireRules : Type 0 where
+pub record WireMakings : Type 0 where
   pub width : List ℕ → ℤ
   pub past_end : ℤ → ℤ
   pub via_layers : List ℕ → Option (List (List ℕ))
@@ -120,7 +120,7 @@ abbrev pub off_layer : List ℕ → Option (List ℕ) → List Piece
 off_layer name None = via_off_layer name ∷ []
 off_layer name (Some other) = []
 
-module _ (rules : WireRules) where
+module _ (rules : WireMakings) where
   -- how far the wire goes past a point of the present layer
   abbrev pub past_at : List ℕ → Option ℤ → ℤ
   past_at layer past = past_of (rules.past_end (rules.width layer)) past

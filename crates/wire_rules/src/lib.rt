@@ -5,5 +5,5 @@
 //! pin's or a via's rectangle lies (`turned_at`), and `specs/Ranges` how far numbers reach.
 //!
 //! Nothing here knows a text or a record: names are bytes, and what a wire's width, or a via, is comes as functions
-//! (`WireRules`). Nothing fails.
+//! (`WireMakings`). Nothing fails.
 #![tactic(auto)]

@@ -3,7 +3,7 @@ use Rattle.std.proofs.Common.{◌≡◌, ℤ, ◌-ℤ◌, nat_abs, ap, subst, sy
 use Rattle.std.proofs.lemmas.Int.{ints}
 use mir.Syntax.{w64}
 use mir.Val.{to_z, of_z}
-use Rattle.wire_rules.specs.Ranges.{IsSize, IsWithin}
+use Rattle.design_model.specs.Ranges.{IsSize, IsWithin}
 
 abbrev pub word : ℤ → ℤ
 word z = to_z w64 (of_z w64 z)

@@ -3,7 +3,7 @@ use Rattle.std.proofs.Common.{◌≡◌, ℕ, zero, suc, ◌+◌, ◌≤◌, ◌
 use Rattle.std.proofs.lemmas.Int.{ints}
 use Rattle.design_model.specs.declared.geometry.Point.{Point}
 use Rattle.design_model.specs.Geometry.{IsNear, IsNearRectangle, Rectangle, lower_left, moved, spanned, upper_right}
-use Rattle.wire_rules.specs.Ranges.{IsBoxWithin, IsPointWithin, IsSize, IsWithin}
+use Rattle.design_model.specs.Ranges.{IsBoxWithin, IsPointWithin, IsSize, IsWithin}
 use Rattle.wire_rules.specs.ViaShapes.{centred, extent_of, grown}
 use Rattle.wire_shapes.specs.SpanViews.{box_of}
 use Rattle.wire_shapes.proofs.Bits.{size, word}

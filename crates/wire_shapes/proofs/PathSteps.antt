@@ -2,8 +2,8 @@
 use Rattle.std.proofs.Common.{◌≡◌, List, [], ◌∷◌, ◌++◌, Option, Some, None, ℤ, refl, ap, sym, ◌∙◌}
 use Rattle.std.specs.Prelude.{IfSome, IsNone}
 use Rattle.design_model.specs.declared.geometry.Point.{Point}
-use Rattle.wire_rules.specs.Paths.{PathItem, PathPlace, Piece, WireRules, past_of, pieces_at, pieces_from, place_after, segment_between, segment_to}
-use Rattle.wire_rules.specs.Ranges.{IsSize}
+use Rattle.wire_rules.specs.Paths.{PathItem, PathPlace, Piece, WireMakings, past_of, pieces_at, pieces_from, place_after, segment_between, segment_to}
+use Rattle.design_model.specs.Ranges.{IsSize}
 use Rattle.wire_rules.specs.ViaShapes.{NamedShape}
 use Rattle.wire_shapes.specs.PathLeft.{IsWalkInReach, found_list, left_of, place_view, via_part}
 use Rattle.wire_shapes.specs.PieceViews.{GivesPiece, IsPieceNear}
@@ -11,7 +11,7 @@ use Rattle.wire_shapes.specs.declared.path_walk.PathWalk.{PathWalk}
 use Rattle.wire_shapes.specs.declared.piece.Piece as code
 use Rattle.wire_shapes.proofs.Bits.{size, sizes, word}
 
-pub segment_made : (rules : WireRules) (p : PathPlace) (b : Point) (past : Option ℤ) (piece : Piece) (width default past_a past_b : ℤ)
+pub segment_made : (rules : WireMakings) (p : PathPlace) (b : Point) (past : Option ℤ) (piece : Piece) (width default past_a past_b : ℤ)
     → IsSize width → IsSize default → IsSize past_a → IsSize past_b
     → width ≡ rules.width p.layer → default ≡ rules.past_end (word width) → past_a ≡ past_of (word default) p.past → past_b ≡ past_of (word default) past
     → piece ≡ segment_between p.layer (word width) p.at (word past_a) b (word past_b)
@@ -41,7 +41,7 @@ pub near_first : (old new : List Piece) (found : Option code.Piece) → GivesPie
 near_first old new None gives = tt
 near_first old new (Some p) gives = gives.1
 
-module _ {I R S : Type 0} (items : I → List PathItem) (rules : R → WireRules) (shapes : S → List NamedShape) where
+module _ {I R S : Type 0} (items : I → List PathItem) (rules : R → WireMakings) (shapes : S → List NamedShape) where
   -- where a path is after some calls: what a call found comes first of what was left, and then what is left now
   pub record Going (old : PathWalk I R S) (found : Option code.Piece) (now : PathWalk I R S) : Type 0 where
     pub same : found_list found ++ left_of items rules shapes now ≡ left_of items rules shapes old

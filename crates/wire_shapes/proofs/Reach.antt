@@ -2,7 +2,7 @@
 use Rattle.std.proofs.Common.{◌≡◌, ℕ, ◌-◌, ◌<◌, ◌≤◌, ℤ, pos, ◌+ℤ◌, ap, arith, refl}
 use Rattle.std.proofs.lemmas.Int.{ints}
 use Rattle.design_model.specs.declared.geometry.Point.{Point}
-use Rattle.wire_rules.specs.Ranges.{IsArray, IsPointWithin, IsWithin}
+use Rattle.design_model.specs.Ranges.{IsArray, IsPointWithin, IsWithin}
 use Rattle.wire_shapes.specs.PlacesLeft.{IsInReach, reach}
 use Rattle.wire_shapes.specs.declared.via_places.ViaPlaces.{ViaPlaces}
 

@@ -7,7 +7,7 @@ use Rattle.design_model.specs.declared.geometry.Orient.TheVariants.{N, W, S, E, 
 use Rattle.design_model.specs.declared.geometry.Point.{Point}
 use Rattle.design_model.specs.Geometry.{IsNear, IsNearRectangle, Rectangle, moved, turned}
 use Rattle.wire_rules.specs.Placed.{turned_at}
-use Rattle.wire_rules.specs.Ranges.{IsBoxWithin, IsPointWithin, IsWithin}
+use Rattle.design_model.specs.Ranges.{IsBoxWithin, IsPointWithin, IsWithin}
 
 module _ (n : ℕ) where
   mirrored : (z : ℤ) → IsWithin n z → IsWithin n (neg_ℤ z)

@@ -1,6 +1,6 @@
 -- Generated vias in the program as those of the definitions.
 use Rattle.std.specs.Prelude.{ℕ, ◌<◌, ◌≤◌, pos}
-use Rattle.wire_rules.specs.Ranges.{IsPointWithin, IsSize}
+use Rattle.design_model.specs.Ranges.{IsPointWithin, IsSize}
 use Rattle.wire_rules.specs.ViaShapes.{GeneratedVia}
 use Rattle.wire_shapes.specs.declared.generated.GeneratedVia as code
 

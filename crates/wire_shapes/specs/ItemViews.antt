@@ -3,7 +3,7 @@ use Rattle.std.specs.Prelude.{◌≡◌, List, [], ◌∷◌, ℤ, Option, IfSom
 use Rattle.design_model.specs.declared.geometry.Point.{Point}
 use Rattle.design_model.specs.Views.{rectangle_of}
 use Rattle.wire_rules.specs.Paths.{ViaUse, PathItem, to_point, jump_to, patch, use_via}
-use Rattle.wire_rules.specs.Ranges.{IsArray, IsBoxWithin, IsPointWithin, IsSize, IsWithin}
+use Rattle.design_model.specs.Ranges.{IsArray, IsBoxWithin, IsPointWithin, IsSize, IsWithin}
 use Rattle.wire_shapes.specs.declared.path_items.ViaUse as code_via
 use Rattle.wire_shapes.specs.declared.path_items.PathItem as code
 use Rattle.wire_shapes.specs.declared.path_items.PathItem.TheVariants as items

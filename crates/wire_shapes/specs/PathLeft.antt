@@ -1,6 +1,6 @@
 -- What is left of a path.
 use Rattle.std.specs.Prelude.{◌≡◌, List, [], ◌∷◌, ◌++◌, Option, Some, None, IfSome}
-use Rattle.wire_rules.specs.Paths.{PathItem, PathPlace, Piece, WireRules, pieces_at, pieces_from, place_after}
+use Rattle.wire_rules.specs.Paths.{PathItem, PathPlace, Piece, WireMakings, pieces_at, pieces_from, place_after}
 use Rattle.wire_rules.specs.ViaShapes.{NamedShape}
 use Rattle.wire_shapes.specs.ItemViews.{IsPast, IsPlace}
 use Rattle.wire_shapes.specs.PieceViews.{piece_view}
@@ -28,7 +28,7 @@ pub record IsWalkInReach {I R S : Type 0} (w : PathWalk I R S) : Type 0 where
   pub past : IsPast w.place.past
   pub via : IfSome w.via IsViaInReach
 
-module _ {I R S : Type 0} (items : I → List PathItem) (rules : R → WireRules) (shapes : S → List NamedShape) where
+module _ {I R S : Type 0} (items : I → List PathItem) (rules : R → WireMakings) (shapes : S → List NamedShape) where
   abbrev pub left_of : PathWalk I R S → List Piece
   left_of w = via_part shapes w.via ++ pieces_from (rules w.rules) (place_view w.place) (items w.items)
 

@@ -2,7 +2,7 @@
 use Rattle.std.specs.Prelude.{◌≡◌, ℕ, ◌*◌, ◌-◌, ◌<◌, ◌≤◌, List, [], ◌∷◌, ◌++◌, flat_map, pos, Option, MatchOption}
 use Rattle.design_model.specs.declared.geometry.Point.{Point}
 use Rattle.wire_rules.specs.Paths.{line_of}
-use Rattle.wire_rules.specs.Ranges.{IsPointWithin, IsWithin}
+use Rattle.design_model.specs.Ranges.{IsPointWithin, IsWithin}
 use Rattle.wire_shapes.specs.declared.via_places.ViaPlaces.{ViaPlaces}
 
 -- those of a row, and those of the rows after it

@@ -1,11 +1,11 @@
 -- Shapes and answers about vias in the program as those of the definitions.
 use Rattle.std.specs.Prelude.{◌≡◌, ℕ, List, [], ◌∷◌, Option, Some, None, MatchOption}
 use Rattle.design_model.specs.Views.{rectangle_of}
-use Rattle.wire_rules.specs.Ranges.{IsBoxWithin}
+use Rattle.design_model.specs.Ranges.{IsBoxWithin}
 use Rattle.wire_rules.specs.ViaShapes.{NamedShape}
-use Rattle.wire_shapes.specs.declared.wiring_rules.LayerShape as code
-use Rattle.wire_shapes.specs.declared.wiring_rules.ViaOn.{ViaOn}
-use Rattle.wire_shapes.specs.declared.wiring_rules.ViaOn.TheVariants.{Unknown, Stays, Leads}
+use Rattle.wire_shapes.specs.declared.wiring_makings.LayerShape as code
+use Rattle.wire_shapes.specs.declared.wiring_makings.ViaOn.{ViaOn}
+use Rattle.wire_shapes.specs.declared.wiring_makings.ViaOn.TheVariants.{Unknown, Stays, Leads}
 
 abbrev pub shape_view : code.LayerShape → NamedShape
 shape_view s = record { layer = s.layer.now; box = rectangle_of s.rect }

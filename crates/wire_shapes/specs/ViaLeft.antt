@@ -2,7 +2,7 @@
 use Rattle.std.specs.Prelude.{ℕ, Bool, List, [], ◌∷◌, ◌++◌, map, flat_map, if◌then◌else◌}
 use Rattle.design_model.specs.declared.geometry.Point.{Point}
 use Rattle.wire_rules.specs.Paths.{Piece, ViaUse, array_of, one_via, shape_at, via_off_layer}
-use Rattle.wire_rules.specs.Ranges.{IsPointWithin}
+use Rattle.design_model.specs.Ranges.{IsPointWithin}
 use Rattle.wire_rules.specs.ViaShapes.{NamedShape}
 use Rattle.wire_shapes.specs.ItemViews.{via_use_view}
 use Rattle.wire_shapes.specs.PlacesLeft.{IsInReach, places_left, reach}

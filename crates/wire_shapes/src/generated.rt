@@ -4,13 +4,13 @@ ghost use Rattle.std.specs.Prelude.{◌≡◌, ◌*◌, ◌≤◌, pos, ◌+ℤ�
 ghost use Rattle.std.specs.Option.{option_map};
 ghost use Rattle.design_model.specs.Geometry.{lower_left, upper_right};
 ghost use Rattle.design_model.specs.Views.{rectangle_of};
-ghost use Rattle.wire_rules.specs.Ranges.{IsBoxWithin, IsPointWithin, IsSize, IsWithin};
+ghost use Rattle.design_model.specs.Ranges.{IsBoxWithin, IsPointWithin, IsSize, IsWithin};
 ghost use Rattle.wire_rules.specs.ViaShapes.{centred, cut_box, extent_of, generated_shapes, grown, moved_to};
 ghost use Rattle.wire_shapes.specs.GeneratedViews.{IsCutCount, IsGenerated, generated_view};
 ghost use Rattle.wire_shapes.specs.RuleViews.{shape_reach, shape_view};
 
 use crate::span::{Span, box_of};
-use crate::wiring_rules::{LayerShape, LayerShapes};
+use crate::wiring_makings::{LayerShape, LayerShapes};
 use design_model::geometry::{Point, Rect};
 use orient_geom::{move_by, span};
 

@@ -1,6 +1,6 @@
 //! Laws of the definitions.
 
-ghost use Rattle.wire_rules.specs.Paths.{PiecesJoin, WireRules};
+ghost use Rattle.wire_rules.specs.Paths.{PiecesJoin, WireMakings};
 ghost use Rattle.wire_shapes.specs.Laws.{LinesOfPlaces, SegmentHoldsItsEnds, TurningViasBack};
 
 /// The rectangle of a wire between two points holds both.
@@ -20,5 +20,5 @@ pub fn lines_of_places()
 
 /// The pieces of a path are those of its front, and then, from the place and the layer that this reaches, those of the rest.
 pub fn pieces_join()
-    ensures { (rules : WireRules) → PiecesJoin rules }
+    ensures { (rules : WireMakings) → PiecesJoin rules }
 {}

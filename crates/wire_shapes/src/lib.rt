@@ -2,7 +2,7 @@
 //!
 //! Begin with `PathPieces::new`, which goes over a path from its first point on, item by item. What it gives is
 //! `wire_rules/specs/Paths`, `pieces_from`, over the numbers of the path's items (`PathItems`), and over the widths and the
-//! vias of the design (`WiringRules`, with a via's shapes as `LayerShapes`): who reads a text says what these are.
+//! vias of the design (`WiringMakings`, with a via's shapes as `LayerShapes`): who reads a text says what these are.
 //! `GeneratedShapes` has the shapes of a via that a VIARULE generates (`wire_rules/specs/ViaShapes`, `generated_shapes`).
 //! The laws `segment_holds_its_ends`, `turning_vias_back`, `lines_of_places` and `pieces_join` say what the definitions mean.
 //!
@@ -22,11 +22,11 @@ mod segment;
 mod span;
 mod via_places;
 mod via_walk;
-mod wiring_rules;
+mod wiring_makings;
 
 pub use generated::{GeneratedShapes, GeneratedVia};
 pub use laws::{lines_of_places, pieces_join, segment_holds_its_ends, turning_vias_back};
 pub use path_items::{PathItem, PathItems, ViaUse};
 pub use piece::Piece;
 pub use pieces::PathPieces;
-pub use wiring_rules::{LayerShape, LayerShapes, ViaOn, WiringRules};
+pub use wiring_makings::{LayerShape, LayerShapes, ViaOn, WiringMakings};

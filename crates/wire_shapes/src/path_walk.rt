@@ -3,7 +3,7 @@
 ghost use Rattle.std.specs.Prelude.{◌≡◌, [], ◌∷◌, ◌++◌, IfSome, IsNone};
 ghost use Rattle.design_model.specs.Views.{rectangle_of};
 ghost use Rattle.wire_rules.specs.Paths.{past_of, patch, pieces_at, segment_to, to_point, use_via};
-ghost use Rattle.wire_rules.specs.Ranges.{IsArray, IsBoxWithin, IsSize};
+ghost use Rattle.design_model.specs.Ranges.{IsArray, IsBoxWithin, IsSize};
 ghost use Rattle.wire_shapes.specs.ItemViews.{IsItemInRange, IsPast, IsPlace, item_view, via_use_view};
 ghost use Rattle.wire_shapes.specs.PathLeft.{Enters, IsWalkInReach, found_list, left_of, place_view, via_part};
 ghost use Rattle.wire_shapes.specs.PieceViews.{GivesPiece, IsPieceNear, piece_view};
@@ -13,7 +13,7 @@ use crate::path_items::{PathItem, PathItems, ViaUse};
 use crate::piece::Piece;
 use crate::segment::segment_between;
 use crate::via_walk::ViaWalk;
-use crate::wiring_rules::{LayerShape, LayerShapes, ViaOn, WiringRules};
+use crate::wiring_makings::{LayerShape, LayerShapes, ViaOn, WiringMakings};
 use design_model::geometry::{Point, Rect};
 use orient_geom::move_by;
 
@@ -48,7 +48,7 @@ fn past_of(default: i64, past: Option<i64>) -> i64
     }
 }
 
-impl<'t, I: PathItems<'t>, S: LayerShapes<'t>, R: WiringRules<'t, Shapes = S>> PathWalk<
+impl<'t, I: PathItems<'t>, S: LayerShapes<'t>, R: WiringMakings<'t, Shapes = S>> PathWalk<
     't,
     I,
     R,

@@ -1,6 +1,6 @@
 //! The pieces of a path.
 
-use crate::wiring_rules::LayerShape;
+use crate::wiring_makings::LayerShape;
 use design_model::geometry::Point;
 
 /// What a path gives, in database units (LEF/DEF 5.8 Language Reference, "Regular Wiring Statement" and "Special Wiring

@@ -9,7 +9,7 @@ ghost use Rattle.wire_shapes.specs.PathLeft.{IsWalkInReach};
 use crate::path_items::PathItems;
 use crate::path_walk::{PathPlace, PathWalk};
 use crate::piece::Piece;
-use crate::wiring_rules::{LayerShapes, WiringRules};
+use crate::wiring_makings::{LayerShapes, WiringMakings};
 use design_model::geometry::Point;
 
 /// Gives the pieces of a path in their order: of each item those that it has, and of a via its shapes at each place of its
@@ -20,7 +20,7 @@ pub struct PathPieces<'t, I, R, S> {
     ghost reach: { IsWalkInReach walk } by { Prim.hlevel props },
 }
 
-impl<'t, I: PathItems<'t>, S: LayerShapes<'t>, R: WiringRules<'t, Shapes = S>> PathPieces<
+impl<'t, I: PathItems<'t>, S: LayerShapes<'t>, R: WiringMakings<'t, Shapes = S>> PathPieces<
     't,
     I,
     R,
@@ -51,7 +51,7 @@ impl<'t, I: PathItems<'t>, S: LayerShapes<'t>, R: WiringRules<'t, Shapes = S>> P
     }
 }
 
-impl<'t, I: PathItems<'t>, S: LayerShapes<'t>, R: WiringRules<'t, Shapes = S>> Iterator
+impl<'t, I: PathItems<'t>, S: LayerShapes<'t>, R: WiringMakings<'t, Shapes = S>> Iterator
     for PathPieces<'t, I, R, S> {
     ghost use Rattle.std.specs.Iterator.{item_count};
     ghost use Rattle.wire_shapes.specs.PieceViews.{GivesPiece};

@@ -4,7 +4,7 @@ ghost use Rattle.std.specs.Prelude.{◌≡◌, pos, ◌+ℤ◌, ◌-ℤ◌, ◌�
 ghost use Rattle.design_model.specs.Geometry.{IsNearRectangle};
 ghost use Rattle.design_model.specs.Views.{rectangle_of};
 ghost use Rattle.wire_rules.specs.Paths.{across, along_x, along_y, segment_between, stretch};
-ghost use Rattle.wire_rules.specs.Ranges.{IsSize};
+ghost use Rattle.design_model.specs.Ranges.{IsSize};
 ghost use Rattle.wire_rules.specs.ViaShapes.{half};
 ghost use Rattle.wire_shapes.specs.ItemViews.{IsCoordinate, IsPlace};
 ghost use Rattle.wire_shapes.specs.PieceViews.{IsPieceNear, piece_view};
@@ -12,7 +12,7 @@ ghost use Rattle.wire_shapes.specs.SpanViews.{IsSpan};
 
 use crate::piece::Piece;
 use crate::span::{Span, box_of};
-use crate::wiring_rules::LayerShape;
+use crate::wiring_makings::LayerShape;
 use design_model::geometry::{Point, Rect};
 
 /// What a wire covers between two ends, and past each.

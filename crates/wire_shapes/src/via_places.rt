@@ -2,7 +2,7 @@
 
 ghost use Rattle.std.specs.Prelude.{◌≡◌, ◌<◌, pos, ◌+ℤ◌, [], ◌∷◌, IsFalse, IsTrue};
 ghost use Rattle.wire_rules.specs.Paths.{array_of};
-ghost use Rattle.wire_rules.specs.Ranges.{IsArray, IsPointWithin};
+ghost use Rattle.design_model.specs.Ranges.{IsArray, IsPointWithin};
 ghost use Rattle.wire_shapes.specs.ItemViews.{IsPlace, via_use_view};
 ghost use Rattle.wire_shapes.specs.PlacesLeft.{GivesPlace, IsInReach, places_left, reach};
 

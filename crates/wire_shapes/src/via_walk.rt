@@ -3,7 +3,7 @@
 ghost use Rattle.std.specs.Prelude.{◌≡◌, ◌++◌};
 ghost use Rattle.design_model.specs.Views.{rectangle_of};
 ghost use Rattle.wire_rules.specs.Paths.{array_of, shape_at};
-ghost use Rattle.wire_rules.specs.Ranges.{IsArray, IsBoxWithin, IsPointWithin};
+ghost use Rattle.design_model.specs.Ranges.{IsArray, IsBoxWithin, IsPointWithin};
 ghost use Rattle.wire_shapes.specs.ItemViews.{IsPlace, via_use_view};
 ghost use Rattle.wire_shapes.specs.PieceViews.{GivesPiece, IsPieceNear, piece_view};
 ghost use Rattle.wire_shapes.specs.PlacesLeft.{reach};
@@ -13,7 +13,7 @@ ghost use Rattle.wire_shapes.specs.ViaLeft.{IsViaInReach, array_shapes, note_if,
 use crate::path_items::ViaUse;
 use crate::piece::Piece;
 use crate::via_places::ViaPlaces;
-use crate::wiring_rules::{LayerShape, LayerShapes};
+use crate::wiring_makings::{LayerShape, LayerShapes};
 use design_model::geometry::Point;
 use orient_geom::pin_rect;
 

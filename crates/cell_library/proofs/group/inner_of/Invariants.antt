@@ -1,6 +1,6 @@
 use Rattle.std.proofs.Common.{◌≡◌, ◌++◌, drop, take}
 use Rattle.lef_grammar.specs.Definitions.{inner_record}
-use Rattle.lef_grammar.specs.Firsts.{front}
+use Rattle.form_meanings.specs.Firsts.{front}
 use Rattle.cell_library.specs.Records.{records_view}
 use Rattle.cell_library.proofs.group.inner_of.Given as goal
 

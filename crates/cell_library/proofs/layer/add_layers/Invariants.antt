@@ -1,6 +1,6 @@
 use Rattle.std.proofs.Common.{◌≡◌, drop}
 use Rattle.lef_grammar.specs.Definitions.{layers_of}
-use Rattle.lef_grammar.specs.Firsts.{with_all}
+use Rattle.form_meanings.specs.Firsts.{with_all}
 use Rattle.cell_library.specs.LayerViews.{layer_name, layers_view}
 use Rattle.cell_library.specs.Records.{records_view}
 use Rattle.cell_library.proofs.layer.add_layers.Given as goal

@@ -1,6 +1,6 @@
 use Rattle.std.proofs.Common.{◌≡◌, drop}
 use Rattle.lef_grammar.specs.Definitions.{macros_of}
-use Rattle.lef_grammar.specs.Firsts.{with_all}
+use Rattle.form_meanings.specs.Firsts.{with_all}
 use Rattle.cell_library.specs.MacroViews.{macro_name, macros_view}
 use Rattle.cell_library.specs.Records.{records_view}
 use Rattle.cell_library.proofs.macro_view.add_macros.Given as goal

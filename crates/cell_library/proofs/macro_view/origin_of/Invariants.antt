@@ -1,7 +1,7 @@
 use Rattle.std.proofs.Common.{◌≡◌, drop}
 use Rattle.std.specs.List.{filter_map}
 use Rattle.lef_grammar.specs.Definitions.{macro_record}
-use Rattle.lef_grammar.specs.Firsts.{first_of}
+use Rattle.form_meanings.specs.Firsts.{first_of}
 use Rattle.lef_grammar.specs.MacroBlock.{origin_of}
 use Rattle.cell_library.specs.Records.{records_view}
 use Rattle.cell_library.proofs.macro_view.origin_of.Given as goal

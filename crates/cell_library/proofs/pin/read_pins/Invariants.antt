@@ -1,6 +1,6 @@
 use Rattle.std.proofs.Common.{◌≡◌, drop, map}
 use Rattle.lef_grammar.specs.Definitions.{opened_pin, pin_record, pin_with, pins_of}
-use Rattle.lef_grammar.specs.Firsts.{headed, with_all}
+use Rattle.form_meanings.specs.Firsts.{headed, with_all}
 use Rattle.cell_library.specs.PinViews.{pin_name, pins_view}
 use Rattle.cell_library.specs.Records.{records_view}
 use Rattle.cell_library.proofs.pin.read_pins.Given as goal

@@ -1,6 +1,6 @@
 use Rattle.std.proofs.Common.{◌≡◌, drop}
 use Rattle.lef_grammar.specs.Definitions.{rules_of}
-use Rattle.lef_grammar.specs.Firsts.{with_all}
+use Rattle.form_meanings.specs.Firsts.{with_all}
 use Rattle.cell_library.specs.RuleViews.{rule_name, rules_view}
 use Rattle.cell_library.specs.Records.{records_view}
 use Rattle.cell_library.proofs.rule.add_rules.Given as goal

@@ -1,6 +1,6 @@
 use Rattle.std.proofs.Common.{◌≡◌, drop, map}
 use Rattle.lef_grammar.specs.Definitions.{opened_rule_layer, rule_layer_record, rule_layer_with}
-use Rattle.lef_grammar.specs.Firsts.{headed, with_all}
+use Rattle.form_meanings.specs.Firsts.{headed, with_all}
 use Rattle.cell_library.specs.RuleViews.{rule_layer_name, rule_layers_of, rule_layers_view}
 use Rattle.cell_library.specs.Records.{records_view}
 use Rattle.cell_library.proofs.rule.read_rule_layers.Given as goal

@@ -1,6 +1,6 @@
 use Rattle.std.proofs.Common.{◌≡◌, drop}
 use Rattle.lef_grammar.specs.Definitions.{vias_of}
-use Rattle.lef_grammar.specs.Firsts.{with_all}
+use Rattle.form_meanings.specs.Firsts.{with_all}
 use Rattle.cell_library.specs.ViaViews.{via_name, vias_view}
 use Rattle.cell_library.specs.Records.{records_view}
 use Rattle.cell_library.proofs.via.add_vias.Given as goal

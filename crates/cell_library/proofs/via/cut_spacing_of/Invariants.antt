@@ -1,6 +1,6 @@
 use Rattle.std.proofs.Common.{◌≡◌, drop}
 use Rattle.lef_grammar.specs.Definitions.{via_record}
-use Rattle.lef_grammar.specs.Firsts.{first_of, front}
+use Rattle.form_meanings.specs.Firsts.{first_of, front}
 use Rattle.lef_grammar.specs.ViaBlock.{cut_spacing_of}
 use Rattle.cell_library.specs.Records.{records_view}
 use Rattle.cell_library.proofs.via.cut_spacing_of.Given as goal

@@ -3,7 +3,7 @@ use Rattle.design_model.specs.declared.mode.Mode.TheVariants.{Top}
 use Rattle.lefdef_tokens.specs.Views.{pieces_of}
 use Rattle.statement_reader.specs.Located.{located_at}
 use Rattle.def_grammar.specs.Records.{def}
-use Rattle.design_rules.specs.Edits.{component_at}
+use Rattle.def_grammar.specs.Located.{component_at}
 use Rattle.place_parts.specs.ComponentViews.{component_view}
 use Rattle.def_reader.specs.StatementViews.{record_view}
 use Rattle.def_reader.proofs.RecordSteps.{located_is, located_spelled, named_here}

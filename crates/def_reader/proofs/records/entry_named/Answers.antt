@@ -2,7 +2,7 @@ use Rattle.std.proofs.Common.{◌∙◌, sym, ap, refl}
 use Rattle.lefdef_tokens.specs.Views.{pieces_of}
 use Rattle.statement_reader.specs.Located.{located_at}
 use Rattle.def_grammar.specs.Records.{def}
-use Rattle.design_rules.specs.Entries.{entry_at}
+use Rattle.def_grammar.specs.Located.{entry_at}
 use Rattle.def_reader.specs.StatementViews.{record_view}
 use Rattle.def_reader.proofs.RecordSteps.{located_is, entry_here, entry_later}
 use Rattle.def_reader.proofs.records.entry_named.Goals as goal

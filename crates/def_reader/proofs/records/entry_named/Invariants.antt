@@ -2,7 +2,7 @@ use Rattle.std.proofs.Common.{◌≡◌, ◌-◌, length}
 use Rattle.design_model.specs.declared.mode.Mode.TheVariants.{Top}
 use Rattle.statement_reader.specs.Located.{located_at}
 use Rattle.def_grammar.specs.Records.{def}
-use Rattle.design_rules.specs.Entries.{entry_at}
+use Rattle.def_grammar.specs.Located.{entry_at}
 use Rattle.def_reader.proofs.records.entry_named.Given as goal
 
 abbrev pub invariant-loop-read : goal.invariant-loop-read

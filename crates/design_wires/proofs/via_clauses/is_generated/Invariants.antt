@@ -1,5 +1,5 @@
 use Rattle.std.proofs.Common.{◌≡◌}
-use Rattle.lef_grammar.specs.Firsts.{first_of}
+use Rattle.form_meanings.specs.Firsts.{first_of}
 use Rattle.via_parts.specs.ViaViews.{via_clauses_of}
 use Rattle.entry_rules.specs.ViaLayers.{rule_of_via}
 use Rattle.design_wires.proofs.via_clauses.is_generated.Given as goal

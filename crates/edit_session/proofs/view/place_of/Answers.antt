@@ -1,5 +1,5 @@
 use Rattle.std.proofs.Common.{◌≡◌, ℕ, List, ◌∙◌, sym, ap, Some}
-use Rattle.statement_model.specs.Tokens.{Piece}
+use Rattle.statement_model.specs.Tokens.{Token}
 use Rattle.lefdef_tokens.specs.Views.{pieces_of}
 use Rattle.lefdef_tokens.specs.declared.span.Span.{Span}
 use Rattle.def_reader.specs.StatementViews.{record_view}

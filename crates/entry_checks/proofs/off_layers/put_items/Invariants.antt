@@ -1,9 +1,8 @@
 use Rattle.std.proofs.Common.{◌≡◌, ◌++◌, map}
 use Rattle.std.specs.List.{filter_map}
-use Rattle.def_grammar.specs.Wiring.{WireVia, wire_via}
+use Rattle.def_grammar.specs.Wiring.{WireVia, wire_via, via_of_item}
 use Rattle.wire_parts.specs.PathViews.{items_of}
 use Rattle.entry_rules.specs.OffLayer.{off_layer_vias}
-use Rattle.entry_rules.specs.References.{via_of_item}
 use Rattle.entry_rules.specs.ViaLayers.{via_layers}
 use Rattle.entry_checks.specs.OffLayerViews.{off_layer_text}
 use Rattle.entry_checks.proofs.off_layers.put_items.Given as goal

@@ -1,6 +1,6 @@
 use Rattle.std.specs.List.{filter_map}
 use Rattle.via_parts.specs.ViaViews.{via_clauses_of}
-use Rattle.entry_rules.specs.References.{layer_of_shape}
+use Rattle.def_grammar.specs.DefVias.{layer_of_shape}
 use Rattle.entry_checks.specs.JoinedLayers.{Joins}
 use Rattle.entry_checks.proofs.via_layers.by_shapes.Given as goal
 

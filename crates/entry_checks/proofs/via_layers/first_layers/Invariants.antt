@@ -1,7 +1,7 @@
 use Rattle.std.proofs.Common.{◌≡◌}
-use Rattle.lef_grammar.specs.Firsts.{first_of}
+use Rattle.form_meanings.specs.Firsts.{first_of}
 use Rattle.via_parts.specs.ViaViews.{via_clauses_of}
-use Rattle.entry_rules.specs.References.{layers_of_clause}
+use Rattle.def_grammar.specs.DefVias.{layers_of_clause}
 use Rattle.entry_checks.proofs.via_layers.first_layers.Given as goal
 
 abbrev pub invariant-loop-clause : goal.invariant-loop-clause

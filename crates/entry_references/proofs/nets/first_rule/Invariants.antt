@@ -1,7 +1,7 @@
 use Rattle.std.proofs.Common.{◌≡◌}
-use Rattle.lef_grammar.specs.Firsts.{first_of}
+use Rattle.form_meanings.specs.Firsts.{first_of}
 use Rattle.wire_parts.specs.NetViews.{net_clauses_of}
-use Rattle.entry_rules.specs.References.{rule_of_clause}
+use Rattle.def_grammar.specs.Nets.{rule_of_clause}
 use Rattle.entry_references.proofs.nets.first_rule.Given as goal
 
 abbrev pub invariant-loop-clause : goal.invariant-loop-clause

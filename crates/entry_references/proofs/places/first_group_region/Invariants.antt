@@ -1,5 +1,5 @@
 use Rattle.std.proofs.Common.{◌≡◌}
-use Rattle.lef_grammar.specs.Firsts.{first_of}
+use Rattle.form_meanings.specs.Firsts.{first_of}
 use Rattle.def_grammar.specs.Groups.{region_named}
 use Rattle.place_parts.specs.GroupViews.{group_clauses_of}
 use Rattle.entry_references.proofs.places.first_group_region.Given as goal

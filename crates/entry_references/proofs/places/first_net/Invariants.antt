@@ -1,6 +1,6 @@
 use Rattle.std.proofs.Common.{◌≡◌}
-use Rattle.lef_grammar.specs.Firsts.{first_of}
-use Rattle.entry_rules.specs.References.{net_of_clause}
+use Rattle.form_meanings.specs.Firsts.{first_of}
+use Rattle.def_grammar.specs.Pins.{net_of_clause}
 use Rattle.place_parts.specs.PinViews.{pin_clauses_of}
 use Rattle.entry_references.proofs.places.first_net.Given as goal
 

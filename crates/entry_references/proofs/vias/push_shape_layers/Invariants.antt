@@ -1,7 +1,8 @@
 use Rattle.std.proofs.Common.{◌≡◌, ◌++◌, map}
 use Rattle.std.specs.List.{filter_map}
 use Rattle.via_parts.specs.ViaViews.{via_clauses_of}
-use Rattle.entry_rules.specs.References.{layer_of_shape, to_layer}
+use Rattle.entry_rules.specs.References.{to_layer}
+use Rattle.def_grammar.specs.DefVias.{layer_of_shape}
 use Rattle.entry_references.specs.ReferenceViews.{references_view}
 use Rattle.entry_references.proofs.vias.push_shape_layers.Given as goal
 

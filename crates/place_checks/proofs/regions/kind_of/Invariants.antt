@@ -1,5 +1,5 @@
 use Rattle.std.proofs.Common.{◌≡◌}
-use Rattle.lef_grammar.specs.Firsts.{first_of}
+use Rattle.form_meanings.specs.Firsts.{first_of}
 use Rattle.place_parts.specs.RegionViews.{region_clauses_of}
 use Rattle.design_rules.specs.Surroundings.{type_of}
 use Rattle.place_checks.proofs.regions.kind_of.Given as goal

@@ -1,5 +1,5 @@
 use Rattle.std.proofs.Common.{◌≡◌, ◌-◌, drop}
-use Rattle.lefdef_tokens.specs.Pieces.{pieces_of, words_of}
+use Rattle.lefdef_tokens.specs.TokenViews.{pieces_of, words_of}
 use Rattle.lefdef_tokens.proofs.token_run.TokenRun.skip.Given as goal
 
 abbrev pub invariant-loop : goal.invariant-loop

@@ -1,5 +1,5 @@
 use Rattle.std.proofs.Common.{◌≡◌, ◌≤◌}
-use Rattle.lefdef_tokens.specs.Pieces.{end_after, pieces_of, span_of}
+use Rattle.lefdef_tokens.specs.TokenViews.{end_after, pieces_of, span_of}
 use Rattle.lefdef_tokens.proofs.token_run.TokenRun.span.Given as goal
 
 abbrev pub invariant-loop-later : goal.invariant-loop-later

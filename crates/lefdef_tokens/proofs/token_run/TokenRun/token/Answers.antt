@@ -1,5 +1,5 @@
 use Rattle.std.proofs.Common.{sym, ◌∙◌}
-use Rattle.lefdef_tokens.specs.Pieces.{piece_of, pieces_of}
+use Rattle.lefdef_tokens.specs.TokenViews.{token_of, pieces_of}
 use Rattle.lefdef_tokens.proofs.RunLemmas.{item_none, item_some}
 use Rattle.lefdef_tokens.proofs.token_run.TokenRun.token.Goals as goal
 
@@ -9,4 +9,4 @@ returns-in_err-token-clause-gives c =
 
 pub returns-clause-gives : goal.returns-clause-gives
 returns-clause-gives c =
-    item_some (pieces_of c.args.self) c.args.n (piece_of c.in_ok-token.token) (pieces_of c.in_ok-token.field-0-1) (sym c.skip.ensures.gives ∙ c.in_ok-token.ensures.pieces)
+    item_some (pieces_of c.args.self) c.args.n (token_of c.in_ok-token.token) (pieces_of c.in_ok-token.field-0-1) (sym c.skip.ensures.gives ∙ c.in_ok-token.ensures.pieces)

@@ -1,6 +1,0 @@
-use Rattle.lef_grammar.specs.LefRecords.{lef}
-use Rattle.statement_laws.proofs.Whole.{forms_are_spelled}
-use Rattle.lef_laws.proofs.lef_forms_are_spelled.Goals as goal
-
-pub returns : goal.returns
-returns c = forms_are_spelled lef
