@@ -7,7 +7,7 @@ use lefdef_tokens::{Cursor, TokenRun};
 use std::test::Fail;
 use wire_parts::nets::{NetEntry, NetParts, net_entry_at};
 use wire_parts::special_nets::special_net_at;
-use wire_reading::{NetRulesOf, SpecialRulesOf, net_pieces, special_net_pieces};
+use wire_reading::{NetMakingsOf, SpecialMakingsOf, net_pieces, special_net_pieces};
 use wire_shapes::{LayerShape, LayerShapes, Piece, ViaOn, WiringMakings};
 
 /// One shape.
@@ -76,10 +76,10 @@ struct ByRule<'t, A> {
     rules: &'t [A],
 }
 
-impl<'t, A> NetRulesOf<'t> for ByRule<'t, A> {
+impl<'t, A> NetMakingsOf<'t> for ByRule<'t, A> {
     type Rules = OneWidth<'t, A>;
 
-    ghost rules_of = { ? };
+    ghost makings_of = { ? };
 
     fn rules(&self, rule: Option<&'t [u8]>) -> OneWidth<'t, A> {
         match rule {
@@ -99,10 +99,10 @@ impl<'t, A> NetRulesOf<'t> for ByRule<'t, A> {
 #[derive(Drop)]
 struct AsWritten {}
 
-impl<'t> SpecialRulesOf<'t> for AsWritten {
+impl<'t> SpecialMakingsOf<'t> for AsWritten {
     type Rules = OneWidth<'t, u8>;
 
-    ghost rules_of = { ? };
+    ghost makings_of = { ? };
 
     fn rules(&self, width: i64) -> OneWidth<'t, u8> {
         OneWidth { width, rules: b"" }
