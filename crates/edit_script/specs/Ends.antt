@@ -64,7 +64,7 @@ StopsUnread input Write = ⊥
 -- the DEF text reads, and so does the script
 pub record HasRead (def : List ℕ) (input : Known) (script : List ℕ) : Type 0 where
   pub def_reads : IsOk (read_def def)
-  pub script : IsScript input script
+  pub is_script : IsScript input script
 
 -- a run over a library to its end: the writers got an output of the script over the text, and nothing else
 abbrev pub RunsOver : Library → List ℕ → Known → Known → Known → Known → Known → Counts → Type 0

@@ -1,5 +1,5 @@
 -- Entries lent with their places.
-use Rattle.std.proofs.Common.{◌≡◌, ◌≤◌, ℕ, List, [], ◌∷◌, length, slice_range, refl, sym, ap, ◌∙◌, subst, Option, Some, None, Result, Ok, Err}
+use Rattle.std.proofs.Common.{◌≡◌, ◌≤◌, ℕ, List, [], ◌∷◌, length, slice_range, refl, ap, ◌∙◌, Some, Result, Ok, Err}
 use Rattle.std.specs.Prelude.{IsOk}
 use Rattle.design_model.specs.declared.fault.Fault.{Fault}
 use Rattle.design_model.specs.declared.mode.Mode.{Mode}

@@ -51,7 +51,23 @@ fn put_statement<'t, A: Allocator + Copy>(
     Ok(())
 }
 
-/// Puts the lines on each statement by itself behind others, in one walk over the statements.
+/// Puts the lines on each of these statements by itself behind others, in one walk over them.
+fn put_each<'t, A: Allocator + Copy>(
+    alloc: A,
+    defined: &Defined<'_, '_, '_, 't, A>,
+    records: &[Statement<'t>],
+    lines: &mut Lines<A>,
+) -> Result<(), AllocError>
+    ensures { OnOk result (lines.new ≡ lines.old ++ flat_map (statement_lines defined.now.library.now defined.now.names.now) (map record_view records.now)) }
+{
+    let mut references = Vec::new(alloc);
+    for statement in records {
+        put_statement(defined, statement, &mut references, lines)?;
+    }
+    Ok(())
+}
+
+/// Puts the lines on each statement of a design by itself behind others.
 fn put_statements<'t, A: Allocator + Copy>(
     alloc: A,
     library: &Library<'_, A>,
@@ -65,10 +81,7 @@ fn put_statements<'t, A: Allocator + Copy>(
         library,
         names: &names,
     };
-    let mut references = Vec::new(alloc);
-    for statement in records {
-        put_statement(&defined, statement, &mut references, lines)?;
-    }
+    put_each(alloc, &defined, records, lines)?;
     Ok(())
 }
 

@@ -80,7 +80,7 @@ impl<'s, 'l, A: Allocator + Copy> Session<'s, 'l, A> {
 
     /// The present text.
     pub fn into_text(self) -> Vec<u8, A>
-        ensures { result.items ≡ self.text }
+        ensures { result.items ≡ self.entry.text }
     {
         self.text
     }

@@ -1,5 +1,4 @@
-use Rattle.std.proofs.Common.{◌≡◌, ℕ, List, ◌∙◌, sym, ap, Some}
-use Rattle.statement_model.specs.Tokens.{Token}
+use Rattle.std.proofs.Common.{◌∙◌, sym, ap}
 use Rattle.lefdef_tokens.specs.Views.{pieces_of}
 use Rattle.lefdef_tokens.specs.declared.span.Span.{Span}
 use Rattle.def_reader.specs.StatementViews.{record_view}

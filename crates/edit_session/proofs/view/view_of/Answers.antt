@@ -1,4 +1,4 @@
-use Rattle.std.proofs.Common.{◌≡◌, ◌∙◌, sym, ap, Some}
+use Rattle.std.proofs.Common.{◌∙◌, sym, ap, Some}
 use Rattle.def_grammar.specs.Records.{Record}
 use Rattle.def_reader.specs.EntryViews.{entry_view}
 use Rattle.edit_session.proofs.ViewLemmas.{alone, its_bytes, says}
