@@ -1,5 +1,5 @@
 -- Worked rows of wires and vias, by computing.
-use Rattle.std.proofs.Common.{◌≡◌, ℕ, List, [], ◌∷◌, Option, Some, None, ℤ, pos, refl, codes, if◌then◌else◌}
+use Rattle.std.proofs.Common.{◌≡◌, ℕ, true, false, List, [], ◌∷◌, Option, Some, None, ℤ, pos, refl, codes, if◌then◌else◌}
 use Rattle.std.specs.Prelude.{neg_ℤ}
 use Rattle.std.specs.Str.{bytes_eq}
 use Rattle.design_model.specs.declared.geometry.Orient.TheVariants.{N, W}
@@ -82,9 +82,9 @@ generated = refl
 -- a via leads to the other layer, and the wire goes on there
 wire_over_a_via : pieces_from net_rules (from (codes "met1") (pos 0) (pos 0)) (to_point (point (pos 1000) (pos 0)) None ∷ m1m2 1 (point (pos 0) (pos 0)) ∷ to_point (point (pos 1000) (pos 500)) None ∷ [])
     ≡ segment (on (codes "met1") (neg_ℤ (pos 70)) (neg_ℤ (pos 70)) (pos 1070) (pos 70)) 1000
-    ∷ via_shape (codes "M1M2") (point (pos 1000) (pos 0)) (on (codes "met1") (pos 900) (neg_ℤ (pos 100)) (pos 1100) (pos 100))
-    ∷ via_shape (codes "M1M2") (point (pos 1000) (pos 0)) (on (codes "via1") (pos 950) (neg_ℤ (pos 50)) (pos 1050) (pos 50))
-    ∷ via_shape (codes "M1M2") (point (pos 1000) (pos 0)) (on (codes "met2") (pos 900) (neg_ℤ (pos 100)) (pos 1100) (pos 100))
+    ∷ via_shape (codes "M1M2") (point (pos 1000) (pos 0)) true (on (codes "met1") (pos 900) (neg_ℤ (pos 100)) (pos 1100) (pos 100))
+    ∷ via_shape (codes "M1M2") (point (pos 1000) (pos 0)) false (on (codes "via1") (pos 950) (neg_ℤ (pos 50)) (pos 1050) (pos 50))
+    ∷ via_shape (codes "M1M2") (point (pos 1000) (pos 0)) false (on (codes "met2") (pos 900) (neg_ℤ (pos 100)) (pos 1100) (pos 100))
     ∷ segment (on (codes "met2") (pos 930) (neg_ℤ (pos 70)) (pos 1070) (pos 570)) 500
     ∷ []
 unfolding pieces_from line_of
@@ -92,12 +92,12 @@ wire_over_a_via = refl
 
 -- an array of vias, one that isn't known, and one off its layers
 vias_of_a_special_net : pieces_from (special_makings (pos 0)) (from (codes "via1") (pos 0) (pos 0)) (m1m2 2 (point (pos 300) (pos 0)) ∷ use_via (record { name = codes "none"; orient = W; columns = 1; rows = 1; step = point (pos 0) (pos 0) }) ∷ [])
-    ≡ via_shape (codes "M1M2") (point (pos 0) (pos 0)) (on (codes "met1") (neg_ℤ (pos 100)) (neg_ℤ (pos 100)) (pos 100) (pos 100))
-    ∷ via_shape (codes "M1M2") (point (pos 0) (pos 0)) (on (codes "via1") (neg_ℤ (pos 50)) (neg_ℤ (pos 50)) (pos 50) (pos 50))
-    ∷ via_shape (codes "M1M2") (point (pos 0) (pos 0)) (on (codes "met2") (neg_ℤ (pos 100)) (neg_ℤ (pos 100)) (pos 100) (pos 100))
-    ∷ via_shape (codes "M1M2") (point (pos 300) (pos 0)) (on (codes "met1") (pos 200) (neg_ℤ (pos 100)) (pos 400) (pos 100))
-    ∷ via_shape (codes "M1M2") (point (pos 300) (pos 0)) (on (codes "via1") (pos 250) (neg_ℤ (pos 50)) (pos 350) (pos 50))
-    ∷ via_shape (codes "M1M2") (point (pos 300) (pos 0)) (on (codes "met2") (pos 200) (neg_ℤ (pos 100)) (pos 400) (pos 100))
+    ≡ via_shape (codes "M1M2") (point (pos 0) (pos 0)) true (on (codes "met1") (neg_ℤ (pos 100)) (neg_ℤ (pos 100)) (pos 100) (pos 100))
+    ∷ via_shape (codes "M1M2") (point (pos 0) (pos 0)) false (on (codes "via1") (neg_ℤ (pos 50)) (neg_ℤ (pos 50)) (pos 50) (pos 50))
+    ∷ via_shape (codes "M1M2") (point (pos 0) (pos 0)) false (on (codes "met2") (neg_ℤ (pos 100)) (neg_ℤ (pos 100)) (pos 100) (pos 100))
+    ∷ via_shape (codes "M1M2") (point (pos 300) (pos 0)) true (on (codes "met1") (pos 200) (neg_ℤ (pos 100)) (pos 400) (pos 100))
+    ∷ via_shape (codes "M1M2") (point (pos 300) (pos 0)) false (on (codes "via1") (pos 250) (neg_ℤ (pos 50)) (pos 350) (pos 50))
+    ∷ via_shape (codes "M1M2") (point (pos 300) (pos 0)) false (on (codes "met2") (pos 200) (neg_ℤ (pos 100)) (pos 400) (pos 100))
     ∷ via_off_layer (codes "M1M2")
     ∷ unknown_via (codes "none")
     ∷ []
@@ -112,10 +112,10 @@ abbrev lying_rules : WireMakings
 lying_rules = record { width = λ l. pos 140; past_end = half; via_layers = layers_of; via_shapes = lying }
 
 rows_of_vias : pieces_from lying_rules (from (codes "met2") (pos 0) (pos 0)) (use_via (record { name = codes "M1M2"; orient = W; columns = 2; rows = 2; step = point (pos 300) (pos 500) }) ∷ [])
-    ≡ via_shape (codes "M1M2") (point (pos 0) (pos 0)) (on (codes "via1") (neg_ℤ (pos 10)) (pos 0) (pos 0) (pos 30))
-    ∷ via_shape (codes "M1M2") (point (pos 300) (pos 0)) (on (codes "via1") (pos 290) (pos 0) (pos 300) (pos 30))
-    ∷ via_shape (codes "M1M2") (point (pos 0) (pos 500)) (on (codes "via1") (neg_ℤ (pos 10)) (pos 500) (pos 0) (pos 530))
-    ∷ via_shape (codes "M1M2") (point (pos 300) (pos 500)) (on (codes "via1") (pos 290) (pos 500) (pos 300) (pos 530))
+    ≡ via_shape (codes "M1M2") (point (pos 0) (pos 0)) true (on (codes "via1") (neg_ℤ (pos 10)) (pos 0) (pos 0) (pos 30))
+    ∷ via_shape (codes "M1M2") (point (pos 300) (pos 0)) true (on (codes "via1") (pos 290) (pos 0) (pos 300) (pos 30))
+    ∷ via_shape (codes "M1M2") (point (pos 0) (pos 500)) true (on (codes "via1") (neg_ℤ (pos 10)) (pos 500) (pos 0) (pos 530))
+    ∷ via_shape (codes "M1M2") (point (pos 300) (pos 500)) true (on (codes "via1") (pos 290) (pos 500) (pos 300) (pos 530))
     ∷ []
 unfolding pieces_from line_of
 rows_of_vias = refl

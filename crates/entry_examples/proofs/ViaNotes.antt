@@ -5,7 +5,7 @@ use Rattle.design_model.specs.declared.geometry.Point.{Point}
 use Rattle.def_grammar.specs.Points.{place_of}
 use Rattle.def_grammar.specs.Wiring as wiring
 use Rattle.def_grammar.specs.Wiring.{WireVia, SpecialVia, ViaArray, Wire, SpecialWire, path_mask, path_virtual, path_rectangle, path_point, path_via, via_of_item}
-use Rattle.wire_rules.specs.Paths.{ViaUse, PathItem, to_point, jump_to, patch, use_via, WireMakings, PathPlace, Piece, segment, diagonal, rectangle, via_shape, unknown_via, via_off_layer, one_via, array_of, off_layer, known_via, other_layer, pieces_at, pieces_from, place_after, segment_to, same_z}
+use Rattle.wire_rules.specs.Paths.{ViaUse, PathItem, to_point, jump_to, patch, use_via, WireMakings, PathPlace, Piece, segment, diagonal, rectangle, via_shape, unknown_via, via_off_layer, one_via, shapes_there, array_of, off_layer, known_via, other_layer, pieces_at, pieces_from, place_after, segment_to, same_z}
 use Rattle.wire_rules.specs.Sizes.{is_array}
 use Rattle.wire_rules.specs.ViaShapes.{NamedShape}
 use Rattle.entry_rules.specs.WireItems.{count_of, net_via, special_via, via_in_array, items_after, point_after_item, items_of, start_of}
@@ -26,7 +26,7 @@ joined_notes [] ys = refl
 joined_notes (segment s n ∷ xs) ys = joined_notes xs ys
 joined_notes (diagonal ∷ xs) ys = joined_notes xs ys
 joined_notes (rectangle s ∷ xs) ys = joined_notes xs ys
-joined_notes (via_shape name at s ∷ xs) ys = joined_notes xs ys
+joined_notes (via_shape name at is_first s ∷ xs) ys = joined_notes xs ys
 joined_notes (unknown_via name ∷ xs) ys = joined_notes xs ys
 joined_notes (via_off_layer name ∷ xs) ys = ap (λ (z : List (List ℕ)). name ∷ z) (joined_notes xs ys)
 
@@ -42,13 +42,13 @@ module _ (rules : WireMakings) where
   none_of_a_segment : (p : PathPlace) (b : Point) (past : Option ℤ) → noted (segment_to rules p b past) ≡ None
   none_of_a_segment p b past = no_note_of_a_segment (same_z p.at.y b.y) (same_z p.at.x b.x) _ _ _ _
 
-  none_of_shapes : (u : ViaUse) (at : Point) (shapes : List NamedShape) → filter_map noted (one_via shapes u at) ≡ []
-  none_of_shapes u at [] = refl
-  none_of_shapes u at (s ∷ shapes) = none_of_shapes u at shapes
+  none_of_shapes : (u : ViaUse) (at : Point) (is_first : Bool) (shapes : List NamedShape) → filter_map noted (shapes_there u at is_first shapes) ≡ []
+  none_of_shapes u at is_first [] = refl
+  none_of_shapes u at is_first (s ∷ shapes) = none_of_shapes u at false shapes
 
   none_of_vias : (shapes : List NamedShape) (u : ViaUse) (places : List Point) → filter_map noted (flat_map (one_via shapes u) places) ≡ []
   none_of_vias shapes u [] = refl
-  none_of_vias shapes u (at ∷ places) = joined_notes (one_via shapes u at) (flat_map (one_via shapes u) places) ∙ rw (none_of_shapes u at shapes, none_of_vias shapes u places) refl
+  none_of_vias shapes u (at ∷ places) = joined_notes (one_via shapes u at) (flat_map (one_via shapes u) places) ∙ rw (none_of_shapes u at true shapes, none_of_vias shapes u places) refl
 
   note_off_layer : (name : List ℕ) (other : Option (List ℕ)) → filter_map noted (off_layer name other) ≡ named_if name other
   note_off_layer name None = refl

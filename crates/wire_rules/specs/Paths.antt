@@ -1,6 +1,6 @@
 -- The pieces of a wire's path, over plain values in database units (LEF/DEF 5.8 Language Reference, "Regular Wiring" and
 -- "Special Wiring").
-use Rattle.std.specs.Prelude.{◌≡◌, ℕ, zero, suc, Bool, ◌&&◌, List, [], ◌∷◌, ◌++◌, map, flat_map, Option, Some, None, ℤ, pos, nat_abs, ◌+ℤ◌, ◌-ℤ◌, if◌then◌else◌}
+use Rattle.std.specs.Prelude.{◌≡◌, ℕ, zero, suc, Bool, true, false, ◌&&◌, List, [], ◌∷◌, ◌++◌, flat_map, Option, Some, None, ℤ, pos, nat_abs, ◌+ℤ◌, ◌-ℤ◌, if◌then◌else◌}
 use Rattle.std.specs.Int.Signed.{le_z}
 use Rattle.std.specs.Str.{bytes_eq}
 use Rattle.design_model.specs.declared.geometry.Orient.{Orient}
@@ -40,13 +40,13 @@ pub record PathPlace : Type 0 where
   pub past : Option ℤ
 
 -- what a path gives: a segment with its shape and its length along the centre; a diagonal one, which has no shape and no
--- length; a rectangle; one shape of a via, with the via's name and place; a via that isn't known; and a via that doesn't join
--- the path's layer to another
+-- length; a rectangle; one shape of a via, with the via's name and place, and whether it is the first of the via there; a via
+-- that isn't known; and a via that doesn't join the path's layer to another
 pub data Piece : Type 0 where
   segment : NamedShape → ℕ → Piece
   diagonal : Piece
   rectangle : NamedShape → Piece
-  via_shape : List ℕ → Point → NamedShape → Piece
+  via_shape : List ℕ → Point → Bool → NamedShape → Piece
   unknown_via : List ℕ → Piece
   via_off_layer : List ℕ → Piece
 
@@ -109,12 +109,17 @@ array_of u at = flat_map (line_of u.columns (record { x = u.step.x; y = pos 0 })
 abbrev pub turned_shape : Orient → Point → NamedShape → NamedShape
 turned_shape o at s = record { layer = s.layer; box = turned_at o at s.box }
 
-abbrev pub shape_at : ViaUse → Point → NamedShape → Piece
-shape_at u at s = via_shape u.name at (turned_shape u.orient at s)
+abbrev pub shape_at : ViaUse → Point → Bool → NamedShape → Piece
+shape_at u at is_first s = via_shape u.name at is_first (turned_shape u.orient at s)
+
+-- some shapes of a via at one place, of which the first may be the first of all
+abbrev pub shapes_there : ViaUse → Point → Bool → List NamedShape → List Piece
+shapes_there u at is_first [] = []
+shapes_there u at is_first (s ∷ shapes) = shape_at u at is_first s ∷ shapes_there u at false shapes
 
 -- the shapes of a via at one place
 abbrev pub one_via : List NamedShape → ViaUse → Point → List Piece
-one_via shapes u at = map (shape_at u at) shapes
+one_via shapes u at = shapes_there u at true shapes
 
 abbrev pub off_layer : List ℕ → Option (List ℕ) → List Piece
 off_layer name None = via_off_layer name ∷ []

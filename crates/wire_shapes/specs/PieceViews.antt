@@ -11,7 +11,7 @@ abbrev pub piece_view : code.Piece → Piece
 piece_view (pieces.Segment shape length) = segment (shape_view shape) length
 piece_view pieces.Diagonal = diagonal
 piece_view (pieces.Rectangle shape) = rectangle (shape_view shape)
-piece_view (pieces.ViaShape via at shape) = via_shape via.now at (shape_view shape)
+piece_view (pieces.ViaShape via at is_first shape) = via_shape via.now at is_first (shape_view shape)
 piece_view (pieces.UnknownVia via) = unknown_via via.now
 piece_view (pieces.ViaOffLayer via) = via_off_layer via.now
 
@@ -19,7 +19,7 @@ piece_view (pieces.ViaOffLayer via) = via_off_layer via.now
 abbrev pub IsPieceNear : code.Piece → Type 0
 IsPieceNear (pieces.Segment shape length) = IsNearRectangle (rectangle_of shape.rect)
 IsPieceNear (pieces.Rectangle shape) = IsNearRectangle (rectangle_of shape.rect)
-IsPieceNear (pieces.ViaShape via at shape) = IsNearRectangle (rectangle_of shape.rect)
+IsPieceNear (pieces.ViaShape via at is_first shape) = IsNearRectangle (rectangle_of shape.rect)
 IsPieceNear pieces.Diagonal = Unit {0}
 IsPieceNear (pieces.UnknownVia via) = Unit {0}
 IsPieceNear (pieces.ViaOffLayer via) = Unit {0}

@@ -20,6 +20,8 @@ pub enum Piece<'t> {
     ViaShape {
         via: &'t [u8],
         at: Point,
+        /// Whether it is the first shape of the via there.
+        is_first: bool,
         shape: LayerShape<'t>,
     },
     /// A via of this name that isn't known.

@@ -23,6 +23,7 @@ pub(crate) struct ViaWalk<'t, S> {
     via: ViaUse<'t>,
     all: S,
     left: S,
+    is_first: bool,
     at: Point,
     places: ViaPlaces,
     off_layer: bool,
@@ -42,24 +43,26 @@ impl<'t, S: LayerShapes<'t>> ViaWalk<'t, S> {
             via,
             all: shapes,
             left: shapes,
+            is_first: true,
             at,
             places,
             off_layer,
         }
     }
 
-    /// A shape of the via at its present place.
+    /// A shape of the via at its present place, which may be the first there.
     #[inline(always)]
-    fn piece_of(&self, shape: LayerShape<'t>) -> Piece<'t>
+    fn piece_of(&self, shape: LayerShape<'t>, is_first: bool) -> Piece<'t>
         requires at { IsPointWithin (reach 0) self.now.at }
         requires near { IsBoxWithin shape_reach (rectangle_of shape.rect) }
-        ensures is { piece_view result ≡ shape_at (via_use_view self.now.via) self.now.at (shape_view shape.entry) }
+        ensures is { piece_view result ≡ shape_at (via_use_view self.now.via) self.now.at is_first (shape_view shape.entry) }
         ensures near { IsPieceNear result }
     {
         let rect = pin_rect(self.via.orient, self.at, shape.rect);
         Piece::ViaShape {
             via: self.via.name,
             at: self.at,
+            is_first,
             shape: LayerShape {
                 layer: shape.layer,
                 rect,
@@ -75,13 +78,16 @@ impl<'t, S: LayerShapes<'t>> ViaWalk<'t, S> {
         ensures reach { IsViaInReach self.new }
         ensures note { note_left self.new ≡ note_left self.old }
     {
+        let is_first = self.is_first;
         if let Some(shape) = self.left.next() {
-            return Some(self.piece_of(shape));
+            self.is_first = false;
+            return Some(self.piece_of(shape, is_first));
         }
         self.at = self.places.next()?;
         self.left = self.all;
         let shape = self.left.next()?;
-        Some(self.piece_of(shape))
+        self.is_first = false;
+        Some(self.piece_of(shape, true))
     }
 
     /// The first piece that is left; at the end `None`.

@@ -9,6 +9,6 @@ returns-in_err-shape-clause-gives g c =
     let shapes = g.S.LayerShapes.shapes in
     let u = via_use_view w.via in
     rw (c.from_residual-in_err-shape.ensures) (
-      none_there u (shapes w.all) (shapes w.left) w.at (places_left w.places) c.in_default.ensures.0 c.in_err-shape.ensures.0,
-      none_there u (shapes w.all) (shapes c.next-3.new.self) c.in_ok-self.field-0 (places_left c.next-2.new.self) c.in_err-shape.ensures.1 c.in_err-shape.ensures.0,
+      none_there u (shapes w.all) (shapes w.left) w.at w.is_first (places_left w.places) c.in_default.ensures.0 c.in_err-shape.ensures.0,
+      none_there u (shapes w.all) (shapes c.next-3.new.self) c.in_ok-self.field-0 w.is_first (places_left c.next-2.new.self) c.in_err-shape.ensures.1 c.in_err-shape.ensures.0,
     )
