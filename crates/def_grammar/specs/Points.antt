@@ -2,6 +2,7 @@
 -- first, and in a point by itself, it is an invalid number.
 use Rattle.std.specs.Prelude.{ℕ, Bool, ◌||◌, List, [], ◌∷◌, ℤ, codes, if◌then◌else◌, refl}
 use Rattle.design_model.specs.declared.geometry.Point.{Point}
+use Rattle.design_model.specs.Geometry.{Rectangle, spanned}
 use Rattle.form_meanings.specs.Words.{is_word}
 use Rattle.form_meanings.specs.Meaning.{Seen}
 use Rattle.statement_model.specs.Form.{Form, number, ◌▸◌, ◌◂◌, ◌⨟◌, opt, many, seen}
@@ -51,6 +52,11 @@ in_row (at ∷ all) = at ∷ points_after at all
 -- a point by itself, in database units
 abbrev pub place_of : Coordinates → Point
 place_of at = record { x = int_of at.x; y = int_of at.y }
+
+-- the rectangles of corners in a row, two for each, in database units
+abbrev pub rectangles_of : List Coordinates → List Rectangle
+rectangles_of (a ∷ b ∷ all) = spanned (place_of a) (place_of b) ∷ rectangles_of all
+rectangles_of _ = []
 
 -- a coordinate after another, in database units
 abbrev pub number_after : ℤ → List ℕ → ℤ

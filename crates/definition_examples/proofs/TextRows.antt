@@ -20,7 +20,7 @@ use Rattle.lef_grammar.specs.Library.{Library, empty_library}
 use Rattle.design_rules.specs.Boxes.{Boxed}
 use Rattle.design_rules.specs.Diagnostics.{diagnostics}
 use Rattle.design_rules.specs.Edits.{place}
-use Rattle.design_rules.specs.Families.{pair_lines}
+use Rattle.design_model.specs.Families.{pair_lines}
 use Rattle.design_rules.specs.OverlapLines.{overlap_of}
 use Rattle.design_rules.specs.Runs.{design_edit, text_edit, text_outcome}
 use Rattle.design_rules.specs.Script.{report, nothing, make, refuse, ask, bad, order_of, script_lines, unescaped}

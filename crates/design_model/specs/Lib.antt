@@ -1,5 +1,6 @@
 pub mod Codes
 pub mod EnumWords
+pub mod Families
 pub mod Geometry
 pub mod Lines
 pub mod Order

@@ -34,6 +34,16 @@ pub enum DiagKind {
     Fence,
     /// A component lies in a fence that it isn't assigned to.
     Intruder,
+    /// Shapes of two nets meet.
+    Short,
+    /// A wire or a via lies on a rectangle where routing is blocked.
+    RouteBlock,
+    /// A net with wires or vias is in several parts that hold terminals.
+    OpenNet,
+    /// The same of a net without wires and vias.
+    Unrouted,
+    /// A net has parts that hold no terminal.
+    Floating,
 }
 
 impl DiagKind {
@@ -54,16 +64,13 @@ impl DiagKind {
             DiagKind::Blocked => b"blocked",
             DiagKind::Fence => b"fence",
             DiagKind::Intruder => b"intruder",
+            DiagKind::Short => b"short",
+            DiagKind::RouteBlock => b"routeblock",
+            DiagKind::OpenNet => b"open",
+            DiagKind::Unrouted => b"unrouted",
+            DiagKind::Floating => b"floating",
         }
     }
-}
-
-/// A report, with the names that it borrows and its numbers in database units.
-#[derive(Drop)]
-pub struct Diag<'a, A: Allocator = Global> {
-    pub kind: DiagKind,
-    pub words: Sequence<&'a [u8], A>,
-    pub nums: Sequence<i64, A>,
 }
 
 /// A report as it is printed, without a line end.

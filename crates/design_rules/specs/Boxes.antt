@@ -1,16 +1,15 @@
 -- The components that take part in the place checks (own).
-use Rattle.std.specs.Prelude.{ℕ, Bool, false, List, Option, Some, None, pos, nat_abs, codes, if◌then◌else◌}
+use Rattle.std.specs.Prelude.{ℕ, Bool, false, List, Option, Some, None, nat_abs, codes, if◌then◌else◌}
 use Rattle.std.specs.List.{filter_map}
 use Rattle.design_model.specs.declared.geometry.Orient.{Orient}
 use Rattle.design_model.specs.declared.geometry.Status.TheVariants.{Placed, Fixed}
 use Rattle.design_model.specs.Geometry.{Rectangle, placed_box}
-use Rattle.design_model.specs.Units.{nearest}
 use Rattle.form_meanings.specs.Words.{◌>>=◌, is_word, first}
 use Rattle.def_grammar.specs.Numbers.{int_of}
 use Rattle.def_grammar.specs.Parts.{Coordinates}
 use Rattle.def_grammar.specs.Components.{Clause, placed, Component, region_of_clause}
 use Rattle.def_grammar.specs.Records.{Record, component_of, units_of}
-use Rattle.lef_grammar.specs.Definitions.{Distances}
+use Rattle.lef_grammar.specs.Measures.{boundary_of}
 use Rattle.lef_grammar.specs.Library.{Macro, Library, macro_named}
 use Rattle.def_grammar.specs.Placing.{placing}
 use Rattle.form_meanings.specs.Firsts.{first_of}
@@ -22,11 +21,6 @@ units_or_1 (Some n) = nat_abs (int_of n)
 
 abbrev pub scale : List Record → ℕ
 scale design = units_or_1 (first (filter_map units_of design))
-
--- a macro's boundary: one without SIZE is a point
-abbrev pub boundary_of : ℕ → Option Distances → Rectangle
-boundary_of u None = record { x1 = pos 0; y1 = pos 0; x2 = pos 0; y2 = pos 0 }
-boundary_of u (Some size) = record { x1 = pos 0; y1 = pos 0; x2 = nearest size.0 u; y2 = nearest size.1 u }
 
 abbrev pub is_cover : Option (List ℕ) → Bool
 is_cover None = false

@@ -3,7 +3,6 @@ pub mod ComponentEdits
 pub mod CountLines
 pub mod Diagnostics
 pub mod Edits
-pub mod Families
 pub mod Output
 pub mod OverlapLines
 pub mod PlaceLines

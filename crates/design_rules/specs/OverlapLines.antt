@@ -1,20 +1,13 @@
 -- Lines on components that lie on one another (own).
 use Rattle.std.specs.Prelude.{ℕ, List, [], ◌∷◌, if◌then◌else◌}
-use Rattle.std.specs.Ordering.{is_lt}
 use Rattle.design_model.specs.declared.diagnostic.DiagKind.TheVariants.{Overlap}
 use Rattle.design_model.specs.Geometry.{overlap}
 use Rattle.design_model.specs.Lines.{line_text}
-use Rattle.design_model.specs.Order.{byte_cmp}
+use Rattle.design_model.specs.Order.{greater, lesser}
 use Rattle.def_grammar.specs.Records.{Record}
 use Rattle.lef_grammar.specs.Library.{Library}
 use Rattle.design_rules.specs.Boxes.{Boxed, boxes}
-use Rattle.design_rules.specs.Families.{pair_lines}
-
-abbrev pub lesser : List ℕ → List ℕ → List ℕ
-lesser a b = if is_lt (byte_cmp b a) then b else a
-
-abbrev pub greater : List ℕ → List ℕ → List ℕ
-greater a b = if is_lt (byte_cmp b a) then a else b
+use Rattle.design_model.specs.Families.{pair_lines}
 
 -- `overlap a b`, a before b
 abbrev pub overlap_line : List ℕ → List ℕ → List ℕ

@@ -14,7 +14,7 @@ use Rattle.place_rules.specs.Patterns.{matches}
 use Rattle.place_rules.specs.Sites.{holds, is_on_sites, is_row_orient}
 use Rattle.entry_rules.specs.Unknown.{is_same}
 use Rattle.design_rules.specs.Boxes.{Boxed, boxes}
-use Rattle.design_rules.specs.Families.{cross_lines}
+use Rattle.design_model.specs.Families.{cross_lines}
 use Rattle.design_rules.specs.Surroundings as parts
 use Rattle.design_rules.specs.Surroundings.{Assignment, PlacedRow, Surroundings, keep_outs, surroundings}
 

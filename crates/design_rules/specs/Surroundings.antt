@@ -6,24 +6,24 @@ use Rattle.std.specs.Option.{option_map}
 use Rattle.std.specs.Str.{bytes_eq}
 use Rattle.design_model.specs.declared.geometry.Orient.{Orient}
 use Rattle.design_model.specs.declared.geometry.Point.{Point}
-use Rattle.design_model.specs.Geometry.{Rectangle, spanned}
+use Rattle.design_model.specs.Geometry.{Rectangle}
 use Rattle.design_model.specs.Units.{nearest}
 use Rattle.form_meanings.specs.Words.{◌>>=◌, first}
 use Rattle.def_grammar.specs.Numbers.{int_of}
 use Rattle.def_grammar.specs.Parts.{Coordinates}
-use Rattle.def_grammar.specs.Points.{corner_points, place_of}
-use Rattle.def_grammar.specs.Clauses.{KeptClause}
+use Rattle.def_grammar.specs.Points.{place_of, rectangles_of}
 use Rattle.def_grammar.specs.Rows.{Row, SiteArray}
 use Rattle.def_grammar.specs.DieArea.{DieArea, die_area_points}
 use Rattle.def_grammar.specs.Regions.{Region, RegionClause, RegionKind, fence, region_type, region_points}
 use Rattle.def_grammar.specs.Groups.{region_named}
-use Rattle.def_grammar.specs.Blockages.{Blockage, BlockageKind, BlockageShape, blocks, blocks_layer, blocks_placement, blocked_rectangle}
+use Rattle.def_grammar.specs.Blockages.{Blockage, blocks}
 use Rattle.def_grammar.specs.Top.{row, die_area}
 use Rattle.def_grammar.specs.Records as records
 use Rattle.def_grammar.specs.Records.{Record, top, entry}
 use Rattle.lef_grammar.specs.Definitions.{Distances, Site}
 use Rattle.form_meanings.specs.Firsts.{first_of}
 use Rattle.lef_grammar.specs.Library.{Library, site_named}
+use Rattle.entry_rules.specs.Blocked.{blocked_rectangles, is_of_placement, is_spared}
 use Rattle.place_rules.specs.Sites.{SiteRow, turned_size}
 use Rattle.design_rules.specs.Boxes.{scale}
 
@@ -70,11 +70,6 @@ row_of _ = None
 
 abbrev pub placed_rows : Library → List Record → List PlacedRow
 placed_rows library design = map (placed_row library (scale design)) (filter_map row_of design)
-
--- the rectangles of corners in a row, two for each
-abbrev pub rectangles_of : List Coordinates → List Rectangle
-rectangles_of (a ∷ b ∷ all) = spanned (place_of a) (place_of b) ∷ rectangles_of all
-rectangles_of _ = []
 
 abbrev pub is_box : List Coordinates → Bool
 is_box [] = true
@@ -123,23 +118,9 @@ assignment_of _ = None
 abbrev pub assignments : List Record → List Assignment
 assignments design = filter_map assignment_of design
 
--- the rectangles where an entry blocks placement. One that is soft or partial, or of SLOTS, FILLS or a component, gives no line.
-abbrev pub sparing_words : List (List ℕ)
-sparing_words = codes "SOFT" ∷ codes "PARTIAL" ∷ codes "SLOTS" ∷ codes "FILLS" ∷ codes "COMPONENT" ∷ []
-
-abbrev pub is_sparing : KeptClause → Bool
-is_sparing c = list_any (bytes_eq c.keyword) sparing_words
-
-abbrev pub is_of_placement : BlockageKind → Bool
-is_of_placement (blocks_layer name) = false
-is_of_placement blocks_placement = true
-
-abbrev pub rectangle_of_shape : BlockageShape → Option Rectangle
-rectangle_of_shape (blocked_rectangle corners) = first (rectangles_of (corner_points corners))
-rectangle_of_shape _ = None
-
+-- the rectangles where an entry blocks placement
 abbrev pub kept_out : Blockage → List Rectangle
-kept_out b = if is_of_placement b.kind && not (list_any is_sparing b.clauses) then filter_map rectangle_of_shape (b.first ∷ b.others) else []
+kept_out b = if is_of_placement b.kind && not (is_spared b) then blocked_rectangles b else []
 
 abbrev pub keep_out_of : Record → List Rectangle
 keep_out_of (entry (records.blockage (blocks b))) = kept_out b

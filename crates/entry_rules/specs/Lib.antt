@@ -1,3 +1,4 @@
+pub mod Blocked
 pub mod EntryNames
 pub mod OffLayer
 pub mod References

@@ -17,6 +17,11 @@ abbrev pub point_or_0 : ℕ → Option Distances → Point
 point_or_0 u None = record { x = pos 0; y = pos 0 }
 point_or_0 u (Some p) = point_in u p
 
+-- a macro's boundary: one without SIZE is a point
+abbrev pub boundary_of : ℕ → Option Distances → Rectangle
+boundary_of u None = record { x1 = pos 0; y1 = pos 0; x2 = pos 0; y2 = pos 0 }
+boundary_of u (Some size) = record { x1 = pos 0; y1 = pos 0; x2 = nearest size.0 u; y2 = nearest size.1 u }
+
 -- a width, and 0 where there is none
 abbrev pub width_in : ℕ → Option Distance → ℤ
 width_in u None = pos 0

@@ -2,7 +2,7 @@
 use Rattle.std.proofs.Common.{◌≡◌, ◌+◌, ℕ, List, [], ◌∷◌, refl, sym, ◌∙◌, arith, sum_by}
 use Rattle.std.specs.List.{flat_map}
 use Rattle.std.proofs.lemmas.List.Sums.{sum_by-cons}
-use Rattle.design_rules.specs.Families.{cross_lines}
+use Rattle.design_model.specs.Families.{cross_lines}
 use Rattle.line_laws.specs.Lines.{times, SameThings}
 use Rattle.line_laws.specs.EachLaws.{EachIsUnordered, CrossesAreUnordered, CrossesTurn}
 use Rattle.line_laws.proofs.PairSums.{sum_by-same, sum_by-plus, times-flat_map}

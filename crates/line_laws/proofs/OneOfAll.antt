@@ -3,7 +3,7 @@ use Rattle.std.proofs.Common.{List, ◌∷◌, ◌++◌, refl, arith}
 use Rattle.std.specs.List.{flat_map}
 use Rattle.design_model.specs.Geometry.{Rectangle}
 use Rattle.design_rules.specs.Boxes.{Boxed, boxes}
-use Rattle.design_rules.specs.Families.{cross_lines, lines_with, pair_lines}
+use Rattle.design_model.specs.Families.{cross_lines, lines_with, pair_lines}
 use Rattle.design_rules.specs.OverlapLines.{overlap_of}
 use Rattle.design_rules.specs.PlaceLines.{blocked_of, lines_in}
 use Rattle.design_rules.specs.Surroundings.{keep_outs, surroundings}

@@ -11,9 +11,9 @@ use Rattle.std.specs.Int.{int_min, int_max}
 use Rattle.design_model.specs.declared.diagnostic.DiagKind.TheVariants.{Overlap}
 use Rattle.design_model.specs.Geometry.{Rectangle, overlap}
 use Rattle.design_model.specs.Lines.{line_text}
-use Rattle.design_model.specs.Order.{byte_cmp}
+use Rattle.design_model.specs.Order.{byte_cmp, greater, lesser}
 use Rattle.design_rules.specs.Boxes.{Boxed}
-use Rattle.design_rules.specs.OverlapLines.{lesser, greater, overlap_line, overlap_of}
+use Rattle.design_rules.specs.OverlapLines.{overlap_line, overlap_of}
 use Rattle.line_laws.specs.Lines.{times}
 use Rattle.line_laws.specs.PairLaws.{OverlapsAreSymmetric}
 

@@ -3,7 +3,7 @@ use Rattle.std.proofs.Common.{◌≡◌, ◌+◌, ℕ, cond, List, [], ◌∷◌
 use Rattle.std.specs.List.{flat_map}
 use Rattle.std.specs.Str.{bytes_eq}
 use Rattle.std.proofs.lemmas.List.Sums.{sum_by-cons, sum_by-append}
-use Rattle.design_rules.specs.Families.{pair_lines}
+use Rattle.design_model.specs.Families.{pair_lines}
 use Rattle.line_laws.specs.Lines.{times, SameThings}
 use Rattle.line_laws.specs.PairLaws.{PairsAreUnordered}
 

@@ -1,6 +1,6 @@
 -- Laws of the lines of each thing in a list, and of those of each with each of another list.
 use Rattle.std.specs.Prelude.{ℕ, List, flat_map}
-use Rattle.design_rules.specs.Families.{cross_lines}
+use Rattle.design_model.specs.Families.{cross_lines}
 use Rattle.line_laws.specs.Lines.{SameLines, SameThings}
 
 -- The lines of each thing don't hang on the order of the things.

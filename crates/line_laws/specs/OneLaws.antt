@@ -4,7 +4,7 @@ use Rattle.design_model.specs.Geometry.{Rectangle}
 use Rattle.def_grammar.specs.Records.{Record}
 use Rattle.lef_grammar.specs.Library.{Library}
 use Rattle.design_rules.specs.Boxes.{Boxed, boxes}
-use Rattle.design_rules.specs.Families.{lines_with, pair_lines, cross_lines}
+use Rattle.design_model.specs.Families.{lines_with, pair_lines, cross_lines}
 use Rattle.design_rules.specs.OverlapLines.{overlap_lines, overlap_of}
 use Rattle.design_rules.specs.PlaceLines.{blocked_of, lines_in, place_lines}
 use Rattle.design_rules.specs.Surroundings.{Surroundings, keep_outs, surroundings}

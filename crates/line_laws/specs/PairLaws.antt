@@ -1,7 +1,7 @@
 -- Laws of the lines of all pairs of things.
 use Rattle.std.specs.Prelude.{ℕ, List}
 use Rattle.design_rules.specs.Boxes.{Boxed}
-use Rattle.design_rules.specs.Families.{pair_lines}
+use Rattle.design_model.specs.Families.{pair_lines}
 use Rattle.design_rules.specs.OverlapLines.{overlap_of}
 use Rattle.line_laws.specs.Lines.{SameLines, SameThings}
 

@@ -13,7 +13,8 @@ use Rattle.lef_grammar.specs.Definitions.{Distances, Macro}
 use Rattle.form_meanings.specs.Firsts.{first_of}
 use Rattle.lef_grammar.specs.Measures.{point_or_0}
 use Rattle.cell_library.specs.Numbers.{IsWithin}
-use Rattle.design_rules.specs.Boxes.{Boxed, box_at, boundary_of, is_cover}
+use Rattle.lef_grammar.specs.Measures.{boundary_of}
+use Rattle.design_rules.specs.Boxes.{Boxed, box_at, is_cover}
 use Rattle.place_checks.specs.Corners.{corner, in_order}
 
 -- the ends of an interval, ordered twice

@@ -14,7 +14,7 @@ use Rattle.design_model.specs.declared.geometry.Rect.{Rect}
 use Rattle.design_model.specs.Geometry.{Rectangle, overlap}
 use Rattle.design_model.specs.Views.{rectangle_of}
 use Rattle.design_rules.specs.Boxes.{Boxed}
-use Rattle.design_rules.specs.Families.{cross_lines}
+use Rattle.design_model.specs.Families.{cross_lines}
 use Rattle.design_rules.specs.PlaceLines.{blocked_of}
 use Rattle.line_laws.specs.Lines.{SameLines}
 use Rattle.line_laws.specs.EachLaws.{CrossesTurn}

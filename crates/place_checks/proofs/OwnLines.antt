@@ -1,7 +1,7 @@
 -- The lines of one component by their parts.
 use Rattle.std.proofs.Common.{◌++◌, arith}
 use Rattle.std.specs.List.{flat_map}
-use Rattle.design_rules.specs.Families.{lines_with}
+use Rattle.design_model.specs.Families.{lines_with}
 use Rattle.design_rules.specs.OverlapLines.{overlap_of}
 use Rattle.design_rules.specs.PlaceLines.{blocked_of, fence_lines, lines_in, outside_lines, row_lines}
 use Rattle.line_laws.proofs.PairSums.{times-append}

@@ -14,7 +14,7 @@ use Rattle.std.proofs.lemmas.List.Folds.{flat_map-map}
 use Rattle.std.proofs.lemmas.List.Sorted.{sorted_far}
 use Rattle.design_model.specs.Geometry.{Rectangle, overlap}
 use Rattle.design_model.specs.Views.{rectangle_of}
-use Rattle.design_rules.specs.Families.{lines_with, pair_lines}
+use Rattle.design_model.specs.Families.{lines_with, pair_lines}
 use Rattle.design_rules.specs.OverlapLines.{overlap_of}
 use Rattle.place_checks.specs.declared.placed_box.PlacedBox.{PlacedBox}
 use Rattle.place_checks.specs.Sweep.{FromLeft, InSweepOrder, sweep_cmp}

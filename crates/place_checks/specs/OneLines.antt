@@ -2,7 +2,7 @@
 use Rattle.std.specs.Prelude.{ℕ, List, ◌++◌, flat_map}
 use Rattle.design_model.specs.Geometry.{Rectangle}
 use Rattle.design_rules.specs.Boxes.{Boxed}
-use Rattle.design_rules.specs.Families.{lines_with}
+use Rattle.design_model.specs.Families.{lines_with}
 use Rattle.design_rules.specs.OverlapLines.{overlap_of}
 use Rattle.design_rules.specs.PlaceLines.{blocked_of, fence_lines, outside_lines, row_lines}
 use Rattle.design_rules.specs.Surroundings.{Surroundings}

@@ -2,7 +2,7 @@
 
 ghost use Rattle.std.specs.Prelude.{◌≡◌, ◌++◌, OnOk, flat_map, map};
 ghost use Rattle.design_model.specs.Views.{rectangle_of};
-ghost use Rattle.design_rules.specs.Families.{cross_lines};
+ghost use Rattle.design_model.specs.Families.{cross_lines};
 ghost use Rattle.design_rules.specs.PlaceLines.{blocked_of};
 ghost use Rattle.line_laws.specs.Lines.{SameLines};
 ghost use Rattle.place_checks.specs.Sweep.{InSweepOrder};

@@ -6,7 +6,7 @@ ghost use Rattle.design_model.specs.Views.{rectangle_of};
 ghost use Rattle.form_meanings.specs.Words.{first};
 ghost use Rattle.def_grammar.specs.Points.{corner_points, place_of};
 ghost use Rattle.def_parts.specs.PointViews.{corners_view, point_view};
-ghost use Rattle.design_rules.specs.Surroundings.{rectangles_of};
+ghost use Rattle.def_grammar.specs.Points.{rectangles_of};
 ghost use Rattle.place_checks.specs.Corners.{IsCornerOf};
 
 use def_parts::point::Coordinates;

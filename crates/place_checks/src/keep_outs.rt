@@ -5,7 +5,8 @@ ghost use Rattle.std.specs.List.{filter_map, list_any};
 ghost use Rattle.std.specs.Option.{option_map};
 ghost use Rattle.design_model.specs.Views.{rectangle_of};
 ghost use Rattle.place_parts.specs.BlockageViews.{blockage_clause_view, blockage_clauses_of, blockage_shape_view, blockage_shapes_of, blockage_view};
-ghost use Rattle.design_rules.specs.Surroundings.{is_sparing, keep_outs, kept_out, rectangle_of_shape};
+ghost use Rattle.entry_rules.specs.Blocked.{is_sparing, rectangle_of_shape};
+ghost use Rattle.design_rules.specs.Surroundings.{keep_outs, kept_out};
 ghost use Rattle.def_reader.specs.StatementViews.{records_view};
 
 use crate::corners::corner_rectangle;

@@ -1,8 +1,9 @@
 //! Components that lie on one another.
 
 ghost use Rattle.std.specs.Prelude.{◌≡◌, ◌++◌, OnOk, map, filter, int_lt, if◌then◌else◌};
-ghost use Rattle.design_rules.specs.Families.{lines_with, pair_lines};
-ghost use Rattle.design_rules.specs.OverlapLines.{greater, lesser, overlap_of};
+ghost use Rattle.design_model.specs.Families.{lines_with, pair_lines};
+ghost use Rattle.design_model.specs.Order.{greater, lesser};
+ghost use Rattle.design_rules.specs.OverlapLines.{overlap_of};
 ghost use Rattle.place_checks.specs.Sweep.{FromLeft, InSweepOrder};
 ghost use Rattle.place_checks.specs.Views.{boxed_view};
 

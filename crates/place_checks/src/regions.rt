@@ -8,7 +8,8 @@ ghost use Rattle.def_grammar.specs.Regions.{region_points};
 ghost use Rattle.def_reader.specs.StatementViews.{record_view, records_view};
 ghost use Rattle.place_parts.specs.AgainViews.{region_at_view};
 ghost use Rattle.place_parts.specs.RegionViews.{region_clauses_of, region_kind_view, region_view};
-ghost use Rattle.design_rules.specs.Surroundings.{fence_of, fence_of_kind, fences, rectangles_of, type_of};
+ghost use Rattle.def_grammar.specs.Points.{rectangles_of};
+ghost use Rattle.design_rules.specs.Surroundings.{fence_of, fence_of_kind, fences, type_of};
 ghost use Rattle.place_checks.specs.PlaceViews.{fence_view};
 
 use crate::corners::rectangle_between;

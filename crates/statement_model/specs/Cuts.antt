@@ -29,6 +29,3 @@ end_of_all (p ∷ q ∷ qs) = end_of_all (q ∷ qs)
 abbrev pub space_before : List ℕ → List ℕ
 space_before [] = []
 space_before (b ∷ bs) = if is_white b then [] else 32 ∷ []
-
-abbrev pub put_at : List ℕ → ℕ → ℕ → List ℕ → Cut
-put_at text lo hi put = record { lo = lo; hi = hi; put = put ++ space_before (drop hi text) }

@@ -1,6 +1,6 @@
 use Rattle.std.proofs.Common.{◌≡◌, ◌++◌, drop, map}
 use Rattle.design_model.specs.Views.{rectangle_of}
-use Rattle.design_rules.specs.Families.{cross_lines}
+use Rattle.design_model.specs.Families.{cross_lines}
 use Rattle.design_rules.specs.PlaceLines.{blocked_of}
 use Rattle.place_checks.specs.Views.{boxed_view}
 use Rattle.place_checks.proofs.blocked.blocked_of.Given as goal

@@ -1,7 +1,7 @@
 use Rattle.std.proofs.Common.{◌≡◌}
 use Rattle.std.specs.List.{list_any}
 use Rattle.place_parts.specs.BlockageViews.{blockage_clauses_of}
-use Rattle.design_rules.specs.Surroundings.{is_sparing}
+use Rattle.entry_rules.specs.Blocked.{is_sparing}
 use Rattle.place_checks.proofs.keep_outs.has_sparing.Given as goal
 
 abbrev pub invariant-loop-clause : goal.invariant-loop-clause

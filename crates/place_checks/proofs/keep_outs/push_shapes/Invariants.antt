@@ -2,7 +2,7 @@ use Rattle.std.proofs.Common.{◌≡◌, ◌++◌, map}
 use Rattle.std.specs.List.{filter_map}
 use Rattle.design_model.specs.Views.{rectangle_of}
 use Rattle.place_parts.specs.BlockageViews.{blockage_shapes_of}
-use Rattle.design_rules.specs.Surroundings.{rectangle_of_shape}
+use Rattle.entry_rules.specs.Blocked.{rectangle_of_shape}
 use Rattle.place_checks.proofs.keep_outs.push_shapes.Given as goal
 
 abbrev pub invariant-loop-shape : goal.invariant-loop-shape

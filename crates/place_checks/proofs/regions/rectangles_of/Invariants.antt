@@ -4,7 +4,7 @@ use Rattle.def_grammar.specs.Points.{points_after}
 use Rattle.def_grammar.specs.Regions.{region_points, written_corners}
 use Rattle.def_parts.specs.PointViews.{point_view}
 use Rattle.place_parts.specs.RegionViews.{later_corners_of, region_view}
-use Rattle.design_rules.specs.Surroundings.{rectangles_of}
+use Rattle.def_grammar.specs.Points.{rectangles_of}
 use Rattle.place_checks.proofs.regions.rectangles_of.Given as goal
 
 abbrev pub invariant-loop-later : goal.invariant-loop-later
