@@ -1,0 +1,4 @@
+pub mod ClassRows
+pub mod NetTexts
+pub mod PinRows
+pub mod ShortRows
