@@ -1,0 +1,2 @@
+-- Counts of different numbers.
+use Rattle.std.proofs.Common.{◌≡◌, refl}
