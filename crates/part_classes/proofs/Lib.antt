@@ -1,2 +1,3 @@
 pub mod LabelLaws
 pub mod CountLaws
+pub mod ForestLemmas
