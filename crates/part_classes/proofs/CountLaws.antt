@@ -28,11 +28,11 @@ once : (s : Bool) (n : ℕ) → with_one s (with_one (not s) n) ≡ suc n
 once true n = refl
 once false n = refl
 
-or_false : (b : Bool) → (b || false) ≡ b
+pub or_false : (b : Bool) → (b || false) ≡ b
 or_false true = refl
 or_false false = refl
 
-or_true : (b : Bool) → (b || true) ≡ true
+pub or_true : (b : Bool) → (b || true) ≡ true
 or_true true = refl
 or_true false = refl
 
@@ -42,7 +42,7 @@ other h = grind (arith, h)
 same_number : (n : ℕ) → (n == n) ≡ true
 same_number n = grind arith
 
-in_push : (x y : ℕ) (ls : List ℕ) → is_in x (ls ++ y ∷ []) ≡ (is_in x ls || (y == x))
+pub in_push : (x y : ℕ) (ls : List ℕ) → is_in x (ls ++ y ∷ []) ≡ (is_in x ls || (y == x))
 in_push x y ls = list_any-append (λ k. k == x) ls (y ∷ []) ∙ ap (λ (t : Bool). is_in x ls || t) (or_false (y == x))
 
 -- one more number behind the others

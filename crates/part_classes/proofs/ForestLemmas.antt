@@ -1,5 +1,5 @@
 -- Classes as a forest: a part is put over another of its class, a class under another, each part under its root.
-use Rattle.std.proofs.Common.{◌≡◌, ◌≢◌, ◌≤◌, ◌<◌, ℕ, zero, suc, Bool, true, false, cond, List, [], ◌∷◌, map, length, get_or, set, refl, sym, ap, ◌∙◌, subst, arith}
+use Rattle.std.proofs.Common.{◌≡◌, ◌≢◌, ◌≤◌, ◌<◌, ◌+◌, ℕ, zero, suc, Bool, true, false, cond, List, [], ◌∷◌, ◌++◌, map, length, get_or, set, refl, sym, ap, ◌∙◌, subst, arith}
 use Rattle.std.specs.Prelude.{nat_lt, ◌==◌}
 use Rattle.std.proofs.lemmas.List.{get_or-set_same, get_or-set_other, get_or_default, get_or-map, length-map, length-set, ext_get_or}
 use Rattle.shape_rules.specs.Classes.{joined, greater, lesser, relabelled, label_at, numbers}
@@ -151,3 +151,77 @@ second_hung ps rs a b x y f in_a in_b order within = hung ps rs a b x y f in_a i
 
 pub first_hung : (ps rs : List ℕ) (a b x y : ℕ) → Found ps rs a b x y → a < length ps → b < length ps → y ≤ x → x < length rs → labels_of (set rs x y) ≡ joined (a, b) (labels_of ps)
 first_hung ps rs a b x y f in_a in_b order within = hung ps rs a b x y f in_a in_b y x order within (own_root ps b y f.second) (own_root ps a x f.first) (grind (arith, order)) (grind (arith, order))
+
+-- each part in a class of its own
+numbers_stand : (n : ℕ) → labels_of (numbers 0 n) ≡ numbers 0 n
+numbers_stand n =
+    let size = length_numbers 0 n in
+    sym (are_labels (numbers 0 n) (numbers 0 n) refl (λ k h. let k_in : k < n = omega (arith, h, size) in
+    let at = own_number n k k_in in
+    let e : get_or (numbers 0 n) k k ≡ get_or (numbers 0 n) k 0 = get_or_default (numbers 0 n) k k 0 h in
+    at ∙ sym (itself (numbers 0 n) k (omega (arith, at, e)))))
+
+numbers_push : (a n : ℕ) → numbers a n ++ (a + n) ∷ [] ≡ numbers a (suc n)
+unfolding numbers
+numbers_push a zero = let e : a + 0 ≡ a = omega arith in ap (λ (k : ℕ). k ∷ []) e
+numbers_push a (suc n) = let e : a + suc n ≡ suc a + n = omega arith in ap (λ (k : ℕ). a ∷ (numbers (suc a) n ++ k ∷ [])) e ∙ ap (λ (ks : List ℕ). a ∷ ks) (numbers_push (suc a) n)
+
+pub number_pushed : (n : ℕ) (ks : List ℕ) → ks ≡ numbers 0 n → ks ++ n ∷ [] ≡ numbers 0 (n + 1)
+number_pushed n ks h = let e : n + 1 ≡ suc n = omega arith in let f : 0 + n ≡ n = omega arith in ap (λ (ks : List ℕ). ks ++ n ∷ []) h ∙ ap (λ (k : ℕ). numbers 0 n ++ k ∷ []) (sym f) ∙ numbers_push 0 n ∙ ap (numbers 0) (sym e)
+
+pub apart : (n : ℕ) (ks : List ℕ) → ks ≡ numbers 0 n → labels_of ks ≡ numbers 0 n
+apart n ks h = rw h (numbers_stand n)
+
+-- labels are a forest in which each part stands right under its root
+pub labels_stand : (ps : List ℕ) → labels_of (labels_of ps) ≡ labels_of ps
+labels_stand ps =
+    let ls = labels_of ps in
+    let size = length_labels_of ps in
+    sym (are_labels ls ls refl (λ k h. let k_in : k < length ps = omega (arith, h, size) in
+    let r = root_of ps k in
+    let low = least ps k in
+    let at : label_at ls k ≡ r = at_labels_of ps k k_in in
+    let at_root : label_at ls r ≡ r = at_labels_of ps r (omega (arith, low, k_in)) ∙ own ps k in
+    let stands : root_of ls r ≡ r = stop ls r 0 (omega (arith, low, h)) (omega (arith, at_root)) in
+    at ∙ below r k
+    (λ lower. sym (step ls k 0 h (omega (arith, at, lower)) ∙ ap (root_of ls) at ∙ stands))
+    (λ here. let e : r ≡ k = omega (arith, low, here) in sym (ap (root_of ls) (sym e) ∙ stands))))
+
+-- parts below n stand right under their roots, the others as they did
+pub record Settled (ps qs : List ℕ) (n : ℕ) : Type 0 where
+  pub size : length qs ≡ length ps
+  pub front : (k : ℕ) → k < n → get_or qs k 0 ≡ root_of ps k
+  pub back : (k : ℕ) → n ≤ k → get_or qs k 0 ≡ get_or ps k 0
+
+put : (ps qs : List ℕ) (n x : ℕ) → Settled ps qs n → n < length qs → x ≡ root_of ps n → Settled ps (set qs n x) (n + 1)
+put ps qs n x s h e = record {
+    size = length-set qs n x ∙ s.size;
+    front = λ k b. alike k n (λ q. ap (λ (i : ℕ). get_or (set qs n x) i 0) q ∙ get_or-set_same qs n x 0 h ∙ e ∙ ap (root_of ps) (sym q)) (λ q. get_or-set_other qs n k x 0 q ∙ s.front k (omega (arith, b, q)));
+    back = λ k b. get_or-set_other qs n k x 0 (λ q. omega (arith, b, q)) ∙ s.back k (omega (arith, b));
+  }
+
+pub put_under : (ps qs : List ℕ) (n : ℕ) → Settled ps qs n → n < length qs → get_or qs n 0 < n → Settled ps (set qs n (get_or qs (get_or qs n 0) 0)) (n + 1)
+put_under ps qs n s h lower =
+    let e : get_or qs n 0 ≡ get_or ps n 0 = s.back n (omega arith) in
+    put ps qs n (get_or qs (get_or qs n 0) 0) s h (s.front (get_or qs n 0) lower ∙ ap (root_of ps) e ∙ sym (step ps n 0 (omega (arith, h, s.size)) (omega (arith, e, lower))))
+
+pub put_itself : (ps qs : List ℕ) (n : ℕ) → Settled ps qs n → n < length qs → n ≤ get_or qs n 0 → Settled ps (set qs n n) (n + 1)
+put_itself ps qs n s h stands =
+    let e : get_or qs n 0 ≡ get_or ps n 0 = s.back n (omega arith) in
+    put ps qs n n s h (sym (stop ps n 0 (omega (arith, h, s.size)) (omega (arith, e, stands))))
+
+pub all_settled : (ps qs : List ℕ) (n : ℕ) → Settled ps qs n → length qs ≤ n → qs ≡ labels_of ps
+all_settled ps qs n s h = are_labels ps qs s.size (λ k b. s.front k (omega (arith, h, b, s.size)))
+
+pub same_labels : (ps qs : List ℕ) → qs ≡ labels_of ps → labels_of qs ≡ labels_of ps
+same_labels ps qs e = ap labels_of e ∙ labels_stand ps
+
+-- of a forest that is its labels
+pub label_is_root : (ls : List ℕ) (k : ℕ) → labels_of ls ≡ ls → k < length ls → get_or ls k 0 ≡ root_of ls k
+label_is_root ls k e h = ap (λ (ks : List ℕ). label_at ks k) (sym e) ∙ at_labels_of ls k h
+
+pub label_few : (ls : List ℕ) (k : ℕ) → labels_of ls ≡ ls → k < length ls → get_or ls k 0 ≤ k
+label_few ls k e h = let r = label_is_root ls k e h in let l = least ls k in omega (arith, r, l)
+
+pub below_length : (ps ls : List ℕ) (k : ℕ) → labels_of ps ≡ ls → k < length ls → k < length ps
+below_length ps ls k e h = let f = ap length e in let g = length_labels_of ps in omega (arith, f, g, h)

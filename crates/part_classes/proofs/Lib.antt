@@ -1,3 +1,4 @@
 pub mod LabelLaws
 pub mod CountLaws
+pub mod CountLemmas
 pub mod ForestLemmas

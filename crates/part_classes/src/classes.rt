@@ -57,3 +57,22 @@ impl<A: Allocator> Classes<A> {
         forest::join(&mut self.parents, a, b);
     }
 }
+
+impl<A: Allocator + Copy> Classes<A> {
+    /// How many classes hold a part that `marks` marks, and how many hold none.
+    pub fn counts(&mut self, marks: &[bool]) -> Result<Counts, AllocError>
+        requires { length marks.now ≡ length self.old }
+        ensures holding { IfOk result (λ c. c.holding ≡ holding marks.now self.old) }
+        ensures bare { IfOk result (λ c. c.bare ≡ bare marks.now self.old) }
+        ensures same { self.new ≡ self.old }
+    {
+        let mut held = Vec::from_elem(*self.parents.allocator(), false, marks.len())?;
+        forest::settle(&mut self.parents);
+        let classes = forest::count_classes(&self.parents);
+        let holding = forest::count_holding(&self.parents, marks, &mut held);
+        Ok(Counts {
+            holding,
+            bare: classes - holding,
+        })
+    }
+}

@@ -1,6 +1,6 @@
 //! Classes as a forest, in which each part stands over a part of its class with a lesser number, or is the root of its class.
 
-ghost use Rattle.std.specs.Prelude.{◌≡◌, ◌<◌, ◌≤◌, ℕ, length, get_or};
+ghost use Rattle.std.specs.Prelude.{◌≡◌, ◌<◌, ◌≤◌, ℕ, false, length, replicate};
 ghost use Rattle.shape_rules.specs.Classes.{distinct, holding, joined};
 ghost use Rattle.part_classes.specs.Forest.{labels_of, root_of};
 
@@ -61,4 +61,23 @@ pub(crate) fn count_classes(labels: &[usize]) -> usize
         }
     }
     classes
+}
+
+/// How many classes hold a marked part, where each part stands right under its root. In `held` each class that does has its
+/// root marked.
+pub(crate) fn count_holding(labels: &[usize], marks: &[bool], held: &mut [bool]) -> usize
+    requires labels { labels_of labels.now ≡ labels.now }
+    requires marks { length marks.now ≡ length labels.now }
+    requires held { held.old ≡ replicate (length labels.now) false }
+    ensures { result ≡ holding marks.now labels.now }
+{
+    let mut holding = 0;
+    for part in 0..labels.len() {
+        let label = labels[part];
+        if marks[part] && !held[label] {
+            held[label] = true;
+            holding += 1;
+        }
+    }
+    holding
 }
