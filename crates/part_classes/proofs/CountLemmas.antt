@@ -81,11 +81,11 @@ now_known x l ls held within known =
 pub none_counted : (marks : List Bool) (ls : List ℕ) → Counted marks ls (replicate (length ls) false) 0 0
 unfolding distinct
 none_counted marks ls = record {
-    size = length-replicate (length ls) false;
-    known = λ x. none (length ls) x;
-    count_is = refl;
-    few = omega arith;
-  }
+  size = length-replicate (length ls) false;
+  known = λ x. none (length ls) x;
+  count_is = refl;
+  few = omega arith;
+}
 
 pub unmarked : (marks : List Bool) (ls : List ℕ) (held : List Bool) (n count : ℕ) → Counted marks ls held n count → n < length marks → n < length ls → get_or marks n false ≡ false → Counted marks ls held (n + 1) count
 unmarked marks ls held n count c a b m =

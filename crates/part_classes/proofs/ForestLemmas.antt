@@ -195,10 +195,10 @@ pub record Settled (ps qs : List ℕ) (n : ℕ) : Type 0 where
 
 put : (ps qs : List ℕ) (n x : ℕ) → Settled ps qs n → n < length qs → x ≡ root_of ps n → Settled ps (set qs n x) (n + 1)
 put ps qs n x s h e = record {
-    size = length-set qs n x ∙ s.size;
-    front = λ k b. alike k n (λ q. ap (λ (i : ℕ). get_or (set qs n x) i 0) q ∙ get_or-set_same qs n x 0 h ∙ e ∙ ap (root_of ps) (sym q)) (λ q. get_or-set_other qs n k x 0 q ∙ s.front k (omega (arith, b, q)));
-    back = λ k b. get_or-set_other qs n k x 0 (λ q. omega (arith, b, q)) ∙ s.back k (omega (arith, b));
-  }
+  size = length-set qs n x ∙ s.size;
+  front = λ k b. alike k n (λ q. ap (λ (i : ℕ). get_or (set qs n x) i 0) q ∙ get_or-set_same qs n x 0 h ∙ e ∙ ap (root_of ps) (sym q)) (λ q. get_or-set_other qs n k x 0 q ∙ s.front k (omega (arith, b, q)));
+  back = λ k b. get_or-set_other qs n k x 0 (λ q. omega (arith, b, q)) ∙ s.back k (omega (arith, b));
+}
 
 pub put_under : (ps qs : List ℕ) (n : ℕ) → Settled ps qs n → n < length qs → get_or qs n 0 < n → Settled ps (set qs n (get_or qs (get_or qs n 0) 0)) (n + 1)
 put_under ps qs n s h lower =

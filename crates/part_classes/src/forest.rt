@@ -4,7 +4,7 @@ ghost use Rattle.std.specs.Prelude.{◌≡◌, ◌<◌, ◌≤◌, ℕ, false, l
 ghost use Rattle.shape_rules.specs.Classes.{distinct, holding, joined};
 ghost use Rattle.part_classes.specs.Forest.{labels_of, root_of};
 
-/// The root of a part's class. On the way there each second part is put under the part two steps on.
+/// The root of a part's class. The way there is halved: each second part on it is put under the part two steps on.
 fn root(parents: &mut [usize], part: usize) -> usize
     requires { part < length parents.old }
     ensures root { result ≡ root_of parents.old part }
@@ -63,8 +63,8 @@ pub(crate) fn count_classes(labels: &[usize]) -> usize
     classes
 }
 
-/// How many classes hold a marked part, where each part stands right under its root. In `held` each class that does has its
-/// root marked.
+/// How many classes hold a marked part, where each part stands right under its root. `held` notes the root of each class
+/// that does.
 pub(crate) fn count_holding(labels: &[usize], marks: &[bool], held: &mut [bool]) -> usize
     requires labels { labels_of labels.now ≡ labels.now }
     requires marks { length marks.now ≡ length labels.now }

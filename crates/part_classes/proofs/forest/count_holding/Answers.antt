@@ -1,6 +1,6 @@
 use Rattle.std.proofs.Common.{◌<◌, length, arith}
 use Rattle.part_classes.proofs.ForestLemmas.{label_few}
-use Rattle.part_classes.proofs.CountLemmas.{none_counted, unmarked, held_before, first_held, all_counted}
+use Rattle.part_classes.proofs.CountLemmas.{none_counted, unmarked, held_before, first_held}
 use Rattle.part_classes.proofs.forest.count_holding.Goals as goal
 use Rattle.part_classes.proofs.forest.count_holding.Goals.{then-marks-part+then-not-held-label, else-marks-part, else-marks-part-via-then-marks-part+else-not-held-label, else-marks-part-via-else-marks-part}
 
