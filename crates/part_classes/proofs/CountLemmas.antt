@@ -1,9 +1,9 @@
 -- Loops that count classes.
 use Rattle.std.proofs.Common.{◌≡◌, ◌≢◌, ◌≤◌, ◌<◌, ◌+◌, ℕ, zero, suc, Bool, true, false, cond, ◌||◌, List, [], ◌∷◌, ◌++◌, length, get_or, set, take, replicate, refl, sym, ap, ◌∙◌, arith}
-use Rattle.std.specs.Prelude.{◌==◌, if◌then◌else◌}
-use Rattle.std.proofs.lemmas.List.{take_more, get_or-take, length-take-le, get_or-set_same, get_or-set_other, get_or-replicate, get_or_past, length-set, length-replicate, take_all, append-nil}
+use Rattle.std.specs.Prelude.{◌==◌}
+use Rattle.std.proofs.lemmas.List.{take_more, get_or-take, length-take-le, get_or-set_same, get_or-set_other, length-set, length-replicate, take_all, append-nil}
 use Rattle.std.proofs.lemmas.List.Folds.{list_any_at}
-use Rattle.shape_rules.specs.Classes.{distinct, marked, holding, label_at}
+use Rattle.shape_rules.specs.Classes.{distinct, marked, holding}
 use Rattle.part_classes.specs.Forest.{labels_of, root_of}
 use Rattle.part_classes.proofs.LabelLaws.{split}
 use Rattle.part_classes.proofs.CountLaws.{is_in, with_one, distinct_push, in_push, or_true, or_false}

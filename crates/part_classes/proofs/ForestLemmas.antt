@@ -1,10 +1,10 @@
 -- Classes as a forest: a part is put over another of its class, a class under another, each part under its root.
-use Rattle.std.proofs.Common.{◌≡◌, ◌≢◌, ◌≤◌, ◌<◌, ◌+◌, ℕ, zero, suc, Bool, true, false, cond, List, [], ◌∷◌, ◌++◌, map, length, get_or, set, refl, sym, ap, ◌∙◌, subst, arith}
+use Rattle.std.proofs.Common.{◌≡◌, ◌≢◌, ◌≤◌, ◌<◌, ◌+◌, ℕ, zero, suc, Bool, true, false, cond, List, [], ◌∷◌, ◌++◌, length, get_or, set, refl, sym, ap, ◌∙◌, subst, arith}
 use Rattle.std.specs.Prelude.{nat_lt, ◌==◌}
 use Rattle.std.proofs.lemmas.List.{get_or-set_same, get_or-set_other, get_or_default, get_or-map, length-map, length-set, ext_get_or}
 use Rattle.shape_rules.specs.Classes.{joined, greater, lesser, relabelled, label_at, numbers}
 use Rattle.part_classes.specs.Forest.{end_of, root_of, labels_of}
-use Rattle.part_classes.proofs.LabelLaws.{split, length_numbers, own_number, joined_at}
+use Rattle.part_classes.proofs.LabelLaws.{split, length_numbers, own_number}
 
 -- that many steps are enough
 enough : (ps : List ℕ) (f g i : ℕ) → i ≤ f → i ≤ g → end_of ps f i ≡ end_of ps g i

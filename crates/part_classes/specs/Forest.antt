@@ -1,5 +1,5 @@
 -- Classes as a forest: each part stands over a part of its class with a lesser number, or is the root of its class.
-use Rattle.std.specs.Prelude.{◌≡◌, ◌≤◌, ℕ, zero, suc, List, map, length, nat_lt, slice_index_or, if◌then◌else◌}
+use Rattle.std.specs.Prelude.{ℕ, zero, suc, List, map, length, nat_lt, slice_index_or, if◌then◌else◌}
 use Rattle.shape_rules.specs.Classes.{numbers}
 
 -- the part where the way over lesser and lesser numbers ends, after so many steps at most

@@ -32,7 +32,8 @@ pub struct Counts {
 impl<A: Allocator> Classes<A> {
     /// As many parts, each in a class of its own.
     pub fn new(alloc: A, count: usize) -> Result<Classes<A>, AllocError>
-        ensures { IfOk result (λ c. c ≡ numbers 0 count) }
+        ensures labels { IfOk result (λ c. c ≡ numbers 0 count) }
+        ensures size { IfOk result (λ c. length c ≡ count) }
     {
         let mut parents = Vec::with_capacity(alloc, count)?;
         for part in 0..count {
@@ -52,7 +53,8 @@ impl<A: Allocator> Classes<A> {
     pub fn join(&mut self, a: usize, b: usize)
         requires first { a < length self.old }
         requires second { b < length self.old }
-        ensures { self.new ≡ joined (a, b) self.old }
+        ensures labels { self.new ≡ joined (a, b) self.old }
+        ensures size { length self.new ≡ length self.old }
     {
         forest::join(&mut self.parents, a, b);
     }
