@@ -1,0 +1,5 @@
+pub mod NumberLaws
+pub mod PartNumbers
+pub mod PlaceNumbers
+pub mod RecordNumbers
+pub mod WireNumbers

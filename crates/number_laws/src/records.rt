@@ -1,0 +1,20 @@
+//! Laws of the numbers of records.
+
+ghost use Rattle.def_grammar.specs.Records.{def};
+ghost use Rattle.lef_grammar.specs.LefRecords.{lef};
+ghost use Rattle.number_laws.specs.NumberLaws.{NoNumberIsBad, NumbersPass};
+
+/// No record of a DEF text that reads has a bad number.
+pub fn no_def_number_is_bad()
+    ensures { NoNumberIsBad def }
+{}
+
+/// No record of a LEF text that reads has a bad number.
+pub fn no_lef_number_is_bad()
+    ensures { NoNumberIsBad lef }
+{}
+
+/// The numbers of each record of a DEF text that reads pass the tests of its form.
+pub fn def_numbers_pass()
+    ensures { NumbersPass }
+{}
