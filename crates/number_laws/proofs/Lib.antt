@@ -1,3 +1,6 @@
-pub mod Tells
+pub mod GoodRecords
 pub mod PartTells
+pub mod PlaceTells
+pub mod RecordTells
+pub mod Tells
 pub mod WireTells

@@ -1,5 +1,5 @@
-use Rattle.number_laws.proofs.WireTells.{net_form_tells, special_net_form_tells, def_via_form_tells, rule_form_tells}
+use Rattle.number_laws.proofs.RecordTells.{numbers_pass}
 use Rattle.number_laws.proofs.records.def_numbers_pass.Goals as goal
 
 pub returns : goal.returns
-returns c = ?
+returns c = numbers_pass

@@ -1,0 +1,6 @@
+use Rattle.lef_grammar.specs.LefRecords.{lef}
+use Rattle.number_laws.proofs.GoodRecords.{no_number_is_bad}
+use Rattle.number_laws.proofs.records.no_lef_number_is_bad.Goals as goal
+
+pub returns : goal.returns
+returns c = no_number_is_bad lef
