@@ -1,4 +1,5 @@
 pub mod GoodRecords
+pub mod LefTells
 pub mod PartTells
 pub mod PlaceTells
 pub mod RecordTells

@@ -13,7 +13,7 @@ use Rattle.def_grammar.specs.Records.{Entry, component, pin, region, group, bloc
 use Rattle.def_grammar.specs.Top.{TopRecord, header, units, end_design, properties, extension, die_area, row, tracks, gcell_grid, kept, units_statement, header_statement, floor_statement, plain_statement, top_statement}
 use Rattle.number_laws.specs.PartNumbers.{Passes}
 use Rattle.number_laws.specs.RecordNumbers.{TopNumbers, EntryNumbers, RecordNumbers}
-use Rattle.number_laws.specs.NumberLaws.{HasNoBadNumber, NumbersPass}
+use Rattle.number_laws.specs.NumberLaws.{HasNoBadNumber, DefNumbersPass}
 use Rattle.number_laws.proofs.GoodRecords.{no_number_is_bad}
 use Rattle.number_laws.proofs.PlaceTells.{component_form_tells, pin_form_tells, region_form_tells, blockage_form_tells, die_area_tells, row_tells, tracks_tell, gcell_grid_tells}
 use Rattle.number_laws.proofs.Tells.{Tells, nothing_tells, number_tells, behind_tells, before_tells, seq_tells}
@@ -65,5 +65,5 @@ record_tells _ _ ws fits e = absurd fits
 good_tells : (r : Record) → HasNoBadNumber def r → RecordNumbers r
 good_tells r g = record_tells g.mode r [] g.fits g.good
 
-pub numbers_pass : NumbersPass
-numbers_pass text recs e = All-weaker (HasNoBadNumber def) RecordNumbers good_tells recs (no_number_is_bad def Top text recs e)
+pub def_numbers_pass : DefNumbersPass
+def_numbers_pass text recs e = All-weaker (HasNoBadNumber def) RecordNumbers good_tells recs (no_number_is_bad def Top text recs e)

@@ -1,3 +1,4 @@
+pub mod LefNumbers
 pub mod NumberLaws
 pub mod PartNumbers
 pub mod PlaceNumbers

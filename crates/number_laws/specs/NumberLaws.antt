@@ -5,6 +5,8 @@ use Rattle.statement_model.specs.Form.{Fits}
 use Rattle.statement_model.specs.Grammar.{Grammar}
 use Rattle.statement_model.specs.Reading.{read_text}
 use Rattle.def_grammar.specs.Records.{Record, read_def}
+use Rattle.lef_grammar.specs.LefRecords.{LefRecord, read_lef}
+use Rattle.number_laws.specs.LefNumbers.{LefRecordNumbers}
 use Rattle.number_laws.specs.RecordNumbers.{RecordNumbers}
 
 -- a record stands somewhere in its form, and none of its numbers is bad there
@@ -18,5 +20,9 @@ abbrev pub NoNumberIsBad : {M R : Type 0} → Grammar M R → Type 0
 NoNumberIsBad {M = M} {R = R} g = (m : M) (text : List ℕ) (recs : List R) → read_text g m text ≡ Ok recs → All (HasNoBadNumber g) recs
 
 -- The numbers of each record of a DEF text that reads pass the tests of its form.
-abbrev pub NumbersPass : Type 0
-NumbersPass = (text : List ℕ) (recs : List Record) → read_def text ≡ Ok recs → All RecordNumbers recs
+abbrev pub DefNumbersPass : Type 0
+DefNumbersPass = (text : List ℕ) (recs : List Record) → read_def text ≡ Ok recs → All RecordNumbers recs
+
+-- So do those of each record of a LEF text.
+abbrev pub LefNumbersPass : Type 0
+LefNumbersPass = (text : List ℕ) (recs : List LefRecord) → read_lef text ≡ Ok recs → All LefRecordNumbers recs

@@ -2,7 +2,7 @@
 
 ghost use Rattle.def_grammar.specs.Records.{def};
 ghost use Rattle.lef_grammar.specs.LefRecords.{lef};
-ghost use Rattle.number_laws.specs.NumberLaws.{NoNumberIsBad, NumbersPass};
+ghost use Rattle.number_laws.specs.NumberLaws.{DefNumbersPass, LefNumbersPass, NoNumberIsBad};
 
 /// No record of a DEF text that reads has a bad number.
 pub fn no_def_number_is_bad()
@@ -16,5 +16,10 @@ pub fn no_lef_number_is_bad()
 
 /// The numbers of each record of a DEF text that reads pass the tests of its form.
 pub fn def_numbers_pass()
-    ensures { NumbersPass }
+    ensures { DefNumbersPass }
+{}
+
+/// The numbers of each record of a LEF text that reads pass the tests of its form.
+pub fn lef_numbers_pass()
+    ensures { LefNumbersPass }
 {}
