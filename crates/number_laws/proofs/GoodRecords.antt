@@ -17,11 +17,11 @@ use Rattle.statement_laws.proofs.Whole.{whole_shows}
 use Rattle.number_laws.specs.NumberLaws.{HasNoBadNumber, NoNumberIsBad}
 
 -- where one reading goes on to another, it has read
-has_read : {A B F : Type 0} (r : Result A F) (f : A → Result B F) (b : B) → (r >> f) ≡ Ok b → (a : A) × (r ≡ Ok a) × (f a ≡ Ok b)
+pub has_read : {A B F : Type 0} (r : Result A F) (f : A → Result B F) (b : B) → (r >> f) ≡ Ok b → (a : A) × (r ≡ Ok a) × (f a ≡ Ok b)
 has_read (Ok a) f b e = (a, refl, e)
 has_read (Err x) f b e = absurd (cc)
 
-ok_same : {A F : Type 0} (x y : A) → ◌≡◌ {A = Result A F} (Ok x) (Ok y) → x ≡ y
+pub ok_same : {A F : Type 0} (x y : A) → ◌≡◌ {A = Result A F} (Ok x) (Ok y) → x ≡ y
 ok_same x y e = cc
 
 -- a test that lets a reading go on

@@ -1,7 +1,12 @@
+pub mod DefSizes
+pub mod EachOf
 pub mod GoodRecords
+pub mod LefSizes
 pub mod LefTells
 pub mod PartTells
 pub mod PlaceTells
 pub mod RecordTells
+pub mod SizeNumbers
 pub mod Tells
+pub mod Widths
 pub mod WireTells

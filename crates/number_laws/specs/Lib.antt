@@ -3,4 +3,5 @@ pub mod NumberLaws
 pub mod PartNumbers
 pub mod PlaceNumbers
 pub mod RecordNumbers
+pub mod SizeLaws
 pub mod WireNumbers

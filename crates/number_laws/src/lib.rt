@@ -6,3 +6,4 @@
 #![tactic(auto)]
 
 pub mod records;
+pub mod sizes;
