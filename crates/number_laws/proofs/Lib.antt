@@ -4,6 +4,7 @@ pub mod GoodRecords
 pub mod LefSizes
 pub mod LefTells
 pub mod PartTells
+pub mod PassedNumbers
 pub mod PlaceTells
 pub mod RecordTells
 pub mod SizeNumbers

@@ -4,4 +4,5 @@ pub mod PartNumbers
 pub mod PlaceNumbers
 pub mod RecordNumbers
 pub mod SizeLaws
+pub mod TestLaws
 pub mod WireNumbers

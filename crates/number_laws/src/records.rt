@@ -3,6 +3,7 @@
 ghost use Rattle.def_grammar.specs.Records.{def};
 ghost use Rattle.lef_grammar.specs.LefRecords.{lef};
 ghost use Rattle.number_laws.specs.NumberLaws.{DefNumbersPass, LefNumbersPass, NoNumberIsBad};
+ghost use Rattle.number_laws.specs.TestLaws.{PassedAreNumbers};
 
 /// No record of a DEF text that reads has a bad number.
 pub fn no_def_number_is_bad()
@@ -22,4 +23,9 @@ pub fn def_numbers_pass()
 /// The numbers of each record of a LEF text that reads pass the tests of its form.
 pub fn lef_numbers_pass()
     ensures { LefNumbersPass }
+{}
+
+/// A word that passes a test of numbers is a number.
+pub fn passed_are_numbers()
+    ensures { PassedAreNumbers }
 {}
