@@ -1,5 +1,5 @@
 -- The sizes of a DEF text that reads are taken as they are written.
-use Rattle.std.proofs.Common.{◌≡◌, ℕ, List, [], ◌∷◌, Option, Some, None, refl, ap}
+use Rattle.std.proofs.Common.{◌≡◌, ℕ, List, [], Option, Some, None, refl, ap}
 use Rattle.std.specs.List.{All, filter_map}
 use Rattle.std.specs.Prelude.{IfSome}
 use Rattle.std.specs.Option.{option_map}
@@ -16,12 +16,11 @@ use Rattle.def_grammar.specs.SpecialWires.{special_wires_of}
 use Rattle.def_grammar.specs.Wiring.{WirePoint, SpecialVia, ViaArray, PathItem, path_mask, path_virtual, path_rectangle, path_point, path_via, Path, Wire, SpecialWire}
 use Rattle.wire_rules.specs.Sizes.{as_size}
 use Rattle.net_rules.specs.ViaRectangles.{size_of_clause, spacing_of_clause, array_of_clause}
-use Rattle.number_laws.specs.NumberLaws.{DefNumbersPass}
 use Rattle.number_laws.specs.PartNumbers.{Passes}
 use Rattle.number_laws.specs.RecordNumbers.{EntryNumbers, RecordNumbers}
 use Rattle.number_laws.specs.SizeLaws.{IsLength, AreLengths, AreCuts, PastIsWritten, StandsOnce, ArrayStands, ItemSizes, PathSizes, WireSizes, SpecialWireSizes, DefViaSizes, RuleSizes, NetSizes, EntrySizes, RecordSizes, DefSizesStand}
 use Rattle.number_laws.specs.WireNumbers.{ViaArrayNumbers, NetViaNumbers, SpecialViaNumbers, ItemNumbers, PathNumbers, WireNumbers, SpecialWireNumbers, NetClauseNumbers, NetEntryNumbers, SpecialClauseNumbers, ViaClauseNumbers, DefViaNumbers, RuleClauseNumbers, RuleNumbers}
-use Rattle.number_laws.proofs.EachOf.{mapped, filter_map_each, first_of_each, flat_map_each, with_all_each}
+use Rattle.number_laws.proofs.EachOf.{filter_map_each, first_of_each, flat_map_each, with_all_each}
 use Rattle.number_laws.proofs.RecordTells.{def_numbers_pass}
 use Rattle.number_laws.proofs.SizeNumbers.{size_stands, sizes_stand, cuts_stand, array_stands}
 

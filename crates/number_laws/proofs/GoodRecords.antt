@@ -1,5 +1,5 @@
 -- A text that reads has no bad number: each of its records stands in its form without one.
-use Rattle.std.proofs.Common.{◌≡◌, ℕ, Bool, true, false, List, [], ◌∷◌, ◌++◌, length, Option, Some, None, Result, Ok, Err, refl, sym, ap, ◌∙◌, ⊎_elim, if◌then◌else◌}
+use Rattle.std.proofs.Common.{◌≡◌, ℕ, Bool, true, false, List, [], ◌∷◌, ◌++◌, length, Option, Some, None, Result, Ok, Err, refl, sym, ap, ⊎_elim, if◌then◌else◌}
 use Rattle.std.specs.List.{All}
 use Rattle.std.specs.Prelude.{nat_lt}
 use Rattle.std.proofs.lemmas.Bool.{cases_Bool as cases}
@@ -10,7 +10,7 @@ use Rattle.design_model.specs.declared.fault.FaultCode.{FaultCode}
 use Rattle.statement_model.specs.Tokens.{Token, tokens}
 use Rattle.statement_model.specs.Boundaries.{words, is_whole}
 use Rattle.statement_model.specs.Folds.{◌>>◌}
-use Rattle.statement_model.specs.Form.{Fits, whole}
+use Rattle.statement_model.specs.Form.{whole}
 use Rattle.statement_model.specs.Grammar.{Key, Grammar}
 use Rattle.statement_model.specs.Reading.{repeats, checked, formed, read_form, unless_repeated, read_one, ended, at_last, read_on, read_from, read_text}
 use Rattle.statement_laws.proofs.Whole.{whole_shows}

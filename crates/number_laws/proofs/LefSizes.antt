@@ -1,5 +1,5 @@
 -- The sizes of the library of LEF texts that read are taken as they are written.
-use Rattle.std.proofs.Common.{◌≡◌, ℕ, ◌+◌, List, [], ◌∷◌, Option, Some, None, Result, Ok, Err, map, refl, ap, ◌∙◌}
+use Rattle.std.proofs.Common.{◌≡◌, ℕ, ◌+◌, List, [], ◌∷◌, Option, Some, None, Result, Ok, Err, map}
 use Rattle.std.specs.List.{All}
 use Rattle.std.specs.Prelude.{IfSome}
 use Rattle.std.specs.Option.{option_map}
@@ -7,13 +7,12 @@ use Rattle.std.proofs.lemmas.List.Elements.{All-nil}
 use Rattle.design_model.specs.Units.{Distance, nearest}
 use Rattle.design_model.specs.declared.fault.Fault.{Fault}
 use Rattle.form_meanings.specs.Firsts.{headed, first_of}
-use Rattle.statement_model.specs.Folds.{◌>>◌}
 use Rattle.lef_grammar.specs.Definitions as lef
 use Rattle.lef_grammar.specs.Definitions.{Distances, distance_read, both_read, whole_read, opened_layer, layer_record, layer_with, layers_of, opened_via, via_record, via_body, via_with, vias_of, opened_rule, inner_record, opened_rule_layer, rule_layer_record, rule_layer_with, rule_with, rules_of}
 use Rattle.lef_grammar.specs.Extents.{is_extent, is_array_count}
 use Rattle.lef_grammar.specs.LayerBlock.{LayerRecord, layer_width, width_of}
 use Rattle.lef_grammar.specs.LefRecords.{LefRecord, outside, in_layer, in_via, in_rule_layer, in_site, in_rule, in_macro, in_pin, in_port, in_kept, read_lef}
-use Rattle.lef_grammar.specs.Library.{Library, empty_library, with_text, LefFault, in_file, library_from}
+use Rattle.lef_grammar.specs.Library.{Library, empty_library, with_text, in_file, library_from}
 use Rattle.lef_grammar.specs.Measures.{point_in}
 use Rattle.lef_grammar.specs.RuleBlock.{RuleLayerRecord, rule_width, rule_width_of}
 use Rattle.lef_grammar.specs.ViaBlock.{ViaRecord, cut_size, cut_spacing, row_col, cut_size_of, cut_spacing_of, row_col_of, rule_of}
@@ -68,10 +67,11 @@ pair_stands u o n =
 
 body_sizes : (o : Option (List ℕ)) (rs : List ViaRecord) → All ViaNumbers rs → BodySizes (via_body o rs)
 body_sizes None rs n = tt
-body_sizes (Some rule) rs n = λ u.
-    (pair_stands u (first_of cut_size_of rs) (first_of_each cut_size_of ViaNumbers (PairPasses is_extent) size_by rs n),
-    pair_stands u (first_of cut_spacing_of rs) (first_of_each cut_spacing_of ViaNumbers (PairPasses is_extent) spacing_by rs n),
-    mapped (λ x. (whole_read x.0, whole_read x.1)) (PairPasses is_array_count) AreCuts (first_of row_col_of rs) counts_stand (first_of_each row_col_of ViaNumbers (PairPasses is_array_count) counts_by rs n))
+body_sizes (Some rule) rs n = λ u. (
+  pair_stands u (first_of cut_size_of rs) (first_of_each cut_size_of ViaNumbers (PairPasses is_extent) size_by rs n),
+  pair_stands u (first_of cut_spacing_of rs) (first_of_each cut_spacing_of ViaNumbers (PairPasses is_extent) spacing_by rs n),
+  mapped (λ x. (whole_read x.0, whole_read x.1)) (PairPasses is_array_count) AreCuts (first_of row_col_of rs) counts_stand (first_of_each row_col_of ViaNumbers (PairPasses is_array_count) counts_by rs n),
+)
 
 abbrev ViaSizes : lef.Via → Type 0
 ViaSizes v = BodySizes v.body

@@ -1,9 +1,8 @@
 -- The statements of a LEF text: what they tell of their numbers, in each block.
-use Rattle.std.proofs.Common.{◌≡◌, inl, inr, ℕ, Bool, true, false, List, [], ◌∷◌, None, Ok, codes}
+use Rattle.std.proofs.Common.{◌≡◌, ℕ, Bool, true, false, List, [], ◌∷◌, None, codes}
 use Rattle.std.proofs.lemmas.List.Elements.{All-weaker}
 use Rattle.statement_model.specs.Form.{Fits, number, ◌◂◌, ◌⨟◌}
-use Rattle.lef_grammar.specs.Extents.{is_distance, is_extent, is_array_count, dec, extent, Point, enclosed, bare, point, Corners, masked, unmasked, two_points, corners, to_end, size_statement, array_count}
-use Rattle.lef_grammar.specs.KeptBlocks.{KeptBlock}
+use Rattle.lef_grammar.specs.Extents.{is_distance, is_extent, is_array_count, Point, enclosed, bare, point, Corners, masked, unmasked, two_points, corners, to_end, size_statement}
 use Rattle.lef_grammar.specs.LayerBlock.{LayerRecord, layer_width, layer_spacing, width_statement, spacing_statement, layer_statement}
 use Rattle.lef_grammar.specs.LefRecords.{Block, LefRecord, outside, in_layer, in_site, in_via, in_rule, in_rule_layer, in_macro, in_pin, in_port, in_kept, lef_statement, lef}
 use Rattle.lef_grammar.specs.LefRecords.Block.{outermost, layer, site, via, rule, rule_layer, macro, pin, port, kept}

@@ -1,8 +1,8 @@
 -- The forms that several sections share: what they tell of their numbers.
 use Rattle.std.proofs.Common.{[], ◌∷◌}
 use Rattle.def_grammar.specs.Clauses.{as_list}
-use Rattle.def_grammar.specs.Parts.{as_point, int, point}
-use Rattle.def_grammar.specs.Points.{two_numbers, coordinate, later_point, points, as_corners, corners, as_polygon, polygon}
+use Rattle.def_grammar.specs.Parts.{as_point, point}
+use Rattle.def_grammar.specs.Points.{two_numbers, later_point, points, as_corners, corners, as_polygon, polygon}
 use Rattle.def_grammar.specs.Regions.{later_corners}
 use Rattle.number_laws.specs.PartNumbers.{PointNumbers, LaterPointNumbers, PointsNumbers, CornersNumbers, LaterCornersNumbers, PolygonNumbers}
 use Rattle.number_laws.proofs.Tells.{Tells, number_tells, behind_tells, before_tells, seq_tells, opt_tells, many_tells, seen_tells}

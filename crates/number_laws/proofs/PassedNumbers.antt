@@ -1,6 +1,5 @@
 -- A word that passes a test of numbers is a number.
-use Rattle.std.proofs.Common.{◌≡◌, ◌⊎◌, inl, inr, ℕ, Bool, true, false, ◌||◌, Result, Ok, Err, List, ℤ, refl, ⊎_elim}
-use Rattle.std.proofs.lemmas.Bool.{cases_Bool as cases}
+use Rattle.std.proofs.Common.{◌≡◌, ◌⊎◌, inl, inr, ℕ, Bool, true, false, ◌||◌, Result, Ok, Err, List, ℤ, refl}
 use Rattle.design_model.specs.declared.number.NumFault.{NumFault}
 use Rattle.design_model.specs.Units.{Distance, distance, whole}
 use Rattle.def_grammar.specs.Limits.{is_copies, is_cuts, is_lines}
@@ -10,7 +9,7 @@ use Rattle.lef_grammar.specs.Definitions.{distance_or_0, whole_or_0}
 use Rattle.lef_grammar.specs.Extents as lef
 use Rattle.lef_grammar.specs.Extents.{is_in_array, is_array_count, is_distance, is_extent}
 use Rattle.number_laws.specs.PartNumbers.{Passes}
-use Rattle.number_laws.specs.TestLaws.{IsNumber, TestsTell, PassedAreNumbers}
+use Rattle.number_laws.specs.TestLaws.{IsNumber, PassedAreNumbers}
 
 number : (t : ℤ → Bool) (r : Result ℤ NumFault) → passes t r ≡ true → r ≡ Ok (number_or_0 r)
 number t (Ok n) e = refl

@@ -1,6 +1,5 @@
 -- The entries of the sections about places, and the statements about the floor: what they tell of their numbers.
 use Rattle.std.proofs.Common.{◌≡◌, ℕ, List, ◌∷◌, None, codes}
-use Rattle.std.specs.Prelude.{IfSome}
 use Rattle.form_meanings.specs.Words.{is_plus, is_semicolon}
 use Rattle.statement_model.specs.Form.{number, one_of, upto, ◌▸◌, ◌⨟◌, many, seen}
 use Rattle.def_grammar.specs.Blockages.{blockage_kind, blockage_clause, BlockageShape, blocked_rectangle, blocked_polygon, blockage_shape, as_blockage, blockage, BlockageEntry, blocks, blockage_kept, blockage_form}

@@ -1,15 +1,14 @@
 -- The statements of a DEF text: what they tell of their numbers, wherever they stand.
-use Rattle.std.proofs.Common.{◌≡◌, inl, inr, ℕ, List, [], ◌∷◌, None, Ok, codes, refl}
-use Rattle.std.specs.List.{All}
+use Rattle.std.proofs.Common.{◌≡◌, ℕ, List, [], None, codes}
 use Rattle.std.proofs.lemmas.List.Elements.{All-weaker}
 use Rattle.design_model.specs.EnumWords.{section_word, sections}
 use Rattle.design_model.specs.declared.mode.Mode.{Mode}
-use Rattle.design_model.specs.declared.mode.Mode.TheVariants.{Top, In, Props, After}
+use Rattle.design_model.specs.declared.mode.Mode.TheVariants.{Top, In, Props}
 use Rattle.design_model.specs.declared.mode.Section.{Section}
 use Rattle.design_model.specs.declared.mode.Section.TheVariants.{Components, Pins, Regions, Groups, Blockages, Nets, SpecialNets, Vias, NonDefaultRules}
 use Rattle.statement_model.specs.Form.{Fits, one_of}
 use Rattle.def_grammar.specs.Numbers.{is_scale, is_count}
-use Rattle.def_grammar.specs.Records.{Entry, component, pin, region, group, blockage, net, special_net, via, rule, skipped, Record, top, in_properties, end_section, entry, entries_form, statement, def, read_def}
+use Rattle.def_grammar.specs.Records.{Entry, component, pin, region, group, blockage, net, special_net, via, rule, skipped, Record, top, in_properties, end_section, entry, entries_form, statement, def}
 use Rattle.def_grammar.specs.Top.{TopRecord, header, units, end_design, properties, extension, die_area, row, tracks, gcell_grid, kept, units_statement, header_statement, floor_statement, plain_statement, top_statement}
 use Rattle.number_laws.specs.PartNumbers.{Passes}
 use Rattle.number_laws.specs.RecordNumbers.{TopNumbers, EntryNumbers, RecordNumbers}

@@ -1,9 +1,8 @@
 -- Numbers that pass their tests are taken as they are.
-use Rattle.std.proofs.Common.{◌≡◌, ℕ, ◌*◌, ◌≤◌, ◌<◌, Bool, true, false, ◌&&◌, nat_lt, nat_le, List, Option, Some, None, Result, Ok, Err, ℤ, pos, negsuc, nat_abs, refl, sym, ap, ◌∙◌, arith, ⊎_elim, if◌then◌else◌}
+use Rattle.std.proofs.Common.{◌≡◌, ℕ, ◌*◌, ◌≤◌, ◌<◌, Bool, true, false, ◌&&◌, nat_lt, nat_le, List, Result, Ok, Err, ℤ, pos, negsuc, nat_abs, refl, arith, ⊎_elim, if◌then◌else◌}
 use Rattle.std.specs.Int.Signed.{le_z}
-use Rattle.std.specs.Prelude.{IfSome, int_lt}
-use Rattle.std.specs.Option.{option_map}
-use Rattle.std.proofs.Math.Nat.{mul-le-mul, le-mul_of_pos_right}
+use Rattle.std.specs.Prelude.{int_lt}
+use Rattle.std.proofs.Math.Nat.{le-mul_of_pos_right}
 use Rattle.std.proofs.lemmas.Bool.{leb-true, ltb-true, le-leb, lt-ltb, cases_Bool as cases}
 use Rattle.std.proofs.Math.Dec.{leb-zero}
 use Rattle.design_model.specs.declared.geometry.Point.{Point}
@@ -13,7 +12,7 @@ use Rattle.def_grammar.specs.Limits.{is_size, is_copies, is_array, is_cuts}
 use Rattle.def_grammar.specs.Numbers.{passes, number_or_0, int_of, is_count}
 use Rattle.def_grammar.specs.Parts.{Coordinates}
 use Rattle.def_grammar.specs.Points.{place_of}
-use Rattle.lef_grammar.specs.Definitions.{Distances, distance_or_0, distance_read, whole_or_0, whole_read, both_read}
+use Rattle.lef_grammar.specs.Definitions.{distance_or_0, distance_read, whole_or_0, whole_read, both_read}
 use Rattle.lef_grammar.specs.Extents as lef
 use Rattle.lef_grammar.specs.Extents.{is_extent, is_in_array, is_array_count}
 use Rattle.lef_grammar.specs.Measures.{point_in}

@@ -1,10 +1,10 @@
 -- What a form tells of the numbers of a value none of which is bad.
-use Rattle.std.proofs.Common.{◌≡◌, ◌⊎◌, inl, inr, ℕ, ◌+◌, Bool, true, false, List, [], ◌∷◌, ◌++◌, length, Option, Some, None, refl, if◌then◌else◌}
+use Rattle.std.proofs.Common.{◌≡◌, ℕ, ◌+◌, Bool, true, false, List, [], ◌∷◌, ◌++◌, length, Option, Some, None, refl, if◌then◌else◌}
 use Rattle.std.specs.Prelude.{IfSome}
 use Rattle.std.specs.List.{All}
 use Rattle.std.specs.Option.{option_or}
 use Rattle.std.proofs.lemmas.List.Elements.{All-nil, All-cons}
-use Rattle.form_meanings.specs.Meaning.{Seen, Meaning, spell_all, bad_of_all, number_meaning, behind_meaning, before_meaning, closed_meaning, seq_meaning, alt_meaning, opt_meaning, many_meaning, seen_meaning, limited_meaning}
+use Rattle.form_meanings.specs.Meaning.{Seen, Meaning, spell_all, bad_of_all, number_meaning, behind_meaning, before_meaning, closed_meaning, seq_meaning, opt_meaning, many_meaning, seen_meaning, limited_meaning}
 use Rattle.number_laws.specs.PartNumbers.{Passes}
 
 -- where none of a value's numbers is bad, whatever stands after it, this holds of the value

@@ -1,5 +1,5 @@
 -- The width of a wire of NETS is as it is written.
-use Rattle.std.proofs.Common.{◌≡◌, ℕ, List, Option, Some, None, Ok, ℤ, pos, refl}
+use Rattle.std.proofs.Common.{ℕ, List, Option, Some, None, ℤ, refl}
 use Rattle.std.specs.List.{All}
 use Rattle.std.specs.Prelude.{IfSome}
 use Rattle.std.specs.Option.{option_map}
@@ -10,7 +10,7 @@ use Rattle.lef_grammar.specs.Definitions as lef
 use Rattle.lef_grammar.specs.Library.{Library, layer_named, rule_named}
 use Rattle.lef_grammar.specs.Measures.{width_in}
 use Rattle.def_grammar.specs.Numbers.{int_of}
-use Rattle.def_grammar.specs.Records.{Entry, rule, Record, entry, entry_of}
+use Rattle.def_grammar.specs.Records.{rule, Record, entry, entry_of}
 use Rattle.def_grammar.specs.Rules.{Rule, RuleLayer}
 use Rattle.entry_rules.specs.References.{rule_layers}
 use Rattle.entry_rules.specs.ViaLayers.{rule_of_entry, def_rules, def_rule_named}

@@ -5,8 +5,8 @@ use Rattle.std.proofs.lemmas.List.Elements.{All-nil, All-cons}
 use Rattle.form_meanings.specs.Words.{is_plus}
 use Rattle.statement_model.specs.Form.{Form, empty, ◌⨟◌, opt, many, on}
 use Rattle.def_grammar.specs.Clauses.{as_list, mask}
-use Rattle.def_grammar.specs.DefVias.{plus_mask, as_via_rectangle, via_rectangle, via_has_rectangle, via_has_polygon, via_rule, cut_size, on_layers, cut_spacing, enclosure, row_col, via_origin, via_offset, via_kept, ViaPolygon, MaskedOrNot, via_polygon, as_by_layer, by_layer, as_cut_array, cut_array, two_sizes, ViaClause, via_array_clause, generated_clause, via_clause, as_def_via, def_via_form}
-use Rattle.def_grammar.specs.Limits.{is_size, is_array}
+use Rattle.def_grammar.specs.DefVias.{plus_mask, as_via_rectangle, via_rectangle, via_has_rectangle, via_has_polygon, via_rule, cut_size, on_layers, cut_spacing, enclosure, row_col, via_origin, via_offset, via_kept, via_polygon, as_by_layer, by_layer, as_cut_array, cut_array, two_sizes, ViaClause, via_array_clause, generated_clause, via_clause, as_def_via, def_via_form}
+use Rattle.def_grammar.specs.Limits.{is_size}
 use Rattle.def_grammar.specs.Numbers.{is_int}
 use Rattle.def_grammar.specs.Terminals.{terminal}
 use Rattle.def_grammar.specs.Nets.{NetClause, net_subnet, net_use, net_rule, net_wiring, net_kept, net_listed, net_clause, as_net, net, NetEntry, must_join, is_net, net_form}
@@ -14,10 +14,10 @@ use Rattle.def_grammar.specs.Parts.{Coordinates, as_point, name, rest}
 use Rattle.def_grammar.specs.Points.{is_open, points, as_corners, corners, polygon}
 use Rattle.def_grammar.specs.Rules.{as_rule_layer, rule_layer, RuleClause, rule_has_layer, rule_kept, rule_clause, as_rule, rule_form}
 use Rattle.def_grammar.specs.SpecialNets.{as_placed_via, placed_via, SpecialClause, special_subnet, special_use, special_shape_word, special_mask, special_rectangle, special_vias, special_polygon, special_has_wiring, special_kept, special_shape, special_listed, special_clause, as_special_net, special_net_form}
-use Rattle.def_grammar.specs.Wiring.{extension, as_wire_point, wire_start, wire_point, wire_rectangle, wire_via, as_via_array, array_size, via_array, as_special_via, special_via, PathItem, path_mask, path_virtual, path_rectangle, path_point, path_via, path_item, as_path, taper, wiring_status, net_item, special_item, net_path, special_path, as_wire, wire, WireMark, wire_shape, wire_style, wire_mask, wire_mark, as_special_wire, special_wire, new_wire, new_special_wire, as_wiring, wiring, as_special_wiring, special_wires, special_wiring}
+use Rattle.def_grammar.specs.Wiring.{as_wire_point, wire_start, wire_point, wire_rectangle, wire_via, as_via_array, array_size, via_array, as_special_via, special_via, PathItem, path_mask, path_virtual, path_rectangle, path_point, path_via, path_item, as_path, taper, wiring_status, net_item, special_item, net_path, special_path, as_wire, wire, WireMark, wire_shape, wire_style, wire_mask, wire_mark, as_special_wire, special_wire, new_wire, new_special_wire, as_wiring, wiring, as_special_wiring, special_wires, special_wiring}
 use Rattle.number_laws.specs.PartNumbers.{Passes, BothPass, PointsNumbers, CornersNumbers, PolygonNumbers}
 use Rattle.number_laws.specs.WireNumbers.{StartNumbers, WirePointNumbers, PatchNumbers, ViaArrayNumbers, NetViaNumbers, SpecialViaNumbers, ItemNumbers, PathNumbers, WireNumbers, MarkNumbers, SpecialWireNumbers, WiringNumbers, NetClauseNumbers, NetNumbers, NetEntryNumbers, PlacedViaNumbers, SpecialWiringNumbers, SpecialClauseNumbers, SpecialNetNumbers, ByLayerNumbers, CutArrayNumbers, ViaClauseNumbers, DefViaNumbers, RuleClauseNumbers, RuleNumbers}
-use Rattle.number_laws.proofs.Tells.{Tells, nothing_tells, number_tells, behind_tells, before_tells, closed_tells, seq_tells, opt_tells, many_tells, seen_tells, limited_tells}
+use Rattle.number_laws.proofs.Tells.{Tells, nothing_tells, number_tells, behind_tells, before_tells, seq_tells, opt_tells, many_tells, seen_tells, limited_tells}
 use Rattle.number_laws.proofs.PartTells.{point_tells, two_numbers_tell, later_point_tells, points_tell, corners_tell, polygon_tells}
 
 wire_start_tells : Tells wire_start.of StartNumbers

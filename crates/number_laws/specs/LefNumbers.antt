@@ -1,5 +1,5 @@
 -- What the numbers of the records of a LEF text pass: each number-valued word the test that its form asks for there.
-use Rattle.std.specs.Prelude.{◌≡◌, ℕ, Bool, List}
+use Rattle.std.specs.Prelude.{ℕ, Bool, List}
 use Rattle.lef_grammar.specs.Extents.{is_distance, is_extent, is_array_count, Point, coordinates, Corners, masked, unmasked}
 use Rattle.lef_grammar.specs.LayerBlock.{LayerRecord, layer_width, layer_spacing}
 use Rattle.lef_grammar.specs.LefRecords.{LefRecord, in_layer, in_site, in_via, in_rule_layer, in_macro, in_port}

@@ -1,5 +1,5 @@
 -- What the numbers of the entries about places, and of the statements about the floor, pass, by the tests of their forms.
-use Rattle.std.specs.Prelude.{◌≡◌, ℕ, true, List, IfSome}
+use Rattle.std.specs.Prelude.{◌≡◌, true, IfSome}
 use Rattle.std.specs.List.{All}
 use Rattle.def_grammar.specs.Limits.{is_size, is_lines, is_in_range}
 use Rattle.def_grammar.specs.Numbers.{is_int, is_count}

@@ -1,6 +1,4 @@
 -- What the numbers of the records of a DEF text pass: each number-valued word the test that its form asks for there.
-use Rattle.std.specs.Prelude.{List}
-use Rattle.design_model.specs.declared.mode.Section.{Section}
 use Rattle.def_grammar.specs.Numbers.{is_scale, is_count}
 use Rattle.def_grammar.specs.Records.{Entry, component, pin, region, group, blockage, net, special_net, via, rule, skipped, Record, top, in_properties, end_section, entry}
 use Rattle.def_grammar.specs.Top.{TopRecord, header, units, end_design, properties, extension, die_area, row, tracks, gcell_grid, kept}
