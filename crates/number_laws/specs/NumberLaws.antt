@@ -26,3 +26,7 @@ DefNumbersPass = (text : List ℕ) (recs : List Record) → read_def text ≡ Ok
 -- So do those of each record of a LEF text.
 abbrev pub LefNumbersPass : Type 0
 LefNumbersPass = (text : List ℕ) (recs : List LefRecord) → read_lef text ≡ Ok recs → All LefRecordNumbers recs
+
+-- A record whose numbers pass has no bad number, wherever it stands: none is left out of what they are to pass.
+abbrev pub NoneIsLeftOut : {M R : Type 0} → Grammar M R → (R → Type 0) → Type 0
+NoneIsLeftOut {M = M} {R = R} g Numbers = (m : M) (r : R) → Numbers r → (g.form m).of.bad r [] ≡ None
