@@ -1,15 +1,15 @@
 -- The entries of the sections about places, and the statements about the floor: what they tell of their numbers.
 use Rattle.std.proofs.Common.{◌≡◌, ℕ, List, ◌∷◌, None, codes, refl}
 use Rattle.form_meanings.specs.Words.{is_plus, is_semicolon}
-use Rattle.statement_model.specs.Form.{number, one_of, upto, ◌▸◌, ◌⨟◌, many, seen}
+use Rattle.statement_model.specs.Form.{number, ◌▸◌, ◌⨟◌, seen}
 use Rattle.def_grammar.specs.Blockages.{blockage_kind, blockage_clause, BlockageShape, blocked_rectangle, blocked_polygon, blockage_shape, as_blockage, blockage, BlockageEntry, blocks, blockage_kept, blockage_form}
-use Rattle.def_grammar.specs.Clauses.{as_kept_clause, kept_clause}
+use Rattle.def_grammar.specs.Clauses.{as_kept_clause}
 use Rattle.def_grammar.specs.Components.{Clause, placed, unplaced, region, other, placement, clause, as_component, component_form}
 use Rattle.def_grammar.specs.DieArea.{as_die_area, die_area_statement}
 use Rattle.def_grammar.specs.Grids.{axis_word, axes, is_within_range, as_tracks, tracks_statement, as_grid_lines, grid_lines, as_gcell_grid, gcell_grid_statement}
 use Rattle.def_grammar.specs.Limits.{is_size, is_lines}
 use Rattle.def_grammar.specs.Numbers.{is_int}
-use Rattle.def_grammar.specs.Parts.{name, int, rest, orient}
+use Rattle.def_grammar.specs.Parts.{int}
 use Rattle.def_grammar.specs.Pins.{Clearance, spacing, design_rule_width, no_clearance, clearance, as_pin_rectangle, pin_rectangle, as_pin_via, pin_via, PinClause, pin_placed, pin_net, pin_port, pin_has_rectangle, pin_has_via, pin_has_polygon, pin_kept, pin_shape, pin_clause, as_pin, pin_form}
 use Rattle.def_grammar.specs.Regions.{region_kind_word, region_kinds, as_region, region_clause, region_form}
 use Rattle.def_grammar.specs.Rows.{as_site_array, site_array, as_row, row_clause, row_statement}

@@ -21,7 +21,7 @@ use Rattle.number_laws.specs.RecordNumbers.{TopNumbers, EntryNumbers, RecordNumb
 use Rattle.number_laws.specs.NumberLaws.{HasNoBadNumber, DefNumbersPass, NoneIsLeftOut}
 use Rattle.number_laws.proofs.GoodRecords.{no_number_is_bad}
 use Rattle.number_laws.proofs.PlaceTells.{component_form_tells, pin_form_tells, region_form_tells, blockage_form_tells, die_area_tells, row_tells, tracks_tell, gcell_grid_tells}
-use Rattle.number_laws.proofs.Tells.{Tells, NoNumbers, empty_tells, word_tells, one_of_tells, upto_tells, number_tells, behind_tells, before_tells, seq_tells, alt_tells, many_none, seen_tells}
+use Rattle.number_laws.proofs.Tells.{Tells, NoNumbers, word_tells, one_of_tells, number_tells, behind_tells, before_tells, seq_tells, alt_tells, many_none, seen_tells}
 use Rattle.number_laws.proofs.WireTells.{net_form_tells, special_net_form_tells, def_via_form_tells, rule_form_tells}
 
 units_tell : Tells units_statement.of (Passes is_scale)

@@ -3,14 +3,14 @@ use Rattle.std.proofs.Common.{◌≡◌, ℕ, List, [], ◌∷◌, Option, Some,
 use Rattle.std.specs.List.{All}
 use Rattle.std.proofs.lemmas.List.Elements.{All-nil, All-cons, All-head, All-tail}
 use Rattle.form_meanings.specs.Words.{is_place, is_plain, is_plus}
-use Rattle.statement_model.specs.Form.{Form, empty, ◌⨟◌, opt, many, on}
-use Rattle.def_grammar.specs.Clauses.{as_list, as_flag, kept_clause}
+use Rattle.statement_model.specs.Form.{Form, empty, ◌⨟◌, many, on}
+use Rattle.def_grammar.specs.Clauses.{as_list, as_flag}
 use Rattle.def_grammar.specs.DefVias.{plus_mask, as_via_rectangle, via_rectangle, via_has_rectangle, via_has_polygon, via_rule, cut_size, on_layers, cut_spacing, enclosure, row_col, via_origin, via_offset, via_kept, via_polygon, as_by_layer, by_layer, as_cut_array, cut_array, two_sizes, as_via_layers, via_layers, ViaClause, via_array_clause, generated_clause, via_clause, as_def_via, def_via_form}
 use Rattle.def_grammar.specs.Limits.{is_size}
 use Rattle.def_grammar.specs.Numbers.{is_int}
 use Rattle.def_grammar.specs.Terminals.{synthesized, as_terminal, terminal}
 use Rattle.def_grammar.specs.Nets.{NetClause, net_subnet, net_use, net_rule, net_wiring, net_kept, net_listed, net_clause, as_net, net, NetEntry, must_join, is_net, net_form}
-use Rattle.def_grammar.specs.Parts.{Coordinates, as_point, name, rest}
+use Rattle.def_grammar.specs.Parts.{Coordinates, as_point, name}
 use Rattle.def_grammar.specs.Points.{is_open, points, as_corners, corners, polygon}
 use Rattle.def_grammar.specs.Rules.{as_rule_layer, rule_layer, RuleClause, rule_has_layer, rule_kept, rule_clause, as_rule, rule_form}
 use Rattle.def_grammar.specs.SpecialNets.{as_placed_via, placed_via, SpecialClause, special_subnet, special_use, special_shape_word, special_mask, special_rectangle, special_vias, special_polygon, special_has_wiring, special_kept, special_shape, special_listed, special_clause, as_special_net, special_net_form}
