@@ -137,10 +137,11 @@ impl<'t> Part<'t> for LaterPoint<'t> {
         is_open(word)
     }
 
+    #[tactic(auto, unfolding(def_grammar::specs::Points::later_point))]
     fn read(cursor: Cursor<'t>) -> Option<(LaterPoint<'t>, Cursor<'t>)>
         ensures gives { Gives (with_rest later_view) result (read later_point (rest_of cursor.entry)) }
         ensures later { IfSome result (λ x. IsLater cursor.entry x.1) }
-        ensures left { IfSome result (λ x. pieces_of x.1.tokens ≡ past 4 (pieces_of cursor.entry.tokens)) }
+        ensures left { IfSome result (λ x. pieces_of x.1.tokens ≡ behind (spell later_point (later_view x.0)) (pieces_of cursor.entry.tokens)) }
         ensures lent { IfSome result (λ x. LaterAt (pieces_of cursor.entry.tokens) x.0) }
     {
         later_point_at(cursor)
@@ -162,7 +163,7 @@ pub fn corners_at<'t>(cursor: Cursor<'t>) -> Option<(Corners<'t>, Cursor<'t>)>
 }
 
 /// Three points and more
-#[tactic(auto, unfolding(def_grammar::specs::Points::polygon))]
+#[tactic(auto, unfolding(def_grammar::specs::Points::polygon, def_grammar::specs::Points::later_point, def_grammar::specs::Parts::point))]
 pub fn polygon_at<'t>(cursor: Cursor<'t>) -> Option<(Polygon<'t>, Cursor<'t>)>
     ensures gives { Gives (with_rest polygon_view) result (read polygon (rest_of cursor.entry)) }
     ensures later { IfSome result (λ x. IsLater cursor.entry x.1) }
