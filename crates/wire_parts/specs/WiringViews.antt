@@ -3,7 +3,7 @@ use Rattle.std.specs.Prelude.{List, Option, codes, IfSome}
 use Rattle.std.specs.Option.{option_map}
 use Rattle.form_meanings.specs.Words.{is_plus}
 use Rattle.form_meanings.specs.Meaning.{items, spell_all}
-use Rattle.statement_model.specs.Form.{on, opt_on, read, spell}
+use Rattle.statement_model.specs.Form.{empty, on, opt_on, read, spell}
 use Rattle.statement_model.specs.Tokens.{Token}
 use Rattle.def_grammar.specs.Clauses.{list_of}
 use Rattle.def_grammar.specs.Parts.{int, name}
@@ -109,8 +109,11 @@ abbrev pub SpecialWireAt : List Token → code_special.SpecialWire → Type 0
 SpecialWireAt ps w = StandsAt ps w.layer × StandsAt (past 1 ps) w.width × PartsAt (past 2 ps) w.marks × PathAt (behind (spell_all (spell wire_mark) (marks_of w.marks)) (past 2 ps)) w.path
 
 -- behind the clause's word
+abbrev pub behind_word : code_kind.WiringKind → List Token → List Token
+behind_word kind ps = behind (spell (on (codes "NOSHIELD") empty wiring_status) (kind_view kind)) ps
+
 abbrev pub WiringAt : List Token → code_wiring.Wiring → Type 0
-WiringAt ps w = WireAt (past 1 ps) w.first × PartsAt (behind (spell wire (wire_view w.first)) (past 1 ps)) w.others
+WiringAt ps w = WireAt (behind_word w.kind ps) w.first × PartsAt (behind (spell wire (wire_view w.first)) (behind_word w.kind ps)) w.others
 
 abbrev pub SpecialKindAt : List Token → code_special_kind.SpecialWiringKind → Type 0
 SpecialKindAt ps (special_kinds.Shield net) = StandsAt (past 1 ps) net

@@ -161,7 +161,7 @@ impl<'t> Part<'t> for NetClause<'t> {
 }
 
 /// `name terminal* (+ clause)*`
-#[tactic(auto, unfolding(def_grammar::specs::Nets::net))]
+#[tactic(auto, unfolding(def_grammar::specs::Nets::net), using(lefdef_tokens::proofs::PlaceLemmas::behind_append))]
 fn net_at<'t>(cursor: Cursor<'t>) -> Option<(NetParts<'t>, Cursor<'t>)>
     ensures gives { Gives (with_rest net_view) result (read net (rest_of cursor.entry)) }
     ensures later { IfSome result (λ x. IsLater cursor.entry x.1) }
@@ -196,7 +196,7 @@ fn must_join_or_net_at<'t>(cursor: Cursor<'t>) -> Option<(NetEntry<'t>, Cursor<'
 }
 
 /// `- MUSTJOIN any* ;`, or `- name terminal* (+ clause)* ;`
-#[tactic(auto, unfolding(def_grammar::specs::Nets::net_form))]
+#[tactic(auto, unfolding(def_grammar::specs::Nets::net_form), using(lefdef_tokens::proofs::PlaceLemmas::behind_append))]
 #[inline(never)]
 pub fn net_entry_at<'t>(cursor: Cursor<'t>) -> Option<(NetEntry<'t>, Cursor<'t>)>
     ensures gives { Gives (with_rest net_entry_view) result (read net_form (rest_of cursor.entry)) }

@@ -217,7 +217,7 @@ fn wire_point_at<'t>(cursor: Cursor<'t>) -> Option<(WirePoint<'t>, Cursor<'t>)>
 }
 
 /// `( x1 y1 x2 y2 )`
-#[tactic(auto, unfolding(def_grammar::specs::Wiring::wire_rectangle))]
+#[tactic(auto, unfolding(def_grammar::specs::Wiring::wire_rectangle, def_grammar::specs::Points::two_numbers))]
 fn wire_rectangle_at<'t>(cursor: Cursor<'t>) -> Option<(Corners<'t>, Cursor<'t>)>
     ensures gives { Gives (with_rest corners_view) result (read wire_rectangle (rest_of cursor.entry)) }
     ensures later { IfSome result (λ x. IsLater cursor.entry x.1) }
@@ -327,7 +327,7 @@ fn array_size_at<'t>(cursor: Cursor<'t>) -> Option<((Token<'t>, Token<'t>), Curs
 }
 
 /// `columns BY rows STEP x y`, after `DO`
-#[tactic(auto, unfolding(def_grammar::specs::Wiring::via_array))]
+#[tactic(auto, unfolding(def_grammar::specs::Wiring::via_array, def_grammar::specs::Wiring::array_size, def_grammar::specs::Points::two_numbers))]
 fn via_array_at<'t>(cursor: Cursor<'t>) -> Option<(ViaArray<'t>, Cursor<'t>)>
     ensures gives { Gives (with_rest via_array_view) result (read via_array (rest_of cursor.entry)) }
     ensures later { IfSome result (λ x. IsLater cursor.entry x.1) }
@@ -345,7 +345,7 @@ fn via_array_at<'t>(cursor: Cursor<'t>) -> Option<(ViaArray<'t>, Cursor<'t>)>
 }
 
 /// `name [orient] [DO columns BY rows STEP x y]`
-#[tactic(auto, unfolding(def_grammar::specs::Wiring::special_via))]
+#[tactic(auto, unfolding(def_grammar::specs::Wiring::special_via), using(lefdef_tokens::proofs::PlaceLemmas::behind_append))]
 pub fn special_via_at<'t>(cursor: Cursor<'t>) -> Option<(SpecialVia<'t>, Cursor<'t>)>
     ensures gives { Gives (with_rest special_via_view) result (read special_via (rest_of cursor.entry)) }
     ensures later { IfSome result (λ x. IsLater cursor.entry x.1) }
@@ -406,6 +406,7 @@ fn mask_item_at<'t, V: PathVia<'t>>(cursor: Cursor<'t>) -> Option<(PathItem<'t, 
 }
 
 /// `VIRTUAL ( x y )`, a point without wire
+#[tactic(auto, unfolding(def_grammar::specs::Points::later_point))]
 #[inline(always)]
 fn virtual_item_at<'t, V: PathVia<'t>>(cursor: Cursor<'t>) -> Option<(PathItem<'t, V>, Cursor<'t>)>
     ensures gives { Gives (with_rest (item_view V.view)) result (read (right (left (codes "VIRTUAL" ▸ later_point))) (rest_of cursor.entry)) }
@@ -418,6 +419,7 @@ fn virtual_item_at<'t, V: PathVia<'t>>(cursor: Cursor<'t>) -> Option<(PathItem<'
 }
 
 /// `RECT ( x1 y1 x2 y2 )`
+#[tactic(auto, unfolding(def_grammar::specs::Wiring::wire_rectangle))]
 #[inline(always)]
 fn rectangle_item_at<'t, V: PathVia<'t>>(
     cursor: Cursor<'t>,
@@ -550,7 +552,7 @@ impl<'t, V: PathVia<'t>> UsualPart<'t> for PathItem<'t, V> {
 }
 
 /// `[MASK word]`, the first point, and what the path goes on with
-#[tactic(auto, unfolding(def_grammar::specs::Wiring::net_path, def_grammar::specs::Wiring::net_item))]
+#[tactic(auto, unfolding(def_grammar::specs::Wiring::net_path, def_grammar::specs::Wiring::net_item), using(lefdef_tokens::proofs::PlaceLemmas::behind_append))]
 #[inline(always)]
 pub fn net_path_at<'t>(cursor: Cursor<'t>) -> Option<(Path<'t, WireVia<'t>>, Cursor<'t>)>
     ensures gives { Gives (with_rest net_path_view) result (read net_path (rest_of cursor.entry)) }
@@ -565,7 +567,7 @@ pub fn net_path_at<'t>(cursor: Cursor<'t>) -> Option<(Path<'t, WireVia<'t>>, Cur
 }
 
 /// What comes after a path whose points have few digits and whose other items are vias; `None` says nothing.
-#[tactic(auto, unfolding(def_grammar::specs::Wiring::net_path, def_grammar::specs::Wiring::net_item))]
+#[tactic(auto, unfolding(def_grammar::specs::Wiring::net_path, def_grammar::specs::Wiring::net_item), using(lefdef_tokens::proofs::PlaceLemmas::behind_append))]
 #[inline(always)]
 pub(crate) fn usual_net_path_past<'t>(cursor: Cursor<'t>) -> Option<Cursor<'t>>
     ensures gives { Finds rest_of result (left_after (read net_path (rest_of cursor.entry))) }
@@ -578,7 +580,7 @@ pub(crate) fn usual_net_path_past<'t>(cursor: Cursor<'t>) -> Option<Cursor<'t>>
 }
 
 /// `[MASK word]`, the first point, and what the path of a special net goes on with
-#[tactic(auto, unfolding(def_grammar::specs::Wiring::special_path, def_grammar::specs::Wiring::special_item))]
+#[tactic(auto, unfolding(def_grammar::specs::Wiring::special_path, def_grammar::specs::Wiring::special_item), using(lefdef_tokens::proofs::PlaceLemmas::behind_append))]
 pub fn special_path_at<'t>(cursor: Cursor<'t>) -> Option<(Path<'t, SpecialVia<'t>>, Cursor<'t>)>
     ensures gives { Gives (with_rest special_path_view) result (read special_path (rest_of cursor.entry)) }
     ensures later { IfSome result (λ x. IsLater cursor.entry x.1) }

@@ -57,7 +57,7 @@ pub struct SpecialNetParts<'t> {
 }
 
 /// `name [orient] point+`, after `VIA`
-#[tactic(auto, unfolding(def_grammar::specs::SpecialNets::placed_via))]
+#[tactic(auto, unfolding(def_grammar::specs::SpecialNets::placed_via, def_grammar::specs::Parts::point), using(lefdef_tokens::proofs::PlaceLemmas::behind_append))]
 fn placed_via_at<'t>(cursor: Cursor<'t>) -> Option<(PlacedVia<'t>, Cursor<'t>)>
     ensures gives { Gives (with_rest placed_via_view) result (read placed_via (rest_of cursor.entry)) }
     ensures later { IfSome result (λ x. IsLater cursor.entry x.1) }
@@ -71,6 +71,7 @@ fn placed_via_at<'t>(cursor: Cursor<'t>) -> Option<(PlacedVia<'t>, Cursor<'t>)>
 }
 
 /// `RECT layer ..`
+#[tactic(auto, unfolding(def_grammar::specs::Points::corners, def_grammar::specs::Points::later_point, def_grammar::specs::Parts::point))]
 fn rectangle_clause_at<'t>(cursor: Cursor<'t>) -> Option<(SpecialClause<'t>, Cursor<'t>)>
     ensures gives { Gives (with_rest special_clause_view) result (read (of_shape (left (codes "RECT" ▸ name ⨟ corners))) (rest_of cursor.entry)) }
     ensures later { IfSome result (λ x. IsLater cursor.entry x.1) }
@@ -267,7 +268,7 @@ impl<'t> Part<'t> for SpecialClause<'t> {
 }
 
 /// `- name terminal* (+ clause)* ;`
-#[tactic(auto, unfolding(def_grammar::specs::SpecialNets::special_net_form))]
+#[tactic(auto, unfolding(def_grammar::specs::SpecialNets::special_net_form), using(lefdef_tokens::proofs::PlaceLemmas::behind_append))]
 #[inline(never)]
 pub fn special_net_at<'t>(cursor: Cursor<'t>) -> Option<(SpecialNetParts<'t>, Cursor<'t>)>
     ensures gives { Gives (with_rest special_net_view) result (read special_net_form (rest_of cursor.entry)) }

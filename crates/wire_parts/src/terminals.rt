@@ -65,7 +65,7 @@ fn synthesized_at<'t>(cursor: Cursor<'t>) -> Option<(bool, Cursor<'t>)>
 }
 
 /// `( owner pin [+ SYNTHESIZED] )`
-#[tactic(auto, unfolding(def_grammar::specs::Terminals::terminal))]
+#[tactic(auto, unfolding(def_grammar::specs::Terminals::terminal), using(lefdef_tokens::proofs::PlaceLemmas::behind_append))]
 #[inline(always)]
 pub fn terminal_at<'t>(cursor: Cursor<'t>) -> Option<(Terminal<'t>, Cursor<'t>)>
     ensures gives { Gives (with_rest terminal_view) result (read terminal (rest_of cursor.entry)) }

@@ -174,7 +174,7 @@ fn style_at<'t>(cursor: Cursor<'t>) -> Option<(Option<Token<'t>>, Cursor<'t>)>
 }
 
 /// `layer [TAPER | TAPERRULE rule] [STYLE number] path`
-#[tactic(auto, unfolding(def_grammar::specs::Wiring::wire))]
+#[tactic(auto, unfolding(def_grammar::specs::Wiring::wire), using(lefdef_tokens::proofs::PlaceLemmas::behind_append))]
 #[inline(always)]
 pub fn wire_at<'t>(cursor: Cursor<'t>) -> Option<(Wire<'t>, Cursor<'t>)>
     ensures gives { Gives (with_rest wire_view) result (read wire (rest_of cursor.entry)) }
@@ -244,7 +244,7 @@ impl<'t> Part<'t> for Wire<'t> {
 }
 
 /// What comes after `NEW` and a wire with a usual path; `None` says nothing.
-#[tactic(auto, unfolding(def_grammar::specs::Wiring::new_wire, def_grammar::specs::Wiring::wire))]
+#[tactic(auto, unfolding(def_grammar::specs::Wiring::new_wire, def_grammar::specs::Wiring::wire), using(lefdef_tokens::proofs::PlaceLemmas::behind_append))]
 #[inline(always)]
 fn usual_wire_past<'t>(cursor: Cursor<'t>) -> Option<Cursor<'t>>
     ensures begins { IfSome result (λ x. next_passes is_new (rest_of cursor.entry) ≡ true) }
@@ -274,10 +274,11 @@ impl<'t> UsualPart<'t> for Wire<'t> {
 }
 
 /// `NOSHIELD`, or a status
+#[tactic(auto, unfolding(def_grammar::specs::Wiring::wiring_status))]
 fn wiring_kind_at<'t>(cursor: Cursor<'t>) -> Option<(WiringKind, Cursor<'t>)>
     ensures gives { Gives (with_rest kind_view) result (read (on (codes "NOSHIELD") empty wiring_status) (rest_of cursor.entry)) }
     ensures later { IfSome result (λ x. IsLater cursor.entry x.1) }
-    ensures left { IfSome result (λ x. pieces_of x.1.tokens ≡ past 1 (pieces_of cursor.entry.tokens)) }
+    ensures left { IfSome result (λ x. pieces_of x.1.tokens ≡ behind (spell (on (codes "NOSHIELD") empty wiring_status) (kind_view x.0)) (pieces_of cursor.entry.tokens)) }
 {
     if cursor.next_is(b"NOSHIELD") {
         let cursor = cursor.key(b"NOSHIELD")?;
@@ -289,7 +290,7 @@ fn wiring_kind_at<'t>(cursor: Cursor<'t>) -> Option<(WiringKind, Cursor<'t>)>
 }
 
 /// `(ROUTED | FIXED | COVER | NOSHIELD) wire (NEW wire)*`
-#[tactic(auto, unfolding(def_grammar::specs::Wiring::wiring))]
+#[tactic(auto, unfolding(def_grammar::specs::Wiring::wiring), using(lefdef_tokens::proofs::PlaceLemmas::behind_append))]
 #[inline(always)]
 pub fn wiring_at<'t>(cursor: Cursor<'t>) -> Option<(Wiring<'t>, Cursor<'t>)>
     ensures gives { Gives (with_rest wiring_view) result (read wiring (rest_of cursor.entry)) }
@@ -395,7 +396,7 @@ impl<'t> Part<'t> for WireMark<'t> {
 }
 
 /// `layer width mark* path`
-#[tactic(auto, unfolding(def_grammar::specs::Wiring::special_wire))]
+#[tactic(auto, unfolding(def_grammar::specs::Wiring::special_wire), using(lefdef_tokens::proofs::PlaceLemmas::behind_append))]
 pub fn special_wire_at<'t>(cursor: Cursor<'t>) -> Option<(SpecialWire<'t>, Cursor<'t>)>
     ensures gives { Gives (with_rest special_wire_view) result (read special_wire (rest_of cursor.entry)) }
     ensures later { IfSome result (λ x. IsLater cursor.entry x.1) }
@@ -463,6 +464,7 @@ impl<'t> Part<'t> for SpecialWire<'t> {
 }
 
 /// `swire (NEW swire)*`
+#[tactic(auto, using(lefdef_tokens::proofs::PlaceLemmas::behind_append))]
 fn wires_of_clause_at<'t>(cursor: Cursor<'t>) -> Option<(SpecialWires<'t>, Cursor<'t>)>
     ensures gives { Gives (with_rest first_and_others) result (read (special_wire ⨟ many is_new new_special_wire) (rest_of cursor.entry)) }
     ensures later { IfSome result (λ x. IsLater cursor.entry x.1) }
@@ -501,6 +503,7 @@ fn special_wires_at<'t>(cursor: Cursor<'t>) -> Option<(Option<SpecialWires<'t>>,
 }
 
 /// `SHIELD net`, or a status
+#[tactic(auto, unfolding(def_grammar::specs::Wiring::wiring_status))]
 fn special_kind_at<'t>(cursor: Cursor<'t>) -> Option<(SpecialWiringKind<'t>, Cursor<'t>)>
     ensures gives { Gives (with_rest special_kind_view) result (read (on (codes "SHIELD") name wiring_status) (rest_of cursor.entry)) }
     ensures later { IfSome result (λ x. IsLater cursor.entry x.1) }
@@ -517,7 +520,7 @@ fn special_kind_at<'t>(cursor: Cursor<'t>) -> Option<(SpecialWiringKind<'t>, Cur
 }
 
 /// `(ROUTED | FIXED | COVER | SHIELD net) [swire (NEW swire)*]`
-#[tactic(auto, unfolding(def_grammar::specs::Wiring::special_wiring))]
+#[tactic(auto, unfolding(def_grammar::specs::Wiring::special_wiring), using(lefdef_tokens::proofs::PlaceLemmas::behind_append))]
 pub fn special_wiring_at<'t>(cursor: Cursor<'t>) -> Option<(SpecialWiring<'t>, Cursor<'t>)>
     ensures gives { Gives (with_rest special_wiring_view) result (read special_wiring (rest_of cursor.entry)) }
     ensures later { IfSome result (λ x. IsLater cursor.entry x.1) }
