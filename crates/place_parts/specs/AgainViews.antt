@@ -1,11 +1,10 @@
 -- Statements that are kept by where they stand, as what is read there, and with which token they begin.
-use Rattle.std.specs.Prelude.{◌≡◌, ℕ, List, [], Option, Some, None}
+use Rattle.std.specs.Prelude.{◌≡◌, List, [], Option, Some, None}
 use Rattle.design_model.specs.declared.geometry.Orient.TheVariants.{N}
 use Rattle.form_meanings.specs.Words.{Rest}
 use Rattle.statement_model.specs.Form.{read}
 use Rattle.def_grammar.specs.Parts.{Coordinates}
 use Rattle.def_grammar.specs.Blockages.{BlockageEntry, blockage_form, blockage_kept}
-use Rattle.def_grammar.specs.Points.{Corners}
 use Rattle.def_grammar.specs.Regions.{Region, region_form}
 use Rattle.def_grammar.specs.Rows.{Row, row_statement}
 use Rattle.statement_model.specs.Tokens.{Token}

@@ -80,7 +80,7 @@ past_first b ps = behind (spell blockage_shape (blockage_shape_view b.first)) (p
 abbrev pub BlockagePartsAt : List Token → BlockageParts → Type 0
 BlockagePartsAt ps b = BlockageKindAt ps b.kind × PartsAt (past_kind b ps) b.clauses × BlockageShapeAt (past_clauses b ps) b.first × PartsAt (past_first b ps) b.others
 
--- an entry without its - is the first of these tokens
+-- an entry without its - begins with the first of these tokens
 abbrev pub BlockageBodyAt : List Token → code.BlockageEntry → Type 0
 BlockageBodyAt ps (entries.Blocks b) = BlockagePartsAt ps b
 BlockageBodyAt ps (entries.Kept tokens) = RunAt ps tokens

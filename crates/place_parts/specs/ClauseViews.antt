@@ -28,7 +28,7 @@ clause_view (clauses.Other w rest) = other w.bytes.now (words_of rest)
 abbrev pub clauses_of : Parts code.Clause → List Clause
 clauses_of parts = items parts.most is_plus (read clause) (rest_of parts.cursor)
 
--- the clause is the first of these tokens, with its +
+-- of these tokens, the first is a clause's +
 abbrev pub ClauseAt : List Token → code.Clause → Type 0
 ClauseAt ps (clauses.Placed p) = PointAt (past 2 ps) p.at
 ClauseAt ps (clauses.Unplaced rest) = RunAt (past 2 ps) rest

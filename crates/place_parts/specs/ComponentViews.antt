@@ -11,6 +11,7 @@ use Rattle.place_parts.specs.declared.component_parts.ComponentParts.{ComponentP
 abbrev pub component_view : ComponentParts → Component
 component_view p = record { name = p.name.bytes.now; cell = p.cell.bytes.now; rest = words_of p.rest; clauses = clauses_of p.clauses }
 
--- an entry is the first of these tokens, with its -
+-- of these tokens, the first is an entry's -, the second its name, and the third its macro; the rest of its fixed part follows,
+-- and its clauses begin behind it
 abbrev pub ComponentAt : List Token → ComponentParts → Type 0
 ComponentAt ps p = StandsAt (past 1 ps) p.name × StandsAt (past 2 ps) p.cell × RunAt (past 3 ps) p.rest × PartsAt (behind (words_of p.rest) (past 3 ps)) p.clauses

@@ -54,25 +54,28 @@ pin_clauses_of parts = items parts.most is_plus (read pin_clause) (rest_of parts
 abbrev pub pin_view : PinParts → Pin
 pin_view p = record { name = p.name.bytes.now; clauses = pin_clauses_of p.clauses }
 
+-- the number behind SPACING or DESIGNRULEWIDTH
 abbrev pub ClearanceAt : List Token → code_clearance.Clearance → Type 0
 ClearanceAt ps (clearances.Spacing n) = StandsAt (past 1 ps) n
 ClearanceAt ps (clearances.DesignRuleWidth n) = StandsAt (past 1 ps) n
 ClearanceAt ps clearances.Default = Unit {0}
 
--- what comes after a mask that may be there, and after what a shape says of its distance
+-- what comes after a rectangle's mask, and after what it says of its distance
 abbrev pub past_mask : code_rectangle.PinRectangle → List Token → List Token
 past_mask s ps = behind (spell mask (mask_view s.mask)) ps
 
 abbrev pub past_clearance : code_rectangle.PinRectangle → List Token → List Token
 past_clearance s ps = behind (spell clearance (clearance_view s.clearance)) (past_mask s ps)
 
+-- of these tokens, the first is the layer of a rectangle
 abbrev pub PinRectangleAt : List Token → code_rectangle.PinRectangle → Type 0
 PinRectangleAt ps s = StandsAt ps s.layer × MaskAt (past 1 ps) s.mask × ClearanceAt (past_mask s (past 1 ps)) s.clearance × CornersAt (past_clearance s (past 1 ps)) s.corners
 
+-- of these tokens, the first is the name of a via
 abbrev pub PinViaAt : List Token → code_via.PinVia → Type 0
 PinViaAt ps v = StandsAt ps v.name × MaskAt (past 1 ps) v.mask × PointAt (behind (spell mask (mask_view v.mask)) (past 1 ps)) v.at
 
--- a clause without its +
+-- a clause without its + begins with the first of these tokens
 abbrev pub PinBodyAt : List Token → code.PinClause → Type 0
 PinBodyAt ps (clauses.Placed p) = PointAt (past 1 ps) p.at
 PinBodyAt ps (clauses.Net name) = StandsAt (past 1 ps) name
@@ -82,8 +85,10 @@ PinBodyAt ps (clauses.Via v) = PinViaAt (past 1 ps) v
 PinBodyAt ps (clauses.Polygon layer rest) = StandsAt (past 1 ps) layer × RunAt (past 2 ps) rest
 PinBodyAt ps (clauses.Kept kept) = KeptAt ps kept
 
+-- of these tokens, the first is a clause's +
 abbrev pub PinClauseAt : List Token → code.PinClause → Type 0
 PinClauseAt ps c = PinBodyAt (past 1 ps) c
 
+-- of these tokens, the first is an entry's -, and the second its name
 abbrev pub PinAt : List Token → PinParts → Type 0
 PinAt ps p = StandsAt (past 1 ps) p.name × PartsAt (past 2 ps) p.clauses

@@ -45,7 +45,7 @@ region_view r = record { name = r.name.bytes.now; first = corners_view r.first; 
 abbrev pub rectangle_words : List Corners → List (List ℕ)
 rectangle_words all = spell_all (spell later_corners) all
 
--- a clause without its +
+-- a clause without its + begins with the first of these tokens
 abbrev pub RegionBodyAt : List Token → code.RegionClause → Type 0
 RegionBodyAt ps (clauses.Kind kind) = Unit {0}
 RegionBodyAt ps (clauses.Kept kept) = KeptAt ps kept
@@ -54,6 +54,7 @@ RegionBodyAt ps (clauses.Kept kept) = KeptAt ps kept
 abbrev pub RegionClauseAt : List Token → code.RegionClause → Type 0
 RegionClauseAt ps c = RegionBodyAt (past 1 ps) c
 
+-- a rectangle begins with the first of these tokens
 abbrev pub LaterCornersAt : List Token → LaterCorners → Type 0
 LaterCornersAt ps c = CornersAt ps c.corners
 

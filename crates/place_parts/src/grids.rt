@@ -64,7 +64,7 @@ fn axis_at<'t>(cursor: Cursor<'t>) -> Option<(Axis, Cursor<'t>)>
 }
 
 /// `X|Y start DO count STEP step any* ;`, after `TRACKS`
-#[tactic(auto, unfolding(def_grammar::specs::Grids::tracks_statement, def_grammar::specs::Grids::axis_word), using(lefdef_tokens::proofs::PlaceLemmas::behind_append))]
+#[tactic(auto, unfolding(def_grammar::specs::Grids::tracks_statement), using(lefdef_tokens::proofs::PlaceLemmas::behind_append))]
 pub fn tracks_at<'t>(cursor: Cursor<'t>) -> Option<(TracksParts<'t>, Cursor<'t>)>
     ensures gives { Gives (with_rest tracks_view) result (read tracks_statement (rest_of cursor.entry)) }
     ensures later { IfSome result (λ x. IsLater cursor.entry x.1) }

@@ -132,7 +132,7 @@ fn pin_rectangle_at<'t>(cursor: Cursor<'t>) -> Option<(PinRectangle<'t>, Cursor<
 }
 
 /// `name [MASK word]` and a point, after `VIA`
-#[tactic(auto, unfolding(def_grammar::specs::Pins::pin_via, def_grammar::specs::Parts::point), using(lefdef_tokens::proofs::PlaceLemmas::behind_append))]
+#[tactic(auto, unfolding(def_grammar::specs::Pins::pin_via, def_grammar::specs::Parts::point))]
 fn pin_via_at<'t>(cursor: Cursor<'t>) -> Option<(PinVia<'t>, Cursor<'t>)>
     ensures gives { Gives (with_rest pin_via_view) result (read pin_via (rest_of cursor.entry)) }
     ensures later { IfSome result (λ x. IsLater cursor.entry x.1) }

@@ -101,7 +101,7 @@ fn region_clause_body_at<'t>(cursor: Cursor<'t>) -> Option<(RegionClause<'t>, Cu
 }
 
 /// `+ TYPE kind`, or `+ word rest`, before a `+` or `;`
-#[tactic(auto, unfolding(def_grammar::specs::Regions::region_clause, def_grammar::specs::Clauses::kept_clause))]
+#[tactic(auto, unfolding(def_grammar::specs::Regions::region_clause))]
 fn region_clause_at<'t>(cursor: Cursor<'t>) -> Option<(RegionClause<'t>, Cursor<'t>)>
     ensures gives { Gives (with_rest region_clause_view) result (read region_clause (rest_of cursor.entry)) }
     ensures later { IfSome result (λ x. IsLater cursor.entry x.1) }

@@ -1,4 +1,4 @@
-use Rattle.std.proofs.Common.{◌≡◌, ℕ, length, sym, ap, ◌∙◌, Some, None}
+use Rattle.std.proofs.Common.{ℕ, length, sym, ap, ◌∙◌}
 use Rattle.form_meanings.specs.Words.{is_plus}
 use Rattle.form_meanings.specs.Meaning.{items, repeat}
 use Rattle.statement_model.specs.Form.{read, spell}
