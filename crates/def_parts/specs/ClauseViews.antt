@@ -1,8 +1,10 @@
--- Clauses without meaning, masks and lists of the program as those of the definitions, and what they lend from a text.
-use Rattle.std.specs.Prelude.{◌≡◌, ℕ, List, Option, IfSome}
+-- Clauses without meaning, masks and lists of the program as those of the definitions, and which tokens they are.
+use Rattle.std.specs.Prelude.{ℕ, List, Option, IfSome}
 use Rattle.std.specs.Option.{option_map}
 use Rattle.def_grammar.specs.Clauses.{KeptClause}
-use Rattle.lefdef_tokens.specs.Views.{IsIn, words_of}
+use Rattle.statement_model.specs.Tokens as definitions
+use Rattle.lefdef_tokens.specs.Places.{RunAt, StandsAt, past}
+use Rattle.lefdef_tokens.specs.Views.{words_of}
 use Rattle.lefdef_tokens.specs.declared.token.Token.{Token}
 use Rattle.lefdef_tokens.specs.declared.token_run.TokenRun.{TokenRun}
 use Rattle.def_parts.specs.declared.clauses.KeptClause as code
@@ -17,11 +19,13 @@ mask_view mask = option_map bytes_view mask
 abbrev pub kept_view : code.KeptClause → KeptClause
 kept_view c = record { keyword = c.keyword.bytes.now; rest = words_of c.rest }
 
-abbrev pub RunIn : List ℕ → TokenRun → Type 0
-RunIn text run = run.text.now ≡ text
+-- a number or a word that may be there is the first of these tokens
+abbrev pub OptionAt : List definitions.Token → Option Token → Type 0
+OptionAt ps found = IfSome found (λ token. StandsAt ps token)
 
-abbrev pub MaskIn : List ℕ → Option Token → Type 0
-MaskIn text mask = IfSome mask (λ token. IsIn text token)
+-- the word behind MASK
+abbrev pub MaskAt : List definitions.Token → Option Token → Type 0
+MaskAt ps mask = OptionAt (past 1 ps) mask
 
-abbrev pub KeptIn : List ℕ → code.KeptClause → Type 0
-KeptIn text c = IsIn text c.keyword × RunIn text c.rest
+abbrev pub KeptAt : List definitions.Token → code.KeptClause → Type 0
+KeptAt ps c = StandsAt ps c.keyword × RunAt (past 1 ps) c.rest

@@ -1,12 +1,15 @@
--- Points of the program as points of the definitions, and what they lend from a text.
-use Rattle.std.specs.Prelude.{◌≡◌, ℕ, List}
+-- Points of the program as points of the definitions, and which tokens they are.
+use Rattle.std.specs.Prelude.{List}
 use Rattle.form_meanings.specs.Words.{Rest}
 use Rattle.form_meanings.specs.Meaning.{items}
 use Rattle.statement_model.specs.Form.{read}
 use Rattle.def_grammar.specs.Parts.{Coordinates}
 use Rattle.def_grammar.specs.Points.{is_open, later_point, Corners, Polygon}
-use Rattle.lefdef_tokens.specs.Views.{IsIn, rest_of}
+use Rattle.statement_model.specs.Tokens.{Token}
+use Rattle.lefdef_tokens.specs.Places.{StandsAt, past}
+use Rattle.lefdef_tokens.specs.Views.{rest_of}
 use Rattle.lefdef_tokens.specs.declared.cursor.Cursor.{Cursor}
+use Rattle.statement_reader.specs.PartViews.{PartsAt}
 use Rattle.statement_reader.specs.declared.parts.Parts.{Parts}
 use Rattle.def_parts.specs.declared.point.Coordinates as code
 use Rattle.def_parts.specs.declared.points.LaterPoint.{LaterPoint}
@@ -37,18 +40,19 @@ corners_view c = record { first = point_view c.first; second = point_view c.seco
 abbrev pub polygon_view : code_polygon.Polygon → Polygon
 polygon_view p = record { first = point_view p.first; second = point_view p.second; third = point_view p.third; others = later_points p.others }
 
-abbrev pub PointIn : List ℕ → code.Coordinates → Type 0
-PointIn text p = IsIn text p.x × IsIn text p.y
+-- a point with parentheses is the first of these tokens
+abbrev pub PointAt : List Token → code.Coordinates → Type 0
+PointAt ps p = StandsAt (past 1 ps) p.x × StandsAt (past 2 ps) p.y
 
-abbrev pub LaterIn : List ℕ → LaterPoint → Type 0
-LaterIn text p = PointIn text p.at
+-- two numbers without parentheses
+abbrev pub NumbersAt : List Token → code.Coordinates → Type 0
+NumbersAt ps p = StandsAt ps p.x × StandsAt (past 1 ps) p.y
 
--- parts that are left to be read stand in the text
-abbrev pub PartsIn : {P : Type 0} → List ℕ → Parts P → Type 0
-PartsIn text parts = parts.cursor.tokens.text.now ≡ text
+abbrev pub LaterAt : List Token → LaterPoint → Type 0
+LaterAt ps p = PointAt ps p.at
 
-abbrev pub CornersIn : List ℕ → code_corners.Corners → Type 0
-CornersIn text c = PointIn text c.first × PointIn text c.second
+abbrev pub CornersAt : List Token → code_corners.Corners → Type 0
+CornersAt ps c = PointAt ps c.first × PointAt (past 4 ps) c.second
 
-abbrev pub PolygonIn : List ℕ → code_polygon.Polygon → Type 0
-PolygonIn text p = PointIn text p.first × PointIn text p.second × PointIn text p.third × PartsIn text p.others
+abbrev pub PolygonAt : List Token → code_polygon.Polygon → Type 0
+PolygonAt ps p = PointAt ps p.first × PointAt (past 4 ps) p.second × PointAt (past 8 ps) p.third × PartsAt (past 12 ps) p.others

@@ -1,11 +1,12 @@
 //! Clauses without meaning, and masks.
 
-ghost use Rattle.std.specs.Prelude.{IfSome};
+ghost use Rattle.std.specs.Prelude.{◌≡◌, IfSome};
 ghost use Rattle.form_meanings.specs.Words.{Gives};
-ghost use Rattle.statement_model.specs.Form.{read};
+ghost use Rattle.statement_model.specs.Form.{read, spell};
 ghost use Rattle.def_grammar.specs.Clauses.{kept_clause, mask};
-ghost use Rattle.lefdef_tokens.specs.Views.{IsLater, rest_of};
-ghost use Rattle.def_parts.specs.ClauseViews.{KeptIn, MaskIn, kept_view, mask_view};
+ghost use Rattle.lefdef_tokens.specs.Places.{behind};
+ghost use Rattle.lefdef_tokens.specs.Views.{IsLater, pieces_of, rest_of};
+ghost use Rattle.def_parts.specs.ClauseViews.{KeptAt, MaskAt, kept_view, mask_view};
 ghost use Rattle.def_parts.specs.PointViews.{with_rest};
 
 use lefdef_tokens::{Cursor, Token, TokenRun};
@@ -22,7 +23,8 @@ pub struct KeptClause<'t> {
 pub fn kept_clause_at<'t>(cursor: Cursor<'t>) -> Option<(KeptClause<'t>, Cursor<'t>)>
     ensures gives { Gives (with_rest kept_view) result (read kept_clause (rest_of cursor.entry)) }
     ensures later { IfSome result (λ x. IsLater cursor.entry x.1) }
-    ensures lent { IfSome result (λ x. KeptIn cursor.entry.tokens.text.now x.0) }
+    ensures left { IfSome result (λ x. pieces_of x.1.tokens ≡ behind (spell kept_clause (kept_view x.0)) (pieces_of cursor.entry.tokens)) }
+    ensures lent { IfSome result (λ x. KeptAt (pieces_of cursor.entry.tokens) x.0) }
 {
     let (keyword, cursor) = cursor.plain_word()?;
     let (rest, cursor) = cursor.rest();
@@ -34,7 +36,8 @@ pub fn kept_clause_at<'t>(cursor: Cursor<'t>) -> Option<(KeptClause<'t>, Cursor<
 pub fn mask_at<'t>(cursor: Cursor<'t>) -> Option<(Option<Token<'t>>, Cursor<'t>)>
     ensures gives { Gives (with_rest mask_view) result (read mask (rest_of cursor.entry)) }
     ensures later { IfSome result (λ x. IsLater cursor.entry x.1) }
-    ensures lent { IfSome result (λ x. MaskIn cursor.entry.tokens.text.now x.0) }
+    ensures left { IfSome result (λ x. pieces_of x.1.tokens ≡ behind (spell mask (mask_view x.0)) (pieces_of cursor.entry.tokens)) }
+    ensures lent { IfSome result (λ x. MaskAt (pieces_of cursor.entry.tokens) x.0) }
 {
     if cursor.next_is(b"MASK") {
         let (word, cursor) = cursor.plain_word_behind(b"MASK")?;

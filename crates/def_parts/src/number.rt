@@ -8,7 +8,8 @@ ghost use Rattle.def_grammar.specs.Numbers.{int_of, is_int, is_scale, is_count};
 ghost use Rattle.def_grammar.specs.Parts.{int};
 ghost use Rattle.def_grammar.specs.Points.{coordinate, is_coordinate};
 ghost use Rattle.lefdef_tokens.specs.Unseens.{Finds, IsFurther, unseen_rest, unseen_word};
-ghost use Rattle.lefdef_tokens.specs.Views.{IsIn, IsLater, rest_of, word_of};
+ghost use Rattle.lefdef_tokens.specs.Places.{StandsAt, past};
+ghost use Rattle.lefdef_tokens.specs.Views.{IsLater, pieces_of, rest_of, word_of};
 ghost use Rattle.def_parts.specs.Numbers.{is_of_kind};
 
 use lefdef_tokens::{Cursor, Token, Unseen, is_word};
@@ -159,7 +160,8 @@ fn is_of_kind(kind: NumberKind, word: &[u8]) -> bool
 fn number_at<'t>(kind: NumberKind, cursor: Cursor<'t>) -> Option<(Token<'t>, Cursor<'t>)>
     ensures gives { Gives word_of result (number_at (is_of_kind kind) (rest_of cursor.entry)) }
     ensures later { IfSome result (λ x. IsLater cursor.entry x.1) }
-    ensures lent { IfSome result (λ x. IsIn cursor.entry.tokens.text.now x.0) }
+    ensures left { IfSome result (λ x. pieces_of x.1.tokens ≡ past 1 (pieces_of cursor.entry.tokens)) }
+    ensures lent { IfSome result (λ x. StandsAt (pieces_of cursor.entry.tokens) x.0) }
 {
     let (token, later) = cursor.place()?;
     let good = is_of_kind(kind, token.bytes);
@@ -171,7 +173,8 @@ fn number_at<'t>(kind: NumberKind, cursor: Cursor<'t>) -> Option<(Token<'t>, Cur
 pub fn int_at<'t>(cursor: Cursor<'t>) -> Option<(Token<'t>, Cursor<'t>)>
     ensures gives { Gives word_of result (read int (rest_of cursor.entry)) }
     ensures later { IfSome result (λ x. IsLater cursor.entry x.1) }
-    ensures lent { IfSome result (λ x. IsIn cursor.entry.tokens.text.now x.0) }
+    ensures left { IfSome result (λ x. pieces_of x.1.tokens ≡ past 1 (pieces_of cursor.entry.tokens)) }
+    ensures lent { IfSome result (λ x. StandsAt (pieces_of cursor.entry.tokens) x.0) }
 {
     number_at(NumberKind::Int, cursor)
 }
@@ -180,7 +183,8 @@ pub fn int_at<'t>(cursor: Cursor<'t>) -> Option<(Token<'t>, Cursor<'t>)>
 pub fn scale_at<'t>(cursor: Cursor<'t>) -> Option<(Token<'t>, Cursor<'t>)>
     ensures gives { Gives word_of result (read (number is_scale) (rest_of cursor.entry)) }
     ensures later { IfSome result (λ x. IsLater cursor.entry x.1) }
-    ensures lent { IfSome result (λ x. IsIn cursor.entry.tokens.text.now x.0) }
+    ensures left { IfSome result (λ x. pieces_of x.1.tokens ≡ past 1 (pieces_of cursor.entry.tokens)) }
+    ensures lent { IfSome result (λ x. StandsAt (pieces_of cursor.entry.tokens) x.0) }
 {
     number_at(NumberKind::Scale, cursor)
 }
@@ -189,7 +193,8 @@ pub fn scale_at<'t>(cursor: Cursor<'t>) -> Option<(Token<'t>, Cursor<'t>)>
 pub fn count_at<'t>(cursor: Cursor<'t>) -> Option<(Token<'t>, Cursor<'t>)>
     ensures gives { Gives word_of result (read (number is_count) (rest_of cursor.entry)) }
     ensures later { IfSome result (λ x. IsLater cursor.entry x.1) }
-    ensures lent { IfSome result (λ x. IsIn cursor.entry.tokens.text.now x.0) }
+    ensures left { IfSome result (λ x. pieces_of x.1.tokens ≡ past 1 (pieces_of cursor.entry.tokens)) }
+    ensures lent { IfSome result (λ x. StandsAt (pieces_of cursor.entry.tokens) x.0) }
 {
     number_at(NumberKind::Count, cursor)
 }
@@ -199,7 +204,8 @@ pub fn count_at<'t>(cursor: Cursor<'t>) -> Option<(Token<'t>, Cursor<'t>)>
 pub fn size_at<'t>(cursor: Cursor<'t>) -> Option<(Token<'t>, Cursor<'t>)>
     ensures gives { Gives word_of result (read (number is_size) (rest_of cursor.entry)) }
     ensures later { IfSome result (λ x. IsLater cursor.entry x.1) }
-    ensures lent { IfSome result (λ x. IsIn cursor.entry.tokens.text.now x.0) }
+    ensures left { IfSome result (λ x. pieces_of x.1.tokens ≡ past 1 (pieces_of cursor.entry.tokens)) }
+    ensures lent { IfSome result (λ x. StandsAt (pieces_of cursor.entry.tokens) x.0) }
 {
     number_at(NumberKind::Count, cursor)
 }
@@ -208,7 +214,8 @@ pub fn size_at<'t>(cursor: Cursor<'t>) -> Option<(Token<'t>, Cursor<'t>)>
 pub fn copies_at<'t>(cursor: Cursor<'t>) -> Option<(Token<'t>, Cursor<'t>)>
     ensures gives { Gives word_of result (read (number is_copies) (rest_of cursor.entry)) }
     ensures later { IfSome result (λ x. IsLater cursor.entry x.1) }
-    ensures lent { IfSome result (λ x. IsIn cursor.entry.tokens.text.now x.0) }
+    ensures left { IfSome result (λ x. pieces_of x.1.tokens ≡ past 1 (pieces_of cursor.entry.tokens)) }
+    ensures lent { IfSome result (λ x. StandsAt (pieces_of cursor.entry.tokens) x.0) }
 {
     number_at(NumberKind::Copies, cursor)
 }
@@ -217,7 +224,8 @@ pub fn copies_at<'t>(cursor: Cursor<'t>) -> Option<(Token<'t>, Cursor<'t>)>
 pub fn cuts_at<'t>(cursor: Cursor<'t>) -> Option<(Token<'t>, Cursor<'t>)>
     ensures gives { Gives word_of result (read (number is_cuts) (rest_of cursor.entry)) }
     ensures later { IfSome result (λ x. IsLater cursor.entry x.1) }
-    ensures lent { IfSome result (λ x. IsIn cursor.entry.tokens.text.now x.0) }
+    ensures left { IfSome result (λ x. pieces_of x.1.tokens ≡ past 1 (pieces_of cursor.entry.tokens)) }
+    ensures lent { IfSome result (λ x. StandsAt (pieces_of cursor.entry.tokens) x.0) }
 {
     number_at(NumberKind::Cuts, cursor)
 }
@@ -226,7 +234,8 @@ pub fn cuts_at<'t>(cursor: Cursor<'t>) -> Option<(Token<'t>, Cursor<'t>)>
 pub fn lines_at<'t>(cursor: Cursor<'t>) -> Option<(Token<'t>, Cursor<'t>)>
     ensures gives { Gives word_of result (read (number is_lines) (rest_of cursor.entry)) }
     ensures later { IfSome result (λ x. IsLater cursor.entry x.1) }
-    ensures lent { IfSome result (λ x. IsIn cursor.entry.tokens.text.now x.0) }
+    ensures left { IfSome result (λ x. pieces_of x.1.tokens ≡ past 1 (pieces_of cursor.entry.tokens)) }
+    ensures lent { IfSome result (λ x. StandsAt (pieces_of cursor.entry.tokens) x.0) }
 {
     number_at(NumberKind::Lines, cursor)
 }
@@ -236,7 +245,8 @@ pub fn lines_at<'t>(cursor: Cursor<'t>) -> Option<(Token<'t>, Cursor<'t>)>
 pub fn coordinate_at<'t>(cursor: Cursor<'t>) -> Option<(Token<'t>, Cursor<'t>)>
     ensures gives { Gives word_of result (read coordinate (rest_of cursor.entry)) }
     ensures later { IfSome result (λ x. IsLater cursor.entry x.1) }
-    ensures lent { IfSome result (λ x. IsIn cursor.entry.tokens.text.now x.0) }
+    ensures left { IfSome result (λ x. pieces_of x.1.tokens ≡ past 1 (pieces_of cursor.entry.tokens)) }
+    ensures lent { IfSome result (λ x. StandsAt (pieces_of cursor.entry.tokens) x.0) }
 {
     number_at(NumberKind::Coordinate, cursor)
 }
@@ -247,7 +257,8 @@ pub fn coordinate_at<'t>(cursor: Cursor<'t>) -> Option<(Token<'t>, Cursor<'t>)>
 pub fn few_digits_at<'t>(left: Unseen<'t>) -> Option<(Token<'t>, Unseen<'t>)>
     ensures gives { Finds unseen_word result (read int (unseen_rest left.entry)) }
     ensures further { IfSome result (λ x. IsFurther left.entry.tokens x.1.tokens) }
-    ensures lent { IfSome result (λ x. IsIn left.entry.tokens.text.now x.0) }
+    ensures left { IfSome result (λ x. pieces_of x.1.tokens ≡ past 1 (pieces_of left.entry.tokens)) }
+    ensures lent { IfSome result (λ x. StandsAt (pieces_of left.entry.tokens) x.0) }
 {
     few_digits_are_whole();
     let (number, later) = left.digits()?;
@@ -261,7 +272,8 @@ pub fn few_digits_size_at<'t>(left: Unseen<'t>) -> Option<(Token<'t>, Unseen<'t>
     ensures gives { Finds unseen_word result (read (number is_size) (unseen_rest left.entry)) }
     ensures place { IfSome result (λ x. next_passes is_place (unseen_rest left.entry) ≡ true) }
     ensures further { IfSome result (λ x. IsFurther left.entry.tokens x.1.tokens) }
-    ensures lent { IfSome result (λ x. IsIn left.entry.tokens.text.now x.0) }
+    ensures left { IfSome result (λ x. pieces_of x.1.tokens ≡ past 1 (pieces_of left.entry.tokens)) }
+    ensures lent { IfSome result (λ x. StandsAt (pieces_of left.entry.tokens) x.0) }
 {
     few_digits_are_whole();
     let (size, later) = left.digits()?;
@@ -274,7 +286,8 @@ pub fn few_digits_size_at<'t>(left: Unseen<'t>) -> Option<(Token<'t>, Unseen<'t>
 pub fn few_digits_or_star_at<'t>(left: Unseen<'t>) -> Option<(Token<'t>, Unseen<'t>)>
     ensures gives { Finds unseen_word result (read coordinate (unseen_rest left.entry)) }
     ensures further { IfSome result (λ x. IsFurther left.entry.tokens x.1.tokens) }
-    ensures lent { IfSome result (λ x. IsIn left.entry.tokens.text.now x.0) }
+    ensures left { IfSome result (λ x. pieces_of x.1.tokens ≡ past 1 (pieces_of left.entry.tokens)) }
+    ensures lent { IfSome result (λ x. StandsAt (pieces_of left.entry.tokens) x.0) }
 {
     few_digits_are_whole();
     match left.mark(b'*') {

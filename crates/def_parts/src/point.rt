@@ -5,8 +5,9 @@ ghost use Rattle.form_meanings.specs.Words.{Gives};
 ghost use Rattle.statement_model.specs.Form.{read};
 ghost use Rattle.def_grammar.specs.Parts.{orient, point};
 ghost use Rattle.lefdef_tokens.specs.Unseens.{Finds};
-ghost use Rattle.lefdef_tokens.specs.Views.{IsLater, rest_of};
-ghost use Rattle.def_parts.specs.PointViews.{PointIn, point_view, same, with_rest};
+ghost use Rattle.lefdef_tokens.specs.Places.{past};
+ghost use Rattle.lefdef_tokens.specs.Views.{IsLater, pieces_of, rest_of};
+ghost use Rattle.def_parts.specs.PointViews.{PointAt, point_view, same, with_rest};
 
 use crate::number::{few_digits_at, int_at};
 use design_model::geometry::Orient;
@@ -25,7 +26,8 @@ pub struct Coordinates<'t> {
 fn short_point_at<'t>(cursor: Cursor<'t>) -> Option<(Coordinates<'t>, Cursor<'t>)>
     ensures gives { Finds (with_rest point_view) result (read point (rest_of cursor.entry)) }
     ensures later { IfSome result (λ x. IsLater cursor.entry x.1) }
-    ensures lent { IfSome result (λ x. PointIn cursor.entry.tokens.text.now x.0) }
+    ensures left { IfSome result (λ x. pieces_of x.1.tokens ≡ past 4 (pieces_of cursor.entry.tokens)) }
+    ensures lent { IfSome result (λ x. PointAt (pieces_of cursor.entry.tokens) x.0) }
 {
     let (x, left) = few_digits_at(cursor.past(b"(")?)?;
     let (y, left) = few_digits_at(left)?;
@@ -40,7 +42,8 @@ fn short_point_at<'t>(cursor: Cursor<'t>) -> Option<(Coordinates<'t>, Cursor<'t>
 fn any_point_at<'t>(cursor: Cursor<'t>) -> Option<(Coordinates<'t>, Cursor<'t>)>
     ensures gives { Gives (with_rest point_view) result (read point (rest_of cursor.entry)) }
     ensures later { IfSome result (λ x. IsLater cursor.entry x.1) }
-    ensures lent { IfSome result (λ x. PointIn cursor.entry.tokens.text.now x.0) }
+    ensures left { IfSome result (λ x. pieces_of x.1.tokens ≡ past 4 (pieces_of cursor.entry.tokens)) }
+    ensures lent { IfSome result (λ x. PointAt (pieces_of cursor.entry.tokens) x.0) }
 {
     let cursor = cursor.key(b"(")?;
     let (x, cursor) = int_at(cursor)?;
@@ -54,7 +57,8 @@ fn any_point_at<'t>(cursor: Cursor<'t>) -> Option<(Coordinates<'t>, Cursor<'t>)>
 pub fn point_at<'t>(cursor: Cursor<'t>) -> Option<(Coordinates<'t>, Cursor<'t>)>
     ensures gives { Gives (with_rest point_view) result (read point (rest_of cursor.entry)) }
     ensures later { IfSome result (λ x. IsLater cursor.entry x.1) }
-    ensures lent { IfSome result (λ x. PointIn cursor.entry.tokens.text.now x.0) }
+    ensures left { IfSome result (λ x. pieces_of x.1.tokens ≡ past 4 (pieces_of cursor.entry.tokens)) }
+    ensures lent { IfSome result (λ x. PointAt (pieces_of cursor.entry.tokens) x.0) }
 {
     match short_point_at(cursor) {
         Some(found) => Some(found),
@@ -68,6 +72,7 @@ pub fn point_at<'t>(cursor: Cursor<'t>) -> Option<(Coordinates<'t>, Cursor<'t>)>
 pub fn orient_at<'t>(cursor: Cursor<'t>) -> Option<(Orient, Cursor<'t>)>
     ensures gives { Gives (with_rest same) result (read orient (rest_of cursor.entry)) }
     ensures later { IfSome result (λ x. IsLater cursor.entry x.1) }
+    ensures left { IfSome result (λ x. pieces_of x.1.tokens ≡ past 1 (pieces_of cursor.entry.tokens)) }
 {
     let (word, cursor) = cursor.next()?;
     let orient = Orient::of_word(word.bytes)?;

@@ -5,8 +5,9 @@ ghost use Rattle.form_meanings.specs.Words.{Gives, next_passes};
 ghost use Rattle.statement_model.specs.Form.{read, spell};
 ghost use Rattle.def_grammar.specs.Points.{corners, is_open, later_point, polygon, two_numbers};
 ghost use Rattle.lefdef_tokens.specs.Unseens.{Finds};
-ghost use Rattle.lefdef_tokens.specs.Views.{IsLater, rest_of};
-ghost use Rattle.def_parts.specs.PointViews.{CornersIn, LaterIn, PointIn, PolygonIn, corners_view, later_view, point_view, polygon_view, with_rest};
+ghost use Rattle.lefdef_tokens.specs.Places.{behind, past};
+ghost use Rattle.lefdef_tokens.specs.Views.{IsLater, pieces_of, rest_of};
+ghost use Rattle.def_parts.specs.PointViews.{CornersAt, LaterAt, NumbersAt, PolygonAt, corners_view, later_view, point_view, polygon_view, with_rest};
 
 use crate::number::{coordinate_at, few_digits_or_star_at, int_at};
 use crate::point::{Coordinates, point_at};
@@ -41,7 +42,8 @@ pub struct Polygon<'t> {
 pub fn two_numbers_at<'t>(cursor: Cursor<'t>) -> Option<(Coordinates<'t>, Cursor<'t>)>
     ensures gives { Gives (with_rest point_view) result (read two_numbers (rest_of cursor.entry)) }
     ensures later { IfSome result (λ x. IsLater cursor.entry x.1) }
-    ensures lent { IfSome result (λ x. PointIn cursor.entry.tokens.text.now x.0) }
+    ensures left { IfSome result (λ x. pieces_of x.1.tokens ≡ past 2 (pieces_of cursor.entry.tokens)) }
+    ensures lent { IfSome result (λ x. NumbersAt (pieces_of cursor.entry.tokens) x.0) }
 {
     let (x, cursor) = int_at(cursor)?;
     let (y, cursor) = int_at(cursor)?;
@@ -70,7 +72,8 @@ pub fn next_is_open<'t>(cursor: Cursor<'t>) -> bool
 fn short_later_point_at<'t>(cursor: Cursor<'t>) -> Option<(LaterPoint<'t>, Cursor<'t>)>
     ensures gives { Finds (with_rest later_view) result (read later_point (rest_of cursor.entry)) }
     ensures later { IfSome result (λ x. IsLater cursor.entry x.1) }
-    ensures lent { IfSome result (λ x. LaterIn cursor.entry.tokens.text.now x.0) }
+    ensures left { IfSome result (λ x. pieces_of x.1.tokens ≡ past 4 (pieces_of cursor.entry.tokens)) }
+    ensures lent { IfSome result (λ x. LaterAt (pieces_of cursor.entry.tokens) x.0) }
 {
     let (x, left) = few_digits_or_star_at(cursor.past(b"(")?)?;
     let (y, left) = few_digits_or_star_at(left)?;
@@ -86,7 +89,8 @@ fn short_later_point_at<'t>(cursor: Cursor<'t>) -> Option<(LaterPoint<'t>, Curso
 fn any_later_point_at<'t>(cursor: Cursor<'t>) -> Option<(LaterPoint<'t>, Cursor<'t>)>
     ensures gives { Gives (with_rest later_view) result (read later_point (rest_of cursor.entry)) }
     ensures later { IfSome result (λ x. IsLater cursor.entry x.1) }
-    ensures lent { IfSome result (λ x. LaterIn cursor.entry.tokens.text.now x.0) }
+    ensures left { IfSome result (λ x. pieces_of x.1.tokens ≡ past 4 (pieces_of cursor.entry.tokens)) }
+    ensures lent { IfSome result (λ x. LaterAt (pieces_of cursor.entry.tokens) x.0) }
 {
     let cursor = cursor.key(b"(")?;
     let (x, cursor) = coordinate_at(cursor)?;
@@ -101,7 +105,8 @@ fn any_later_point_at<'t>(cursor: Cursor<'t>) -> Option<(LaterPoint<'t>, Cursor<
 pub fn later_point_at<'t>(cursor: Cursor<'t>) -> Option<(LaterPoint<'t>, Cursor<'t>)>
     ensures gives { Gives (with_rest later_view) result (read later_point (rest_of cursor.entry)) }
     ensures later { IfSome result (λ x. IsLater cursor.entry x.1) }
-    ensures lent { IfSome result (λ x. LaterIn cursor.entry.tokens.text.now x.0) }
+    ensures left { IfSome result (λ x. pieces_of x.1.tokens ≡ past 4 (pieces_of cursor.entry.tokens)) }
+    ensures lent { IfSome result (λ x. LaterAt (pieces_of cursor.entry.tokens) x.0) }
 {
     match short_later_point_at(cursor) {
         Some(found) => Some(found),
@@ -116,7 +121,7 @@ impl<'t> Part<'t> for LaterPoint<'t> {
 
     ghost view = { later_view };
 
-    ghost lent = { LaterIn };
+    ghost lent = { LaterAt };
 
     ghost test = { is_open };
 
@@ -132,10 +137,12 @@ impl<'t> Part<'t> for LaterPoint<'t> {
         is_open(word)
     }
 
+    #[tactic(auto, unfolding(def_grammar::specs::Points::later_point))]
     fn read(cursor: Cursor<'t>) -> Option<(LaterPoint<'t>, Cursor<'t>)>
         ensures gives { Gives (with_rest later_view) result (read later_point (rest_of cursor.entry)) }
         ensures later { IfSome result (λ x. IsLater cursor.entry x.1) }
-        ensures lent { IfSome result (λ x. LaterIn cursor.entry.tokens.text.now x.0) }
+        ensures left { IfSome result (λ x. pieces_of x.1.tokens ≡ behind (spell later_point (later_view x.0)) (pieces_of cursor.entry.tokens)) }
+        ensures lent { IfSome result (λ x. LaterAt (pieces_of cursor.entry.tokens) x.0) }
     {
         later_point_at(cursor)
     }
@@ -146,7 +153,8 @@ impl<'t> Part<'t> for LaterPoint<'t> {
 pub fn corners_at<'t>(cursor: Cursor<'t>) -> Option<(Corners<'t>, Cursor<'t>)>
     ensures gives { Gives (with_rest corners_view) result (read corners (rest_of cursor.entry)) }
     ensures later { IfSome result (λ x. IsLater cursor.entry x.1) }
-    ensures lent { IfSome result (λ x. CornersIn cursor.entry.tokens.text.now x.0) }
+    ensures left { IfSome result (λ x. pieces_of x.1.tokens ≡ past 8 (pieces_of cursor.entry.tokens)) }
+    ensures lent { IfSome result (λ x. CornersAt (pieces_of cursor.entry.tokens) x.0) }
 {
     let (first, cursor) = point_at(cursor)?;
     let (second, cursor) = later_point_at(cursor)?;
@@ -155,11 +163,12 @@ pub fn corners_at<'t>(cursor: Cursor<'t>) -> Option<(Corners<'t>, Cursor<'t>)>
 }
 
 /// Three points and more
-#[tactic(auto, unfolding(def_grammar::specs::Points::polygon))]
+#[tactic(auto, unfolding(def_grammar::specs::Points::polygon, def_grammar::specs::Points::later_point, def_grammar::specs::Parts::point))]
 pub fn polygon_at<'t>(cursor: Cursor<'t>) -> Option<(Polygon<'t>, Cursor<'t>)>
     ensures gives { Gives (with_rest polygon_view) result (read polygon (rest_of cursor.entry)) }
     ensures later { IfSome result (λ x. IsLater cursor.entry x.1) }
-    ensures lent { IfSome result (λ x. PolygonIn cursor.entry.tokens.text.now x.0) }
+    ensures left { IfSome result (λ x. pieces_of x.1.tokens ≡ behind (spell polygon (polygon_view x.0)) (pieces_of cursor.entry.tokens)) }
+    ensures lent { IfSome result (λ x. PolygonAt (pieces_of cursor.entry.tokens) x.0) }
 {
     let (first, cursor) = point_at(cursor)?;
     let (second, cursor) = later_point_at(cursor)?;

@@ -15,13 +15,15 @@ use Rattle.statement_model.specs.Tokens.{Token, left_from, tokens}
 use Rattle.statement_model.specs.Boundaries.{words, is_whole, statements}
 use Rattle.statement_model.specs.Form.{read, spell, whole}
 use Rattle.statement_model.specs.Reading.{read_form}
+use Rattle.lefdef_tokens.specs.Views.{pieces_of}
+use Rattle.lefdef_tokens.specs.declared.token_run.TokenRun.{TokenRun}
 use Rattle.statement_reader.specs.Located.{in_front, located_on, located_at}
 use Rattle.statement_reader.specs.ReadingLaws.{RecordsAreLocated}
 use Rattle.statement_reader.specs.declared.grammar.Read.{Read}
 use Rattle.def_grammar.specs.Components.{Component, component_form}
 use Rattle.def_grammar.specs.Records.{def, def_ending, Record, entry, entry_of, component, component_of, statement, entries_form, read_def}
 use Rattle.def_grammar.specs.Located.{located, component_at, component_if, entry_at, is_entry}
-use Rattle.def_reader.specs.Lent.{StatementIn}
+use Rattle.def_reader.specs.Lent.{StatementAt, StatementIn}
 use Rattle.def_reader.specs.RecordViews.{located_view}
 use Rattle.def_reader.specs.StatementViews.{record_view}
 use Rattle.def_reader.specs.declared.statement.Statement.{Statement}
@@ -75,8 +77,8 @@ one_more front now items new x m old text pos e same is first =
     ∙ ap (λ (z : List Record). z ++ later) (sym (map-append record_view items (x.statement ∷ [])))
     )
 
-pub one_more_lent : (items new : List Statement) (x : Statement) (old text : List ℕ) → new ≡ items ++ x ∷ [] → old ≡ text → All (StatementIn text) items → StatementIn old x → All (StatementIn text) new
-one_more_lent items new x old text e same lent last = rw e (All-push (StatementIn text) items x lent (subst (λ (t : List ℕ). StatementIn t x) same last))
+pub one_more_lent : (items new : List Statement) (x : Statement) (run : TokenRun) (old text : List ℕ) → new ≡ items ++ x ∷ [] → old ≡ text → All (StatementIn text) items → run.text.now ≡ old → StatementAt (pieces_of run) x → All (StatementIn text) new
+one_more_lent items new x run old text e same lent there last = rw e (All-push (StatementIn text) items x lent (run, there ∙ same, last))
 
 -- the form of a statement that comes first
 front_form : (m : Mode) (s : List Token) (r : Result (Record × Mode) Fault) (rest : Mode → List (List Token × Record)) (x : List Token × Record) (later : List (List Token × Record)) → read_form def m s ≡ r → in_front def s r rest ≡ x ∷ later

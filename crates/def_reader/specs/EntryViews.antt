@@ -1,17 +1,19 @@
--- Entries of the program as those of the definitions, and what they lend from a text.
-use Rattle.std.specs.Prelude.{◌≡◌, ℕ, Bool, true, false, List}
+-- Entries of the program as those of the definitions, and which tokens they are.
+use Rattle.std.specs.Prelude.{Bool, true, false, List}
+use Rattle.statement_model.specs.Tokens.{Token}
 use Rattle.design_model.specs.declared.mode.Section.{Section}
 use Rattle.design_model.specs.declared.mode.Section.TheVariants.{Components, Pins, Regions, Groups, Blockages}
 use Rattle.def_grammar.specs.Records.{Entry, component, pin, region, group, blockage, net, special_net, via, rule, skipped}
+use Rattle.lefdef_tokens.specs.Places.{RunAt, past}
 use Rattle.lefdef_tokens.specs.Views.{words_of}
-use Rattle.place_parts.specs.AgainViews.{BlockageAtIn, RegionAtIn, blockage_at_view, region_at_view}
-use Rattle.place_parts.specs.ComponentViews.{ComponentIn, component_view}
-use Rattle.place_parts.specs.GroupViews.{GroupIn, group_view}
-use Rattle.place_parts.specs.PinViews.{PinIn, pin_view}
-use Rattle.via_parts.specs.RuleViews.{RuleIn, rule_view}
-use Rattle.via_parts.specs.ViaViews.{ViaIn, via_view}
-use Rattle.wire_parts.specs.NetViews.{NetEntryIn, net_entry_view}
-use Rattle.wire_parts.specs.SpecialNetViews.{SpecialNetIn, special_net_view}
+use Rattle.place_parts.specs.AgainViews.{BlockageBegins, RegionBegins, blockage_at_view, region_at_view}
+use Rattle.place_parts.specs.ComponentViews.{ComponentAt, component_view}
+use Rattle.place_parts.specs.GroupViews.{GroupAt, group_view}
+use Rattle.place_parts.specs.PinViews.{PinAt, pin_view}
+use Rattle.via_parts.specs.RuleViews.{RuleAt, rule_view}
+use Rattle.via_parts.specs.ViaViews.{ViaAt, via_view}
+use Rattle.wire_parts.specs.NetViews.{NetEntryAt, net_entry_view}
+use Rattle.wire_parts.specs.SpecialNetViews.{SpecialNetAt, special_net_view}
 use Rattle.def_reader.specs.declared.entry.Entry as code
 use Rattle.def_reader.specs.declared.entry.Entry.TheVariants as variants
 
@@ -35,14 +37,15 @@ entry_view (variants.Via parts) = via (via_view parts)
 entry_view (variants.Rule parts) = rule (rule_view parts)
 entry_view (variants.Skipped s tokens) = skipped s (words_of tokens)
 
-abbrev pub EntryIn : List ℕ → code.Entry → Type 0
-EntryIn text (variants.Component parts) = ComponentIn text parts
-EntryIn text (variants.Pin parts) = PinIn text parts
-EntryIn text (variants.Region at) = RegionAtIn text at
-EntryIn text (variants.Group parts) = GroupIn text parts
-EntryIn text (variants.Blockage at) = BlockageAtIn text at
-EntryIn text (variants.Net entry) = NetEntryIn text entry
-EntryIn text (variants.SpecialNet parts) = SpecialNetIn text parts
-EntryIn text (variants.Via parts) = ViaIn text parts
-EntryIn text (variants.Rule parts) = RuleIn text parts
-EntryIn text (variants.Skipped s tokens) = tokens.text.now ≡ text
+-- the parts of an entry that begins with the first of these tokens
+abbrev pub EntryAt : List Token → code.Entry → Type 0
+EntryAt ps (variants.Component parts) = ComponentAt ps parts
+EntryAt ps (variants.Pin parts) = PinAt ps parts
+EntryAt ps (variants.Region at) = RegionBegins ps at
+EntryAt ps (variants.Group parts) = GroupAt ps parts
+EntryAt ps (variants.Blockage at) = BlockageBegins ps at
+EntryAt ps (variants.Net entry) = NetEntryAt (past 1 ps) entry
+EntryAt ps (variants.SpecialNet parts) = SpecialNetAt ps parts
+EntryAt ps (variants.Via parts) = ViaAt ps parts
+EntryAt ps (variants.Rule parts) = RuleAt ps parts
+EntryAt ps (variants.Skipped s tokens) = RunAt (past 1 ps) tokens

@@ -1,30 +1,39 @@
--- What a text lends: tokens are slices of it, and what is kept to be read later stands in it.
+-- Which tokens a statement's parts are.
 use Rattle.std.specs.Prelude.{◌≡◌, ℕ, List}
 use Rattle.design_model.specs.declared.mode.Mode.{Mode}
-use Rattle.lefdef_tokens.specs.Views.{IsIn}
+use Rattle.statement_model.specs.Tokens as definitions
+use Rattle.lefdef_tokens.specs.Places.{RunAt, StandsAt, past}
+use Rattle.lefdef_tokens.specs.Views.{pieces_of}
 use Rattle.statement_reader.specs.declared.grammar.Read.{Read}
 use Rattle.lefdef_tokens.specs.declared.token.Token.{Token}
 use Rattle.lefdef_tokens.specs.declared.token_run.TokenRun.{TokenRun}
-use Rattle.def_reader.specs.EntryViews.{EntryIn}
-use Rattle.def_reader.specs.FloorViews.{FloorIn}
-use Rattle.def_reader.specs.PropertyViews.{PropertyIn}
+use Rattle.def_reader.specs.EntryViews.{EntryAt}
+use Rattle.def_reader.specs.FloorViews.{FloorAt}
+use Rattle.def_reader.specs.PropertyViews.{PropertyAt}
 use Rattle.def_reader.specs.declared.statement.Statement.{Statement}
 use Rattle.def_reader.specs.declared.statement.Statement.TheVariants as variants
 
-abbrev pub KeptIn : List ℕ → Token × TokenRun → Type 0
-KeptIn text x = IsIn text x.0 × (x.1.text.now ≡ text)
+-- a statement without meaning: the first of these tokens, and the others
+abbrev pub KeptAt : List definitions.Token → Token × TokenRun → Type 0
+KeptAt ps x = StandsAt ps x.0 × RunAt (past 1 ps) x.1
 
+-- the parts of a statement that these tokens are
+abbrev pub StatementAt : List definitions.Token → Statement → Type 0
+StatementAt ps (variants.Units n) = StandsAt (past 3 ps) n
+StatementAt ps variants.EndDesign = Unit {0}
+StatementAt ps variants.Properties = Unit {0}
+StatementAt ps (variants.Extension tokens) = RunAt (past 1 ps) tokens
+StatementAt ps (variants.Floor floor) = FloorAt (past 1 ps) floor
+StatementAt ps (variants.Header s n) = StandsAt (past 1 ps) n
+StatementAt ps (variants.Kept w others) = KeptAt ps (w, others)
+StatementAt ps (variants.EndSection s) = Unit {0}
+StatementAt ps (variants.Property p) = PropertyAt ps p
+StatementAt ps (variants.Entry e) = EntryAt ps e
+
+-- a statement of a text, without its tokens
 abbrev pub StatementIn : List ℕ → Statement → Type 0
-StatementIn text (variants.Units n) = IsIn text n
-StatementIn text variants.EndDesign = Unit {0}
-StatementIn text variants.Properties = Unit {0}
-StatementIn text (variants.Extension tokens) = tokens.text.now ≡ text
-StatementIn text (variants.Floor floor) = FloorIn text floor
-StatementIn text (variants.Header s n) = IsIn text n
-StatementIn text (variants.Kept w others) = IsIn text w × (others.text.now ≡ text)
-StatementIn text (variants.EndSection s) = Unit {0}
-StatementIn text (variants.Property p) = PropertyIn text p
-StatementIn text (variants.Entry e) = EntryIn text e
+StatementIn text s = (run : TokenRun) × (run.text.now ≡ text) × StatementAt (pieces_of run) s
 
+-- a statement of a text, with its tokens
 abbrev pub ReadIn : List ℕ → Read Statement Mode → Type 0
-ReadIn text x = StatementIn text x.statement × (x.tokens.text.now ≡ text)
+ReadIn text x = StatementAt (pieces_of x.tokens) x.statement × (x.tokens.text.now ≡ text)

@@ -5,9 +5,9 @@ ghost use Rattle.std.specs.Option.{option_map};
 ghost use Rattle.form_meanings.specs.Words.{Gives};
 ghost use Rattle.statement_model.specs.Form.{read};
 ghost use Rattle.def_grammar.specs.Records.{entries_form, entry_key, name_of, section_of, skipped_entries};
-ghost use Rattle.lefdef_tokens.specs.Views.{IsLater, rest_of, word_view};
+ghost use Rattle.lefdef_tokens.specs.Views.{IsLater, pieces_of, rest_of, word_view};
 ghost use Rattle.def_parts.specs.PointViews.{with_rest};
-ghost use Rattle.def_reader.specs.EntryViews.{EntryIn, entry_view, is_place_section};
+ghost use Rattle.def_reader.specs.EntryViews.{EntryAt, entry_view, is_place_section};
 ghost use Rattle.def_reader.specs.SeenViews.{key_view};
 
 use crate::seen::Key;
@@ -90,7 +90,7 @@ impl<'t> Entry<'t> {
 fn skipped_at<'t>(section: Section, cursor: Cursor<'t>) -> Option<(Entry<'t>, Cursor<'t>)>
     ensures gives { Gives (with_rest entry_view) result (read (skipped_entries section) (rest_of cursor.entry)) }
     ensures later { IfSome result (λ x. IsLater cursor.entry x.1) }
-    ensures lent { IfSome result (λ x. EntryIn cursor.entry.tokens.text.now x.0) }
+    ensures lent { IfSome result (λ x. EntryAt (pieces_of cursor.entry.tokens) x.0) }
 {
     let (tokens, cursor) = cursor.key(b"-")?.up_to_semicolon();
     let cursor = cursor.key(b";")?;
@@ -103,7 +103,7 @@ fn wire_entry_at<'t>(section: Section, cursor: Cursor<'t>) -> Option<(Entry<'t>,
     requires { is_place_section section ≡ false }
     ensures gives { Gives (with_rest entry_view) result (read (entries_form section) (rest_of cursor.entry)) }
     ensures later { IfSome result (λ x. IsLater cursor.entry x.1) }
-    ensures lent { IfSome result (λ x. EntryIn cursor.entry.tokens.text.now x.0) }
+    ensures lent { IfSome result (λ x. EntryAt (pieces_of cursor.entry.tokens) x.0) }
 {
     match section {
         Section::Nets => {
@@ -131,7 +131,7 @@ fn wire_entry_at<'t>(section: Section, cursor: Cursor<'t>) -> Option<(Entry<'t>,
 pub fn entry_at<'t>(section: Section, cursor: Cursor<'t>) -> Option<(Entry<'t>, Cursor<'t>)>
     ensures gives { Gives (with_rest entry_view) result (read (entries_form section) (rest_of cursor.entry)) }
     ensures later { IfSome result (λ x. IsLater cursor.entry x.1) }
-    ensures lent { IfSome result (λ x. EntryIn cursor.entry.tokens.text.now x.0) }
+    ensures lent { IfSome result (λ x. EntryAt (pieces_of cursor.entry.tokens) x.0) }
 {
     match section {
         Section::Components => {

@@ -5,9 +5,10 @@ ghost use Rattle.std.specs.Prelude.{◌≡◌, IfSome};
 ghost use Rattle.form_meanings.specs.Words.{Gives, next_passes};
 ghost use Rattle.statement_model.specs.Form.{read};
 ghost use Rattle.def_grammar.specs.Top.{floor_statement, is_floor};
-ghost use Rattle.lefdef_tokens.specs.Views.{IsLater, rest_of};
+ghost use Rattle.lefdef_tokens.specs.Places.{past};
+ghost use Rattle.lefdef_tokens.specs.Views.{IsLater, pieces_of, rest_of};
 ghost use Rattle.def_parts.specs.PointViews.{with_rest};
-ghost use Rattle.def_reader.specs.FloorViews.{FloorIn, floor_view};
+ghost use Rattle.def_reader.specs.FloorViews.{FloorAt, floor_view};
 
 use lefdef_tokens::{Cursor, is_word};
 use place_parts::die_area::{DieAreaParts, die_area_at};
@@ -48,7 +49,7 @@ pub(crate) fn next_is_floor<'t>(cursor: Cursor<'t>) -> bool
 pub(crate) fn floor_at<'t>(cursor: Cursor<'t>) -> Option<(Floor<'t>, Cursor<'t>)>
     ensures gives { Gives (with_rest floor_view) result (read floor_statement (rest_of cursor.entry)) }
     ensures later { IfSome result (λ x. IsLater cursor.entry x.1) }
-    ensures lent { IfSome result (λ x. FloorIn cursor.entry.tokens.text.now x.0) }
+    ensures lent { IfSome result (λ x. FloorAt (past 1 (pieces_of cursor.entry.tokens)) x.0) }
 {
     let (word, cursor) = cursor.next()?;
     if is_word(word.bytes, b"DIEAREA") {

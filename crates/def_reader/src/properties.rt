@@ -4,9 +4,9 @@ ghost use Rattle.std.specs.Prelude.{◌≡◌, codes, IfSome};
 ghost use Rattle.form_meanings.specs.Words.{Gives, is_semicolon};
 ghost use Rattle.statement_model.specs.Form.{◌▸◌, ◌◂◌, empty, read, upto};
 ghost use Rattle.def_grammar.specs.Properties.{property_statement};
-ghost use Rattle.lefdef_tokens.specs.Views.{IsLater, rest_of};
+ghost use Rattle.lefdef_tokens.specs.Views.{IsLater, pieces_of, rest_of};
 ghost use Rattle.def_parts.specs.PointViews.{with_rest};
-ghost use Rattle.def_reader.specs.PropertyViews.{PropertyIn, property_view};
+ghost use Rattle.def_reader.specs.PropertyViews.{PropertyAt, property_view};
 
 use lefdef_tokens::{Cursor, TokenRun, is_word};
 
@@ -37,7 +37,7 @@ fn end_at<'t>(cursor: Cursor<'t>) -> Option<Cursor<'t>>
 pub(crate) fn property_at<'t>(cursor: Cursor<'t>) -> Option<(Property<'t>, Cursor<'t>)>
     ensures gives { Gives (with_rest property_view) result (read property_statement (rest_of cursor.entry)) }
     ensures later { IfSome result (λ x. IsLater cursor.entry x.1) }
-    ensures lent { IfSome result (λ x. PropertyIn cursor.entry.tokens.text.now x.0) }
+    ensures lent { IfSome result (λ x. PropertyAt (pieces_of cursor.entry.tokens) x.0) }
 {
     if let Some(left) = end_at(cursor) {
         return Some((Property::End, left));

@@ -4,7 +4,7 @@ ghost use Rattle.std.specs.Prelude.{◌≡◌, ◌≤◌, length, IfOk, IfSome};
 ghost use Rattle.def_grammar.specs.Records.{def};
 ghost use Rattle.lefdef_tokens.specs.Views.{pieces_of, span_of};
 ghost use Rattle.statement_reader.specs.StatementViews.{CutsStatement, ReadsStatement};
-ghost use Rattle.def_reader.specs.Lent.{StatementIn};
+ghost use Rattle.def_reader.specs.Lent.{StatementAt};
 ghost use Rattle.def_reader.specs.StatementViews.{mode_view, record_view};
 
 use crate::statement::Statement;
@@ -20,7 +20,7 @@ pub fn read_statement<'t>(mode: Mode, text: &'t [u8], pos: usize) -> Result<Opti
     requires { pos ≤ length text.now }
     ensures reads { ReadsStatement def mode_view record_view mode text.now pos result }
     ensures cuts { CutsStatement def mode_view mode text.now pos result }
-    ensures lent { IfOk result (λ found. IfSome found (λ x. StatementIn text.now x.statement)) }
+    ensures lent { IfOk result (λ found. IfSome found (λ x. StatementAt (pieces_of x.tokens) x.statement)) }
     ensures text { IfOk result (λ found. IfSome found (λ x. x.tokens.text.now ≡ text.now)) }
     ensures span { IfOk result (λ found. IfSome found (λ x. span_of (pieces_of x.tokens) ≡ record { lo = x.start; hi = x.end })) }
 {

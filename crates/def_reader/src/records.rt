@@ -9,8 +9,8 @@ ghost use Rattle.statement_model.specs.Tokens.{Token};
 ghost use Rattle.def_grammar.specs.Records.{component, component_of, entry, entry_of, Record, read_def};
 ghost use Rattle.def_grammar.specs.Located.{component_at, component_if, located, entry_at, is_entry};
 ghost use Rattle.lefdef_tokens.specs.Views.{pieces_of, span_of, words_of};
-ghost use Rattle.place_parts.specs.ComponentViews.{component_view, ComponentIn};
-ghost use Rattle.def_reader.specs.Lent.{ReadIn, StatementIn};
+ghost use Rattle.place_parts.specs.ComponentViews.{component_view, ComponentAt};
+ghost use Rattle.def_reader.specs.Lent.{ReadIn, StatementAt, StatementIn};
 ghost use Rattle.def_reader.specs.StatementViews.{record_view};
 ghost use Rattle.def_reader.specs.RecordViews.{entry_view, located_view, with_tokens};
 
@@ -56,7 +56,7 @@ pub fn statements_of<'t, A: Allocator>(
 fn named<'t>(statement: Statement<'t>, name: &[u8]) -> Option<ComponentParts<'t>>
     ensures gives { (ps : List Token) → option_map (with_tokens ps) result ≡ component_if name.now ps (component_of (record_view statement.entry)) }
     ensures entry { IfSome result (λ c. record_view statement.entry ≡ entry (component (component_view c))) }
-    ensures lent { (text : List ℕ) → StatementIn text statement.entry → IfSome result (λ c. ComponentIn text c) }
+    ensures lent { (ps : List Token) → StatementAt ps statement.entry → IfSome result (λ c. ComponentAt ps c) }
 {
     match statement {
         Statement::Entry(Entry::Component(parts)) => {
@@ -78,7 +78,7 @@ pub fn component_named<'t>(
     requires { IsOk (read_def text.now) }
     ensures gives { (design : List Record) → read_def text.now ≡ Ok design → option_map entry_view result ≡ component_at name.now (located text.now design) }
     ensures spelled { IfSome result (λ x. words_of x.1 ≡ spell component_form (component_view x.0)) }
-    ensures lent { IfSome result (λ x. ComponentIn text.now x.0) }
+    ensures lent { IfSome result (λ x. ComponentAt (pieces_of x.1) x.0) }
     ensures text { IfSome result (λ x. x.1.text.now ≡ text.now) }
 {
     records_are_read::<Statement<'t>>();

@@ -1,17 +1,18 @@
 //! The statements of a DEF text, and what they are to the one who reads a whole text.
 
-ghost use Rattle.std.specs.Prelude.{◌≡◌, ℕ, List, IfSome};
+ghost use Rattle.std.specs.Prelude.{◌≡◌, List, IfSome};
+ghost use Rattle.statement_model.specs.Tokens as definitions;
 ghost use Rattle.std.specs.Option.{option_map};
 ghost use Rattle.form_meanings.specs.Words.{Gives};
 ghost use Rattle.statement_model.specs.Form.{left, read, right, whole};
 ghost use Rattle.design_model.specs.declared.mode.Section.TheVariants.{Components, Nets};
 ghost use Rattle.def_grammar.specs.Properties.{property_statement};
 ghost use Rattle.def_grammar.specs.Records.{component_of, def, def_ending, end_form, entries_form, entry_of, in_section, is_after, key_of, mode_after, statement};
-ghost use Rattle.lefdef_tokens.specs.Views.{IsLater, rest_of, words_of};
+ghost use Rattle.lefdef_tokens.specs.Views.{IsLater, pieces_of, rest_of, words_of};
 ghost use Rattle.statement_reader.specs.Endings.{ending_view};
-ghost use Rattle.place_parts.specs.ComponentViews.{component_view, ComponentIn};
-ghost use Rattle.def_reader.specs.EntryViews.{EntryIn, entry_view};
-ghost use Rattle.def_reader.specs.Lent.{StatementIn};
+ghost use Rattle.place_parts.specs.ComponentViews.{component_view, ComponentAt};
+ghost use Rattle.def_reader.specs.EntryViews.{EntryAt, entry_view};
+ghost use Rattle.def_reader.specs.Lent.{StatementAt};
 ghost use Rattle.def_parts.specs.PointViews.{with_rest};
 ghost use Rattle.def_reader.specs.SeenViews.{key_view};
 ghost use Rattle.def_reader.specs.StatementViews.{mode_view, record_view};
@@ -69,7 +70,7 @@ impl<'t> Statement<'t> {
     /// The component of an entry.
     pub fn component(self) -> Option<ComponentParts<'t>>
         ensures gives { option_map component_view result ≡ component_of (record_view self.entry) }
-        ensures lent { (text : List ℕ) → StatementIn text self.entry → IfSome result (λ c. ComponentIn text c) }
+        ensures lent { (ps : List definitions.Token) → StatementAt ps self.entry → IfSome result (λ c. ComponentAt ps c) }
     {
         match self {
             Statement::Entry(Entry::Component(parts)) => Some(parts),
@@ -80,7 +81,7 @@ impl<'t> Statement<'t> {
     /// The entry that it is.
     pub fn entry(self) -> Option<Entry<'t>>
         ensures gives { option_map entry_view result ≡ entry_of (record_view self.entry) }
-        ensures lent { (text : List ℕ) → StatementIn text self.entry → IfSome result (λ e. EntryIn text e) }
+        ensures lent { (ps : List definitions.Token) → StatementAt ps self.entry → IfSome result (λ e. EntryAt ps e) }
     {
         match self {
             Statement::Entry(entry) => Some(entry),
@@ -94,7 +95,7 @@ impl<'t> Statement<'t> {
 fn end_at<'t>(section: Section, cursor: Cursor<'t>) -> Option<(Statement<'t>, Cursor<'t>)>
     ensures gives { Gives (with_rest record_view) result (read (right (right (left (end_form section)))) (rest_of cursor.entry)) }
     ensures later { IfSome result (λ x. IsLater cursor.entry x.1) }
-    ensures lent { IfSome result (λ x. StatementIn cursor.entry.tokens.text.now x.0) }
+    ensures lent { IfSome result (λ x. StatementAt (pieces_of cursor.entry.tokens) x.0) }
 {
     let (word, cursor) = cursor.key(b"END")?.next()?;
     if is_word(word.bytes, section.word()) {
@@ -113,7 +114,7 @@ fn end_at<'t>(section: Section, cursor: Cursor<'t>) -> Option<(Statement<'t>, Cu
 fn component_statement_at<'t>(cursor: Cursor<'t>) -> Option<(Statement<'t>, Cursor<'t>)>
     ensures gives { Gives (with_rest record_view) result (read (right (right (right (entries_form Components)))) (rest_of cursor.entry)) }
     ensures later { IfSome result (λ x. IsLater cursor.entry x.1) }
-    ensures lent { IfSome result (λ x. StatementIn cursor.entry.tokens.text.now x.0) }
+    ensures lent { IfSome result (λ x. StatementAt (pieces_of cursor.entry.tokens) x.0) }
 {
     let (parts, cursor) = ComponentParts::read(cursor)?;
     Some((Statement::Entry(Entry::Component(parts)), cursor))
@@ -125,7 +126,7 @@ fn component_statement_at<'t>(cursor: Cursor<'t>) -> Option<(Statement<'t>, Curs
 fn net_statement_at<'t>(cursor: Cursor<'t>) -> Option<(Statement<'t>, Cursor<'t>)>
     ensures gives { Gives (with_rest record_view) result (read (right (right (right (entries_form Nets)))) (rest_of cursor.entry)) }
     ensures later { IfSome result (λ x. IsLater cursor.entry x.1) }
-    ensures lent { IfSome result (λ x. StatementIn cursor.entry.tokens.text.now x.0) }
+    ensures lent { IfSome result (λ x. StatementAt (pieces_of cursor.entry.tokens) x.0) }
 {
     let (net, cursor) = net_entry_at(cursor)?;
     Some((Statement::Entry(Entry::Net(net)), cursor))
@@ -139,7 +140,7 @@ fn entry_statement_at<'t>(
 ) -> Option<(Statement<'t>, Cursor<'t>)>
     ensures gives { Gives (with_rest record_view) result (read (right (right (right (entries_form section)))) (rest_of cursor.entry)) }
     ensures later { IfSome result (λ x. IsLater cursor.entry x.1) }
-    ensures lent { IfSome result (λ x. StatementIn cursor.entry.tokens.text.now x.0) }
+    ensures lent { IfSome result (λ x. StatementAt (pieces_of cursor.entry.tokens) x.0) }
 {
     let (entry, cursor) = entry_at(section, cursor)?;
     Some((Statement::Entry(entry), cursor))
@@ -150,7 +151,7 @@ fn entry_statement_at<'t>(
 fn property_statement_at<'t>(cursor: Cursor<'t>) -> Option<(Statement<'t>, Cursor<'t>)>
     ensures gives { Gives (with_rest record_view) result (read (right (left property_statement)) (rest_of cursor.entry)) }
     ensures later { IfSome result (λ x. IsLater cursor.entry x.1) }
-    ensures lent { IfSome result (λ x. StatementIn cursor.entry.tokens.text.now x.0) }
+    ensures lent { IfSome result (λ x. StatementAt (pieces_of cursor.entry.tokens) x.0) }
 {
     let (property, cursor) = property_at(cursor)?;
     Some((Statement::Property(property), cursor))
@@ -162,7 +163,7 @@ fn property_statement_at<'t>(cursor: Cursor<'t>) -> Option<(Statement<'t>, Curso
 fn statement_at<'t>(mode: Mode, cursor: Cursor<'t>) -> Option<(Statement<'t>, Cursor<'t>)>
     ensures gives { Gives (with_rest record_view) result (read (statement mode) (rest_of cursor.entry)) }
     ensures later { IfSome result (λ x. IsLater cursor.entry x.1) }
-    ensures lent { IfSome result (λ x. StatementIn cursor.entry.tokens.text.now x.0) }
+    ensures lent { IfSome result (λ x. StatementAt (pieces_of cursor.entry.tokens) x.0) }
 {
     let ends = cursor.next_is(b"END");
     match mode {
@@ -192,7 +193,7 @@ impl<'t> grammar::Statement<'t> for Statement<'t> {
 
     ghost view = { record_view };
 
-    ghost lent = { StatementIn };
+    ghost lent = { StatementAt };
 
     fn ending(_mode: Mode, first: &[u8]) -> Ending
         ensures { ending_view result ≡ def_ending first.now }
@@ -210,7 +211,7 @@ impl<'t> grammar::Statement<'t> for Statement<'t> {
 
     fn read(mode: Mode, tokens: TokenRun<'t>) -> Option<(Statement<'t>, Option<usize>)>
         ensures gives { Gives (λ x. (record_view x.0, x.1)) result (whole (statement mode) (words_of tokens.entry)) }
-        ensures lent { IfSome result (λ x. StatementIn tokens.entry.text.now x.0) }
+        ensures lent { IfSome result (λ x. StatementAt (pieces_of tokens.entry) x.0) }
     {
         let (statement, cursor) = statement_at(mode, Cursor::start(tokens))?;
         if cursor.is_done() {

@@ -5,8 +5,9 @@ ghost use Rattle.form_meanings.specs.Words.{Gives, next_passes};
 ghost use Rattle.statement_model.specs.Form.{left, read, right};
 ghost use Rattle.def_grammar.specs.Extensions.{extension_statement, is_end_of_extension};
 ghost use Rattle.def_grammar.specs.Top.{begins_none, header_statement, is_section, kept_statement, other_statement, plain_statement, top_statement, units_statement};
-ghost use Rattle.lefdef_tokens.specs.Views.{IsIn, IsLater, rest_of, run_of, word_of};
-ghost use Rattle.def_reader.specs.Lent.{KeptIn, StatementIn};
+ghost use Rattle.lefdef_tokens.specs.Places.{RunAt, StandsAt, past};
+ghost use Rattle.lefdef_tokens.specs.Views.{IsLater, pieces_of, rest_of, run_of, word_of};
+ghost use Rattle.def_reader.specs.Lent.{KeptAt, StatementAt};
 ghost use Rattle.def_parts.specs.PointViews.{with_rest};
 ghost use Rattle.def_reader.specs.StatementViews.{header_view, kept_view, record_view};
 
@@ -21,7 +22,7 @@ use lefdef_tokens::{Cursor, PartEnd, Token, TokenRun, is_quoted, is_word};
 fn units_at<'t>(cursor: Cursor<'t>) -> Option<(Token<'t>, Cursor<'t>)>
     ensures gives { Gives word_of result (read units_statement (rest_of cursor.entry)) }
     ensures later { IfSome result (λ x. IsLater cursor.entry x.1) }
-    ensures lent { IfSome result (λ x. IsIn cursor.entry.tokens.text.now x.0) }
+    ensures lent { IfSome result (λ x. StandsAt (past 2 (pieces_of cursor.entry.tokens)) x.0) }
 {
     let cursor = cursor.key(b"DISTANCE")?.key(b"MICRONS")?;
     let (number, cursor) = scale_at(cursor)?;
@@ -34,7 +35,7 @@ fn units_at<'t>(cursor: Cursor<'t>) -> Option<(Token<'t>, Cursor<'t>)>
 fn header_at<'t>(cursor: Cursor<'t>) -> Option<((Section, Token<'t>), Cursor<'t>)>
     ensures gives { Gives (with_rest header_view) result (read header_statement (rest_of cursor.entry)) }
     ensures later { IfSome result (λ x. IsLater cursor.entry x.1) }
-    ensures lent { IfSome result (λ x. IsIn cursor.entry.tokens.text.now x.0.1) }
+    ensures lent { IfSome result (λ x. StandsAt (past 1 (pieces_of cursor.entry.tokens)) x.0.1) }
 {
     let (word, cursor) = cursor.next()?;
     let section = Section::of_word(word.bytes)?;
@@ -72,7 +73,7 @@ impl PartEnd for ExtensionEnd {
 fn extension_at<'t>(cursor: Cursor<'t>) -> Option<(TokenRun<'t>, Cursor<'t>)>
     ensures gives { Gives run_of result (read extension_statement (rest_of cursor.entry)) }
     ensures later { IfSome result (λ x. IsLater cursor.entry x.1) }
-    ensures lent { IfSome result (λ x. x.0.text.now ≡ cursor.entry.tokens.text.now) }
+    ensures lent { IfSome result (λ x. RunAt (pieces_of cursor.entry.tokens) x.0) }
 {
     let (tokens, cursor) = cursor.up_to::<ExtensionEnd>();
     let cursor = cursor.key(b"ENDEXT")?;
@@ -84,7 +85,7 @@ fn extension_at<'t>(cursor: Cursor<'t>) -> Option<(TokenRun<'t>, Cursor<'t>)>
 fn kept_at<'t>(cursor: Cursor<'t>) -> Option<((Token<'t>, TokenRun<'t>), Cursor<'t>)>
     ensures gives { Gives (with_rest kept_view) result (read kept_statement (rest_of cursor.entry)) }
     ensures later { IfSome result (λ x. IsLater cursor.entry x.1) }
-    ensures lent { IfSome result (λ x. KeptIn cursor.entry.tokens.text.now x.0) }
+    ensures lent { IfSome result (λ x. KeptAt (pieces_of cursor.entry.tokens) x.0) }
 {
     let (word, cursor) = cursor.next()?;
     if begins_none(word.bytes) {
@@ -98,7 +99,7 @@ fn kept_at<'t>(cursor: Cursor<'t>) -> Option<((Token<'t>, TokenRun<'t>), Cursor<
 fn other_at<'t>(cursor: Cursor<'t>) -> Option<(Statement<'t>, Cursor<'t>)>
     ensures gives { Gives (with_rest record_view) result (read (left (right (right (right (right other_statement))))) (rest_of cursor.entry)) }
     ensures later { IfSome result (λ x. IsLater cursor.entry x.1) }
-    ensures lent { IfSome result (λ x. StatementIn cursor.entry.tokens.text.now x.0) }
+    ensures lent { IfSome result (λ x. StatementAt (pieces_of cursor.entry.tokens) x.0) }
 {
     if cursor.next_is(b"BEGINEXT") {
         let (tokens, cursor) = extension_at(cursor.key(b"BEGINEXT")?)?;
@@ -117,7 +118,7 @@ fn other_at<'t>(cursor: Cursor<'t>) -> Option<(Statement<'t>, Cursor<'t>)>
 fn plain_at<'t>(cursor: Cursor<'t>) -> Option<(Statement<'t>, Cursor<'t>)>
     ensures gives { Gives (with_rest record_view) result (read (left (right plain_statement)) (rest_of cursor.entry)) }
     ensures later { IfSome result (λ x. IsLater cursor.entry x.1) }
-    ensures lent { IfSome result (λ x. StatementIn cursor.entry.tokens.text.now x.0) }
+    ensures lent { IfSome result (λ x. StatementAt (pieces_of cursor.entry.tokens) x.0) }
 {
     if cursor.next_is(b"UNITS") {
         let (number, cursor) = units_at(cursor.key(b"UNITS")?)?;
@@ -148,7 +149,7 @@ fn next_is_section<'t>(cursor: Cursor<'t>) -> bool
 pub fn top_at<'t>(cursor: Cursor<'t>) -> Option<(Statement<'t>, Cursor<'t>)>
     ensures gives { Gives (with_rest record_view) result (read (left top_statement) (rest_of cursor.entry)) }
     ensures later { IfSome result (λ x. IsLater cursor.entry x.1) }
-    ensures lent { IfSome result (λ x. StatementIn cursor.entry.tokens.text.now x.0) }
+    ensures lent { IfSome result (λ x. StatementAt (pieces_of cursor.entry.tokens) x.0) }
 {
     if next_is_section(cursor) {
         let ((section, number), cursor) = header_at(cursor)?;

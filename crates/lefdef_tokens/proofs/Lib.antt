@@ -6,6 +6,7 @@ pub mod LaneLemmas
 pub mod LaneMasks
 pub mod Lexing
 pub mod Moving
+pub mod PlaceLemmas
 pub mod PlainWords
 pub mod RunLemmas
 pub mod ShortWords

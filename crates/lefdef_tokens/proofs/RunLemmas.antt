@@ -4,7 +4,7 @@ use Rattle.std.specs.List.{slice_get}
 use Rattle.std.proofs.lemmas.List.{append-nil}
 use Rattle.form_meanings.specs.Words.{split_at}
 
-take_suc : {A : Type 0} (xs : List A) (n : ℕ) (p : A) (ps : List A) → drop n xs ≡ p ∷ ps → take (suc n) xs ≡ take n xs ++ p ∷ []
+pub take_suc : {A : Type 0} (xs : List A) (n : ℕ) (p : A) (ps : List A) → drop n xs ≡ p ∷ ps → take (suc n) xs ≡ take n xs ++ p ∷ []
 take_suc [] zero p ps h = cc
 take_suc [] (suc n) p ps h = cc
 take_suc (x ∷ xs) zero p ps h = let same : x ≡ p = cc in rw same refl

@@ -1,5 +1,6 @@
 pub mod Expected
 pub mod Laws
+pub mod Places
 pub mod Runs
 pub mod Skipping
 pub mod TokenViews

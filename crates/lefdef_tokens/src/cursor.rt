@@ -24,7 +24,8 @@ impl<'t> Cursor<'t> {
     ghost use Rattle.std.specs.Prelude.{◌∷◌, List, [], length, false, ℕ, IfSome, MatchOption};
     ghost use Rattle.form_meanings.specs.Words.{Gives, is_done, is_name, is_plain, is_place, is_plus, is_semicolon, is_stop, is_word, key, name_at, next_passes, next_word, noted, split_rest, word_that};
     ghost use Rattle.statement_model.specs.Form.{◌▸◌, read, word};
-    ghost use Rattle.lefdef_tokens.specs.TokenViews.{StandsFirst};
+    ghost use Rattle.lefdef_tokens.specs.TokenViews.{StandsFirst, pieces_of};
+    ghost use Rattle.lefdef_tokens.specs.Places.{StandsAt, RunAt, behind, past};
     ghost use Rattle.lefdef_tokens.specs.Unseens.{IsFurther, unseen_rest};
     ghost use Rattle.lefdef_tokens.specs.Views.{IsIn, IsLater, rest_of, run_of, word_of, words_of};
 
@@ -66,7 +67,8 @@ impl<'t> Cursor<'t> {
         ensures gives { Gives word_of result (next_word (rest_of self.entry)) }
         ensures first { MatchOption result (words_of self.entry.tokens ≡ []) (λ x. words_of self.entry.tokens ≡ x.0.bytes.now ∷ words_of x.1.tokens) }
         ensures bad { IfSome result (λ x. x.1.bad ≡ self.entry.bad) }
-        ensures slice { IfSome result (λ x. IsIn self.entry.tokens.text.now x.0) }
+        ensures at { IfSome result (λ x. StandsAt (pieces_of self.entry.tokens) x.0) }
+        ensures left { IfSome result (λ x. pieces_of x.1.tokens ≡ past 1 (pieces_of self.entry.tokens)) }
         ensures later { IfSome result (λ x. IsLater self.entry x.1) }
     {
         let first = self.first()?;
@@ -77,7 +79,7 @@ impl<'t> Cursor<'t> {
     #[inline(always)]
     pub fn peek(self) -> Option<Token<'t>>
         ensures first { MatchOption result (words_of self.entry.tokens ≡ []) (λ token. (ws : List (List ℕ)) × (words_of self.entry.tokens ≡ token.bytes.now ∷ ws)) }
-        ensures slice { IfSome result (λ token. IsIn self.entry.tokens.text.now token) }
+        ensures at { IfSome result (λ token. StandsAt (pieces_of self.entry.tokens) token) }
     {
         self.first()
     }
@@ -102,6 +104,7 @@ impl<'t> Cursor<'t> {
     #[inline(always)]
     pub fn key(self, word: &[u8]) -> Option<Cursor<'t>>
         ensures gives { Gives rest_of result (key word.now (rest_of self.entry)) }
+        ensures left { IfSome result (λ x. pieces_of x.tokens ≡ past 1 (pieces_of self.entry.tokens)) }
         ensures later { IfSome result (λ x. IsLater self.entry x) }
     {
         let (token, cursor) = self.next()?;
@@ -116,6 +119,7 @@ impl<'t> Cursor<'t> {
     #[inline(always)]
     pub fn past(self, word: &[u8]) -> Option<Unseen<'t>>
         ensures gives { Gives unseen_rest result (key word.now (rest_of self.entry)) }
+        ensures left { IfSome result (λ x. pieces_of x.tokens ≡ past 1 (pieces_of self.entry.tokens)) }
         ensures further { IfSome result (λ x. IsFurther self.entry.tokens x.tokens) }
     {
         let first = self.first()?;
@@ -132,7 +136,8 @@ impl<'t> Cursor<'t> {
     #[inline(always)]
     pub fn name(self) -> Option<(Token<'t>, Cursor<'t>)>
         ensures gives { Gives word_of result (name_at (rest_of self.entry)) }
-        ensures slice { IfSome result (λ x. IsIn self.entry.tokens.text.now x.0) }
+        ensures at { IfSome result (λ x. StandsAt (pieces_of self.entry.tokens) x.0) }
+        ensures left { IfSome result (λ x. pieces_of x.1.tokens ≡ past 1 (pieces_of self.entry.tokens)) }
         ensures later { IfSome result (λ x. IsLater self.entry x.1) }
     {
         let (token, cursor) = self.next()?;
@@ -147,7 +152,8 @@ impl<'t> Cursor<'t> {
     #[inline(always)]
     pub fn plain_word(self) -> Option<(Token<'t>, Cursor<'t>)>
         ensures gives { Gives word_of result (word_that is_plain (rest_of self.entry)) }
-        ensures slice { IfSome result (λ x. IsIn self.entry.tokens.text.now x.0) }
+        ensures at { IfSome result (λ x. StandsAt (pieces_of self.entry.tokens) x.0) }
+        ensures left { IfSome result (λ x. pieces_of x.1.tokens ≡ past 1 (pieces_of self.entry.tokens)) }
         ensures later { IfSome result (λ x. IsLater self.entry x.1) }
     {
         let (token, cursor) = self.next()?;
@@ -162,7 +168,8 @@ impl<'t> Cursor<'t> {
     #[inline(always)]
     pub fn name_behind(self, keyword: &[u8]) -> Option<(Token<'t>, Cursor<'t>)>
         ensures gives { Gives word_of result (read (keyword.now ▸ word is_name) (rest_of self.entry)) }
-        ensures slice { IfSome result (λ x. IsIn self.entry.tokens.text.now x.0) }
+        ensures at { IfSome result (λ x. StandsAt (past 1 (pieces_of self.entry.tokens)) x.0) }
+        ensures left { IfSome result (λ x. pieces_of x.1.tokens ≡ past 2 (pieces_of self.entry.tokens)) }
         ensures later { IfSome result (λ x. IsLater self.entry x.1) }
     {
         self.key(keyword)?.name()
@@ -172,7 +179,8 @@ impl<'t> Cursor<'t> {
     #[inline(always)]
     pub fn plain_word_behind(self, keyword: &[u8]) -> Option<(Token<'t>, Cursor<'t>)>
         ensures gives { Gives word_of result (read (keyword.now ▸ word is_plain) (rest_of self.entry)) }
-        ensures slice { IfSome result (λ x. IsIn self.entry.tokens.text.now x.0) }
+        ensures at { IfSome result (λ x. StandsAt (past 1 (pieces_of self.entry.tokens)) x.0) }
+        ensures left { IfSome result (λ x. pieces_of x.1.tokens ≡ past 2 (pieces_of self.entry.tokens)) }
         ensures later { IfSome result (λ x. IsLater self.entry x.1) }
     {
         self.key(keyword)?.plain_word()
@@ -182,7 +190,8 @@ impl<'t> Cursor<'t> {
     #[inline(always)]
     pub fn place(self) -> Option<(Token<'t>, Cursor<'t>)>
         ensures gives { Gives word_of result (word_that is_place (rest_of self.entry)) }
-        ensures slice { IfSome result (λ x. IsIn self.entry.tokens.text.now x.0) }
+        ensures at { IfSome result (λ x. StandsAt (pieces_of self.entry.tokens) x.0) }
+        ensures left { IfSome result (λ x. pieces_of x.1.tokens ≡ past 1 (pieces_of self.entry.tokens)) }
         ensures later { IfSome result (λ x. IsLater self.entry x.1) }
     {
         let (token, cursor) = self.next()?;
@@ -248,6 +257,8 @@ impl<'t> Cursor<'t> {
     pub fn up_to<E: PartEnd>(self) -> (TokenRun<'t>, Cursor<'t>)
         ensures gives { run_of result ≡ split_rest E.test (rest_of self.entry) }
         ensures later { IsLater self.entry result.1 }
+        ensures at { RunAt (pieces_of self.entry.tokens) result.0 }
+        ensures left { pieces_of result.1.tokens ≡ behind (words_of result.0) (pieces_of self.entry.tokens) }
         ensures lent { result.0.text.now ≡ self.entry.tokens.text.now }
     {
         let mut left = self;
@@ -266,6 +277,8 @@ impl<'t> Cursor<'t> {
     pub fn rest(self) -> (TokenRun<'t>, Cursor<'t>)
         ensures gives { run_of result ≡ split_rest is_stop (rest_of self.entry) }
         ensures later { IsLater self.entry result.1 }
+        ensures at { RunAt (pieces_of self.entry.tokens) result.0 }
+        ensures left { pieces_of result.1.tokens ≡ behind (words_of result.0) (pieces_of self.entry.tokens) }
         ensures lent { result.0.text.now ≡ self.entry.tokens.text.now }
     {
         self.up_to::<ClauseEnd>()
@@ -275,6 +288,8 @@ impl<'t> Cursor<'t> {
     pub fn up_to_semicolon(self) -> (TokenRun<'t>, Cursor<'t>)
         ensures gives { run_of result ≡ split_rest is_semicolon (rest_of self.entry) }
         ensures later { IsLater self.entry result.1 }
+        ensures at { RunAt (pieces_of self.entry.tokens) result.0 }
+        ensures left { pieces_of result.1.tokens ≡ behind (words_of result.0) (pieces_of self.entry.tokens) }
         ensures lent { result.0.text.now ≡ self.entry.tokens.text.now }
     {
         self.up_to::<StatementEnd>()
@@ -284,6 +299,8 @@ impl<'t> Cursor<'t> {
     pub fn tail(self) -> (TokenRun<'t>, Cursor<'t>)
         ensures gives { run_of result ≡ split_rest (λ w. false) (rest_of self.entry) }
         ensures later { IsLater self.entry result.1 }
+        ensures at { RunAt (pieces_of self.entry.tokens) result.0 }
+        ensures left { pieces_of result.1.tokens ≡ behind (words_of result.0) (pieces_of self.entry.tokens) }
         ensures lent { result.0.text.now ≡ self.entry.tokens.text.now }
     {
         let none = TokenRun {

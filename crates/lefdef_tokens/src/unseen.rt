@@ -21,7 +21,8 @@ impl<'t> Unseen<'t> {
     ghost use Rattle.std.specs.List.{slice_range};
     ghost use Rattle.form_meanings.specs.Words.{is_place, next_word};
     ghost use Rattle.design_model.specs.Units.{are_digits};
-    ghost use Rattle.lefdef_tokens.specs.Views.{IsIn, rest_of, words_of};
+    ghost use Rattle.lefdef_tokens.specs.Views.{pieces_of, rest_of, words_of};
+    ghost use Rattle.lefdef_tokens.specs.Places.{StandsAt, past};
     ghost use Rattle.lefdef_tokens.specs.Unseens.{Finds, IsFurther, unseen_rest, unseen_word};
 
     /// The same tokens, where the next one is looked for.
@@ -39,7 +40,8 @@ impl<'t> Unseen<'t> {
         requires { 0 < self.tokens.count → ComesFirst self.tokens.text.now self.tokens.pos start end }
         ensures next { Finds unseen_word result (next_word (unseen_rest self.entry)) }
         ensures first { IfSome result (λ x. words_of self.entry.tokens ≡ x.0.bytes.now ∷ words_of x.1.tokens) }
-        ensures slice { IfSome result (λ x. IsIn self.entry.tokens.text.now x.0) }
+        ensures at { IfSome result (λ x. StandsAt (pieces_of self.entry.tokens) x.0) }
+        ensures left { IfSome result (λ x. pieces_of x.1.tokens ≡ past 1 (pieces_of self.entry.tokens)) }
         ensures bytes { IfSome result (λ x. x.0.bytes.now ≡ slice_range self.entry.tokens.text.now start end) }
         ensures further { IfSome result (λ x. IsFurther self.entry.tokens x.1.tokens) }
     {
@@ -60,7 +62,8 @@ impl<'t> Unseen<'t> {
         ensures digits { IfSome result (λ x. are_digits x.0.bytes.now ≡ true) }
         ensures few { IfSome result (λ x. length x.0.bytes.now ≤ 9) }
         ensures place { IfSome result (λ x. is_place x.0.bytes.now ≡ true) }
-        ensures slice { IfSome result (λ x. IsIn self.entry.tokens.text.now x.0) }
+        ensures at { IfSome result (λ x. StandsAt (pieces_of self.entry.tokens) x.0) }
+        ensures left { IfSome result (λ x. pieces_of x.1.tokens ≡ past 1 (pieces_of self.entry.tokens)) }
         ensures further { IfSome result (λ x. IsFurther self.entry.tokens x.1.tokens) }
     {
         let (start, end) = digits_at(self.tokens.text, self.tokens.pos)?;
@@ -75,7 +78,8 @@ impl<'t> Unseen<'t> {
         ensures next { Finds unseen_word result (next_word (unseen_rest self.entry)) }
         ensures first { IfSome result (λ x. words_of self.entry.tokens ≡ x.0.bytes.now ∷ words_of x.1.tokens) }
         ensures word { IfSome result (λ x. x.0.bytes.now ≡ mark ∷ []) }
-        ensures slice { IfSome result (λ x. IsIn self.entry.tokens.text.now x.0) }
+        ensures at { IfSome result (λ x. StandsAt (pieces_of self.entry.tokens) x.0) }
+        ensures left { IfSome result (λ x. pieces_of x.1.tokens ≡ past 1 (pieces_of self.entry.tokens)) }
         ensures further { IfSome result (λ x. IsFurther self.entry.tokens x.1.tokens) }
     {
         let (start, end) = mark_at(self.tokens.text, self.tokens.pos, mark)?;

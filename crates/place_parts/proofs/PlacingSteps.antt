@@ -4,19 +4,23 @@ use Rattle.std.proofs.lemmas.List.{append-nil}
 use Rattle.form_meanings.specs.Words.{Rest}
 use Rattle.form_meanings.specs.Meaning.{spell_all}
 use Rattle.statement_model.specs.Form.{read, spell}
+use Rattle.statement_model.specs.Tokens.{Token}
+use Rattle.lefdef_tokens.specs.Places.{behind}
+use Rattle.lefdef_tokens.proofs.PlaceLemmas.{behind_append}
 use Rattle.def_grammar.specs.Components.{Clause, clause, is_placing}
 use Rattle.def_grammar.specs.Placing.{placing, before_placing}
-use Rattle.place_parts.proofs.PlacingTokens.{more_before, none_before}
+use Rattle.place_parts.proofs.PlacingTokens.{more_before, none_before, spell_both}
 
 -- some clauses passed that don't place the component, and others are left
-pub record Passing (all : List Clause) (start : Rest) (left : List Clause) (now : Rest) : Type 0 where
+pub record Passing (all : List Clause) (start : Rest) (first : List Token) (left : List Clause) (now : Rest) (next : List Token) : Type 0 where
   pub passed : List Clause
   pub places : placing all ≡ placing left
   pub before : before_placing all ≡ passed ++ before_placing left
   pub words : start.words ≡ spell_all (spell clause) passed ++ now.words
+  pub tokens : next ≡ behind (spell_all (spell clause) passed) first
 
-pub passing_start : (all : List Clause) (start : Rest) → Passing all start all start
-passing_start all start = record { passed = []; places = refl; before = refl; words = refl }
+pub passing_start : (all : List Clause) (start : Rest) (first : List Token) → Passing all start first all start first
+passing_start all start first = record { passed = []; places = refl; before = refl; words = refl; tokens = refl }
 
 spell_one_more : (passed : List Clause) (c : Clause) (ws : List (List ℕ)) → spell_all (spell clause) passed ++ (spell clause c ++ ws) ≡ spell_all (spell clause) (passed ++ c ∷ []) ++ ws
 spell_one_more [] c ws = sym (append_assoc (spell clause c) [] ws)
@@ -25,7 +29,11 @@ spell_one_more (p ∷ ps) c ws =
     ∙ ap (λ (z : List (List ℕ)). spell clause p ++ z) (spell_one_more ps c ws)
     ∙ sym (append_assoc (spell clause p) (spell_all (spell clause) (ps ++ c ∷ [])) ws)
 
-module _ (all : List Clause) (start : Rest) (left : List Clause) (now : Rest) (p : Passing all start left now) where
+-- the words of some clauses, and of one more
+spell_last : (passed : List Clause) (c : Clause) → spell_all (spell clause) passed ++ spell clause c ≡ spell_all (spell clause) (passed ++ c ∷ [])
+spell_last passed c = sym (spell_both passed (c ∷ []) ∙ ap (λ (z : List (List ℕ)). spell_all (spell clause) passed ++ z) (append-nil (spell clause c)))
+
+module _ (all : List Clause) (start : Rest) (first : List Token) (left : List Clause) (now : Rest) (next : List Token) (p : Passing all start first left now next) where
   pub none_left : left ≡ [] → placing all ≡ None
   none_left is = p.places ∙ rw is refl
 
@@ -40,12 +48,13 @@ module _ (all : List Clause) (start : Rest) (left : List Clause) (now : Rest) (p
     pub clause_tokens : length now.words ≡ length (spell clause c) + length after.words
     clause_tokens = rw here (length-append (spell clause c) after.words)
 
-    pub passing_on : is_placing c ≡ false → Passing all start later after
-    passing_on other = record {
+    pub passing_on : (behind_it : List Token) → behind_it ≡ behind (spell clause c) next → is_placing c ≡ false → Passing all start first later after behind_it
+    passing_on behind_it moved other = record {
       passed = p.passed ++ c ∷ [];
       places = p.places ∙ rw (step, other) refl;
       before = p.before ∙ rw (step, more_before c later other) (sym (append_assoc p.passed (c ∷ []) (before_placing later)));
       words = p.words ∙ ap (λ (z : List (List ℕ)). spell_all (spell clause) p.passed ++ z) here ∙ spell_one_more p.passed c after.words;
+      tokens = moved ∙ ap (behind (spell clause c)) p.tokens ∙ sym (behind_append (spell_all (spell clause) p.passed) (spell clause c) first) ∙ ap (λ (z : List (List ℕ)). behind z first) (spell_last p.passed c);
     }
 
     module _ (is : is_placing c ≡ true) where
@@ -62,3 +71,7 @@ module _ (all : List Clause) (start : Rest) (left : List Clause) (now : Rest) (p
 
       pub found_count : length now.words - length after.words ≡ length (spell clause c)
       found_count = rw clause_tokens (omega arith)
+
+      -- the clause that places it is next
+      pub found_next : next ≡ behind (spell_all (spell clause) (before_placing all)) first
+      found_next = p.tokens ∙ ap (λ (cs : List Clause). behind (spell_all (spell clause) cs) first) (sym (all_before ∙ append-nil p.passed))

@@ -28,7 +28,7 @@ split_at_placing (c ∷ cs) old h = elim (cases_Bool (is_placing c)) [
   | inr other ↦ let later = split_at_placing cs old (rw other at h) in (later.0, rw (more_before c cs other) (ap (λ (z : List Clause). c ∷ z) later.1))
 ]
 
-spell_both : (xs ys : List Clause) → spell_all (spell clause) (xs ++ ys) ≡ spell_all (spell clause) xs ++ spell_all (spell clause) ys
+pub spell_both : (xs ys : List Clause) → spell_all (spell clause) (xs ++ ys) ≡ spell_all (spell clause) xs ++ spell_all (spell clause) ys
 spell_both [] ys = refl
 spell_both (x ∷ xs) ys = ap (λ (z : List (List ℕ)). spell clause x ++ z) (spell_both xs ys) ∙ sym (append_assoc (spell clause x) (spell_all (spell clause) xs) (spell_all (spell clause) ys))
 

@@ -1,5 +1,5 @@
 -- The clauses of a component, noted one by one for what they say of where it stands.
-use Rattle.std.proofs.Common.{◌≡◌, ◌-◌, ℕ, Bool, true, false, List, [], ◌∷◌, Bor, Option, Some, None, refl, sym, ap, ◌∙◌, zero, suc}
+use Rattle.std.proofs.Common.{◌≡◌, ℕ, Bool, false, List, [], ◌∷◌, Bor, Option, Some, None, refl, sym, ap, ◌∙◌, zero, suc}
 use Rattle.std.specs.Option.{option_map, option_or}
 use Rattle.form_meanings.specs.Words.{Rest, next_passes}
 use Rattle.form_meanings.specs.Meaning.{repeat}

@@ -1,14 +1,14 @@
--- Statements that are kept by where they stand, as what is read there.
-use Rattle.std.specs.Prelude.{◌≡◌, ℕ, List, [], Option, Some, None}
+-- Statements that are kept by where they stand, as what is read there, and with which token they begin.
+use Rattle.std.specs.Prelude.{◌≡◌, List, [], Option, Some, None}
 use Rattle.design_model.specs.declared.geometry.Orient.TheVariants.{N}
 use Rattle.form_meanings.specs.Words.{Rest}
 use Rattle.statement_model.specs.Form.{read}
 use Rattle.def_grammar.specs.Parts.{Coordinates}
 use Rattle.def_grammar.specs.Blockages.{BlockageEntry, blockage_form, blockage_kept}
-use Rattle.def_grammar.specs.Points.{Corners}
 use Rattle.def_grammar.specs.Regions.{Region, region_form}
 use Rattle.def_grammar.specs.Rows.{Row, row_statement}
-use Rattle.lefdef_tokens.specs.Views.{rest_of}
+use Rattle.statement_model.specs.Tokens.{Token}
+use Rattle.lefdef_tokens.specs.Views.{pieces_of, rest_of}
 use Rattle.place_parts.specs.declared.read_again.BlockageAt.{BlockageAt}
 use Rattle.place_parts.specs.declared.read_again.RegionAt.{RegionAt}
 use Rattle.place_parts.specs.declared.read_again.RowAt.{RowAt}
@@ -36,12 +36,12 @@ blockage_at_view k = read_or (blockage_kept []) (read blockage_form (rest_of k.c
 abbrev pub row_at_view : RowAt → Row
 row_at_view k = read_or no_row (read row_statement (rest_of k.cursor))
 
--- what the text lends
-abbrev pub RegionAtIn : List ℕ → RegionAt → Type 0
-RegionAtIn text k = k.cursor.tokens.text.now ≡ text
+-- what is kept begins with the first of these tokens
+abbrev pub RegionBegins : List Token → RegionAt → Type 0
+RegionBegins ps k = pieces_of k.cursor.tokens ≡ ps
 
-abbrev pub BlockageAtIn : List ℕ → BlockageAt → Type 0
-BlockageAtIn text k = k.cursor.tokens.text.now ≡ text
+abbrev pub BlockageBegins : List Token → BlockageAt → Type 0
+BlockageBegins ps k = pieces_of k.cursor.tokens ≡ ps
 
-abbrev pub RowAtIn : List ℕ → RowAt → Type 0
-RowAtIn text k = k.cursor.tokens.text.now ≡ text
+abbrev pub RowBegins : List Token → RowAt → Type 0
+RowBegins ps k = pieces_of k.cursor.tokens ≡ ps

@@ -1,14 +1,17 @@
--- Entries of BLOCKAGES of the program as those of the definitions, and what they lend from a text.
-use Rattle.std.specs.Prelude.{ℕ, List}
+-- Entries of BLOCKAGES of the program as those of the definitions, and which tokens they are.
+use Rattle.std.specs.Prelude.{List}
 use Rattle.form_meanings.specs.Words.{is_plus}
-use Rattle.form_meanings.specs.Meaning.{items}
-use Rattle.statement_model.specs.Form.{read}
-use Rattle.def_grammar.specs.Blockages.{Blockage, BlockageEntry, BlockageKind, BlockageShape, blockage_clause, blockage_kept, blockage_shape, blocked_polygon, blocked_rectangle, blocks, blocks_layer, blocks_placement, is_shape}
+use Rattle.form_meanings.specs.Meaning.{items, spell_all}
+use Rattle.statement_model.specs.Form.{read, spell}
+use Rattle.statement_model.specs.Tokens.{Token}
+use Rattle.def_grammar.specs.Blockages.{Blockage, BlockageEntry, BlockageKind, BlockageShape, blockage_clause, blockage_kept, blockage_kind, blockage_shape, blocked_polygon, blocked_rectangle, blocks, blocks_layer, blocks_placement, is_shape}
 use Rattle.def_grammar.specs.Clauses.{KeptClause}
-use Rattle.lefdef_tokens.specs.Views.{IsIn, rest_of, words_of}
+use Rattle.lefdef_tokens.specs.Places.{RunAt, StandsAt, behind, past}
+use Rattle.lefdef_tokens.specs.Views.{rest_of, words_of}
+use Rattle.statement_reader.specs.PartViews.{PartsAt}
 use Rattle.statement_reader.specs.declared.parts.Parts.{Parts}
-use Rattle.def_parts.specs.ClauseViews.{KeptIn, RunIn, kept_view}
-use Rattle.def_parts.specs.PointViews.{CornersIn, PartsIn, PolygonIn, corners_view, polygon_view}
+use Rattle.def_parts.specs.ClauseViews.{KeptAt, kept_view}
+use Rattle.def_parts.specs.PointViews.{CornersAt, PolygonAt, corners_view, polygon_view}
 use Rattle.place_parts.specs.declared.blockages.BlockageClause.{BlockageClause}
 use Rattle.place_parts.specs.declared.blockages.BlockageEntry as code
 use Rattle.place_parts.specs.declared.blockages.BlockageEntry.TheVariants as entries
@@ -49,21 +52,39 @@ abbrev pub blockage_entry_view : code.BlockageEntry → BlockageEntry
 blockage_entry_view (entries.Blocks b) = blocks (blockage_view b)
 blockage_entry_view (entries.Kept tokens) = blockage_kept (words_of tokens)
 
--- what the text lends: tokens are slices of it, and what is kept to be read later stands in it
-abbrev pub BlockageKindIn : List ℕ → code_kind.BlockageKind → Type 0
-BlockageKindIn text (kinds.Layer name) = IsIn text name
-BlockageKindIn text kinds.Placement = Unit {0}
+-- the name behind LAYER
+abbrev pub BlockageKindAt : List Token → code_kind.BlockageKind → Type 0
+BlockageKindAt ps (kinds.Layer name) = StandsAt (past 1 ps) name
+BlockageKindAt ps kinds.Placement = Unit {0}
 
-abbrev pub BlockageClauseIn : List ℕ → BlockageClause → Type 0
-BlockageClauseIn text c = KeptIn text c.kept
+-- of these tokens, the first is a clause's +
+abbrev pub BlockageClauseAt : List Token → BlockageClause → Type 0
+BlockageClauseAt ps c = KeptAt (past 1 ps) c.kept
 
-abbrev pub BlockageShapeIn : List ℕ → code_shape.BlockageShape → Type 0
-BlockageShapeIn text (shapes.Rectangle corners) = CornersIn text corners
-BlockageShapeIn text (shapes.Polygon polygon) = PolygonIn text polygon
+-- the points behind RECT or POLYGON
+abbrev pub BlockageShapeAt : List Token → code_shape.BlockageShape → Type 0
+BlockageShapeAt ps (shapes.Rectangle corners) = CornersAt (past 1 ps) corners
+BlockageShapeAt ps (shapes.Polygon polygon) = PolygonAt (past 1 ps) polygon
 
-abbrev pub BlockageIn : List ℕ → BlockageParts → Type 0
-BlockageIn text b = BlockageKindIn text b.kind × PartsIn text b.clauses × BlockageShapeIn text b.first × PartsIn text b.others
+-- what comes after the kind of a blockage, after its clauses, and after its first shape
+abbrev pub past_kind : BlockageParts → List Token → List Token
+past_kind b ps = behind (spell blockage_kind (blockage_kind_view b.kind)) ps
 
-abbrev pub BlockageEntryIn : List ℕ → code.BlockageEntry → Type 0
-BlockageEntryIn text (entries.Blocks b) = BlockageIn text b
-BlockageEntryIn text (entries.Kept tokens) = RunIn text tokens
+abbrev pub past_clauses : BlockageParts → List Token → List Token
+past_clauses b ps = behind (spell_all (spell blockage_clause) (blockage_clauses_of b.clauses)) (past_kind b ps)
+
+abbrev pub past_first : BlockageParts → List Token → List Token
+past_first b ps = behind (spell blockage_shape (blockage_shape_view b.first)) (past_clauses b ps)
+
+-- a blockage begins with the first of these tokens
+abbrev pub BlockagePartsAt : List Token → BlockageParts → Type 0
+BlockagePartsAt ps b = BlockageKindAt ps b.kind × PartsAt (past_kind b ps) b.clauses × BlockageShapeAt (past_clauses b ps) b.first × PartsAt (past_first b ps) b.others
+
+-- an entry without its - begins with the first of these tokens
+abbrev pub BlockageBodyAt : List Token → code.BlockageEntry → Type 0
+BlockageBodyAt ps (entries.Blocks b) = BlockagePartsAt ps b
+BlockageBodyAt ps (entries.Kept tokens) = RunAt ps tokens
+
+-- of these tokens, the first is an entry's -
+abbrev pub BlockageEntryAt : List Token → code.BlockageEntry → Type 0
+BlockageEntryAt ps e = BlockageBodyAt (past 1 ps) e

@@ -1,9 +1,10 @@
--- Tracks and grids of the program as those of the definitions, and what they lend from a text.
+-- Tracks and grids of the program as those of the definitions, and which tokens they are.
 use Rattle.std.specs.Prelude.{ℕ, List}
 use Rattle.def_grammar.specs.Grids.{Axis, along_x, along_y, GcellGrid, GridLines, Tracks}
-use Rattle.lefdef_tokens.specs.Views.{IsIn, words_of}
+use Rattle.statement_model.specs.Tokens as definitions
+use Rattle.lefdef_tokens.specs.Places.{RunAt, StandsAt, past}
+use Rattle.lefdef_tokens.specs.Views.{words_of}
 use Rattle.lefdef_tokens.specs.declared.token.Token.{Token}
-use Rattle.def_parts.specs.ClauseViews.{RunIn}
 use Rattle.place_parts.specs.declared.grids.Axis as code_axis
 use Rattle.place_parts.specs.declared.grids.Axis.TheVariants.{X, Y}
 use Rattle.place_parts.specs.declared.grids.GcellGridParts.{GcellGridParts}
@@ -26,15 +27,18 @@ lines_view g = record { start = g.start.bytes.now; count = g.count.bytes.now; st
 abbrev pub gcell_grid_view : GcellGridParts → GcellGrid
 gcell_grid_view g = record { axis = axis_view g.axis; lines = lines_view g.lines }
 
--- what the text lends: tokens are slices of it
-abbrev pub TracksIn : List ℕ → TracksParts → Type 0
-TracksIn text t = IsIn text t.start × IsIn text t.count × IsIn text t.step × RunIn text t.rest
+-- of these tokens, the second is where the first track stands, the fourth how many there are, and the sixth their space
+abbrev pub TracksAt : List definitions.Token → TracksParts → Type 0
+TracksAt ps t = StandsAt (past 1 ps) t.start × StandsAt (past 3 ps) t.count × StandsAt (past 5 ps) t.step × RunAt (past 6 ps) t.rest
 
-abbrev pub TwoWordsIn : List ℕ → Token × Token → Type 0
-TwoWordsIn text p = IsIn text p.0 × IsIn text p.1
+-- count STEP step
+abbrev pub TwoWordsAt : List definitions.Token → Token × Token → Type 0
+TwoWordsAt ps p = StandsAt ps p.0 × StandsAt (past 2 ps) p.1
 
-abbrev pub LinesIn : List ℕ → code.GridLines → Type 0
-LinesIn text g = IsIn text g.start × IsIn text g.count × IsIn text g.step
+-- start DO count STEP step
+abbrev pub LinesAt : List definitions.Token → code.GridLines → Type 0
+LinesAt ps g = StandsAt ps g.start × StandsAt (past 2 ps) g.count × StandsAt (past 4 ps) g.step
 
-abbrev pub GcellGridIn : List ℕ → GcellGridParts → Type 0
-GcellGridIn text g = LinesIn text g.lines
+-- its lines stand behind its axis
+abbrev pub GcellGridAt : List definitions.Token → GcellGridParts → Type 0
+GcellGridAt ps g = LinesAt (past 1 ps) g.lines

@@ -1,13 +1,15 @@
--- Entries of GROUPS of the program as those of the definitions, and what they lend from a text.
+-- Entries of GROUPS of the program as those of the definitions, and which tokens they are.
 use Rattle.std.specs.Prelude.{ℕ, List}
 use Rattle.form_meanings.specs.Words.{is_plain, is_plus}
-use Rattle.form_meanings.specs.Meaning.{items}
-use Rattle.statement_model.specs.Form.{read, word}
+use Rattle.form_meanings.specs.Meaning.{items, spell_all}
+use Rattle.statement_model.specs.Form.{read, spell, word}
+use Rattle.statement_model.specs.Tokens.{Token}
 use Rattle.def_grammar.specs.Groups.{Group, GroupClause, group_clause, group_kept, group_region}
-use Rattle.lefdef_tokens.specs.Views.{IsIn, rest_of, words_of}
+use Rattle.lefdef_tokens.specs.Places.{RunAt, StandsAt, behind, past}
+use Rattle.lefdef_tokens.specs.Views.{rest_of, words_of}
+use Rattle.statement_reader.specs.PartViews.{PartsAt}
 use Rattle.statement_reader.specs.declared.parts.Parts.{Parts}
-use Rattle.def_parts.specs.ClauseViews.{KeptIn, RunIn, kept_view}
-use Rattle.def_parts.specs.PointViews.{PartsIn}
+use Rattle.def_parts.specs.ClauseViews.{KeptAt, kept_view}
 use Rattle.place_parts.specs.declared.groups.GroupClause as code
 use Rattle.place_parts.specs.declared.groups.GroupClause.TheVariants as clauses
 use Rattle.place_parts.specs.declared.groups.GroupParts.{GroupParts}
@@ -31,13 +33,19 @@ group_clauses_of parts = items parts.most is_plus (read group_clause) (rest_of p
 abbrev pub group_view : GroupParts → Group
 group_view g = record { name = g.name.bytes.now; patterns = patterns_of g.patterns; clauses = group_clauses_of g.clauses }
 
--- what the text lends: tokens are slices of it, and what is kept to be read later stands in it
-abbrev pub PatternIn : List ℕ → Pattern → Type 0
-PatternIn text p = IsIn text p.word
+-- the words of these patterns
+abbrev pub pattern_words : List (List ℕ) → List (List ℕ)
+pattern_words patterns = spell_all (spell (word is_plain)) patterns
 
-abbrev pub GroupClauseIn : List ℕ → code.GroupClause → Type 0
-GroupClauseIn text (clauses.Region rest) = RunIn text rest
-GroupClauseIn text (clauses.Kept kept) = KeptIn text kept
+-- a pattern is the first of these tokens
+abbrev pub PatternAt : List Token → Pattern → Type 0
+PatternAt ps p = StandsAt ps p.word
 
-abbrev pub GroupIn : List ℕ → GroupParts → Type 0
-GroupIn text g = IsIn text g.name × PartsIn text g.patterns × PartsIn text g.clauses
+-- of these tokens, the first is a clause's +
+abbrev pub GroupClauseAt : List Token → code.GroupClause → Type 0
+GroupClauseAt ps (clauses.Region rest) = RunAt (past 2 ps) rest
+GroupClauseAt ps (clauses.Kept kept) = KeptAt (past 1 ps) kept
+
+-- of these tokens, the first is an entry's -, and the second its name; its clauses begin behind its patterns
+abbrev pub GroupAt : List Token → GroupParts → Type 0
+GroupAt ps g = StandsAt (past 1 ps) g.name × PartsAt (past 2 ps) g.patterns × PartsAt (behind (pattern_words (patterns_of g.patterns)) (past 2 ps)) g.clauses

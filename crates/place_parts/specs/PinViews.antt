@@ -1,16 +1,20 @@
--- Entries of PINS of the program as those of the definitions, and what they lend from a text.
-use Rattle.std.specs.Prelude.{ℕ, List}
+-- Entries of PINS of the program as those of the definitions, and which tokens they are.
+use Rattle.std.specs.Prelude.{List}
 use Rattle.design_model.specs.declared.geometry.Orient.{Orient}
 use Rattle.design_model.specs.declared.geometry.Status.{Status}
 use Rattle.form_meanings.specs.Words.{is_plus}
 use Rattle.form_meanings.specs.Meaning.{items}
-use Rattle.statement_model.specs.Form.{read}
+use Rattle.statement_model.specs.Form.{read, spell}
+use Rattle.statement_model.specs.Tokens.{Token}
+use Rattle.def_grammar.specs.Clauses.{mask}
 use Rattle.def_grammar.specs.Parts.{Coordinates}
-use Rattle.def_grammar.specs.Pins.{Clearance, Pin, PinClause, PinRectangle, PinVia, design_rule_width, no_clearance, pin_clause, pin_has_polygon, pin_has_rectangle, pin_has_via, pin_kept, pin_net, pin_placed, pin_port, spacing}
-use Rattle.lefdef_tokens.specs.Views.{IsIn, rest_of, words_of}
+use Rattle.def_grammar.specs.Pins.{Clearance, clearance, Pin, PinClause, PinRectangle, PinVia, design_rule_width, no_clearance, pin_clause, pin_has_polygon, pin_has_rectangle, pin_has_via, pin_kept, pin_net, pin_placed, pin_port, spacing}
+use Rattle.lefdef_tokens.specs.Places.{RunAt, StandsAt, behind, past}
+use Rattle.lefdef_tokens.specs.Views.{rest_of, words_of}
+use Rattle.statement_reader.specs.PartViews.{PartsAt}
 use Rattle.statement_reader.specs.declared.parts.Parts.{Parts}
-use Rattle.def_parts.specs.ClauseViews.{KeptIn, MaskIn, RunIn, kept_view, mask_view}
-use Rattle.def_parts.specs.PointViews.{CornersIn, PartsIn, PointIn, corners_view, point_view}
+use Rattle.def_parts.specs.ClauseViews.{KeptAt, MaskAt, kept_view, mask_view}
+use Rattle.def_parts.specs.PointViews.{CornersAt, PointAt, corners_view, point_view}
 use Rattle.place_parts.specs.declared.components.Placement.{Placement}
 use Rattle.place_parts.specs.declared.pins.Clearance as code_clearance
 use Rattle.place_parts.specs.declared.pins.Clearance.TheVariants as clearances
@@ -50,26 +54,41 @@ pin_clauses_of parts = items parts.most is_plus (read pin_clause) (rest_of parts
 abbrev pub pin_view : PinParts → Pin
 pin_view p = record { name = p.name.bytes.now; clauses = pin_clauses_of p.clauses }
 
--- what the text lends: tokens are slices of it, and what is kept to be read later stands in it
-abbrev pub ClearanceIn : List ℕ → code_clearance.Clearance → Type 0
-ClearanceIn text (clearances.Spacing n) = IsIn text n
-ClearanceIn text (clearances.DesignRuleWidth n) = IsIn text n
-ClearanceIn text clearances.Default = Unit {0}
+-- the number behind SPACING or DESIGNRULEWIDTH
+abbrev pub ClearanceAt : List Token → code_clearance.Clearance → Type 0
+ClearanceAt ps (clearances.Spacing n) = StandsAt (past 1 ps) n
+ClearanceAt ps (clearances.DesignRuleWidth n) = StandsAt (past 1 ps) n
+ClearanceAt ps clearances.Default = Unit {0}
 
-abbrev pub PinRectangleIn : List ℕ → code_rectangle.PinRectangle → Type 0
-PinRectangleIn text s = IsIn text s.layer × MaskIn text s.mask × ClearanceIn text s.clearance × CornersIn text s.corners
+-- what comes after a rectangle's mask, and after what it says of its distance
+abbrev pub past_mask : code_rectangle.PinRectangle → List Token → List Token
+past_mask s ps = behind (spell mask (mask_view s.mask)) ps
 
-abbrev pub PinViaIn : List ℕ → code_via.PinVia → Type 0
-PinViaIn text v = IsIn text v.name × MaskIn text v.mask × PointIn text v.at
+abbrev pub past_clearance : code_rectangle.PinRectangle → List Token → List Token
+past_clearance s ps = behind (spell clearance (clearance_view s.clearance)) (past_mask s ps)
 
-abbrev pub PinClauseIn : List ℕ → code.PinClause → Type 0
-PinClauseIn text (clauses.Placed p) = PointIn text p.at
-PinClauseIn text (clauses.Net name) = IsIn text name
-PinClauseIn text clauses.Port = Unit {0}
-PinClauseIn text (clauses.Rectangle s) = PinRectangleIn text s
-PinClauseIn text (clauses.Via v) = PinViaIn text v
-PinClauseIn text (clauses.Polygon layer rest) = IsIn text layer × RunIn text rest
-PinClauseIn text (clauses.Kept kept) = KeptIn text kept
+-- of these tokens, the first is the layer of a rectangle
+abbrev pub PinRectangleAt : List Token → code_rectangle.PinRectangle → Type 0
+PinRectangleAt ps s = StandsAt ps s.layer × MaskAt (past 1 ps) s.mask × ClearanceAt (past_mask s (past 1 ps)) s.clearance × CornersAt (past_clearance s (past 1 ps)) s.corners
 
-abbrev pub PinIn : List ℕ → PinParts → Type 0
-PinIn text p = IsIn text p.name × PartsIn text p.clauses
+-- of these tokens, the first is the name of a via
+abbrev pub PinViaAt : List Token → code_via.PinVia → Type 0
+PinViaAt ps v = StandsAt ps v.name × MaskAt (past 1 ps) v.mask × PointAt (behind (spell mask (mask_view v.mask)) (past 1 ps)) v.at
+
+-- a clause without its + begins with the first of these tokens
+abbrev pub PinBodyAt : List Token → code.PinClause → Type 0
+PinBodyAt ps (clauses.Placed p) = PointAt (past 1 ps) p.at
+PinBodyAt ps (clauses.Net name) = StandsAt (past 1 ps) name
+PinBodyAt ps clauses.Port = Unit {0}
+PinBodyAt ps (clauses.Rectangle s) = PinRectangleAt (past 1 ps) s
+PinBodyAt ps (clauses.Via v) = PinViaAt (past 1 ps) v
+PinBodyAt ps (clauses.Polygon layer rest) = StandsAt (past 1 ps) layer × RunAt (past 2 ps) rest
+PinBodyAt ps (clauses.Kept kept) = KeptAt ps kept
+
+-- of these tokens, the first is a clause's +
+abbrev pub PinClauseAt : List Token → code.PinClause → Type 0
+PinClauseAt ps c = PinBodyAt (past 1 ps) c
+
+-- of these tokens, the first is an entry's -, and the second its name
+abbrev pub PinAt : List Token → PinParts → Type 0
+PinAt ps p = StandsAt (past 1 ps) p.name × PartsAt (past 2 ps) p.clauses

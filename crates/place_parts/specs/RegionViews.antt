@@ -1,14 +1,17 @@
--- Entries of REGIONS of the program as those of the definitions, and what they lend from a text.
+-- Entries of REGIONS of the program as those of the definitions, and which tokens they are.
 use Rattle.std.specs.Prelude.{ℕ, List}
 use Rattle.form_meanings.specs.Words.{is_plus}
-use Rattle.form_meanings.specs.Meaning.{items}
-use Rattle.statement_model.specs.Form.{read}
+use Rattle.form_meanings.specs.Meaning.{items, spell_all}
+use Rattle.statement_model.specs.Form.{read, spell}
+use Rattle.statement_model.specs.Tokens.{Token}
 use Rattle.def_grammar.specs.Points.{Corners, is_open}
 use Rattle.def_grammar.specs.Regions.{Region, RegionClause, RegionKind, fence, guide, later_corners, region_clause, region_kept, region_type}
-use Rattle.lefdef_tokens.specs.Views.{IsIn, rest_of}
+use Rattle.lefdef_tokens.specs.Places.{StandsAt, behind, past}
+use Rattle.lefdef_tokens.specs.Views.{rest_of}
+use Rattle.statement_reader.specs.PartViews.{PartsAt}
 use Rattle.statement_reader.specs.declared.parts.Parts.{Parts}
-use Rattle.def_parts.specs.ClauseViews.{KeptIn, kept_view}
-use Rattle.def_parts.specs.PointViews.{CornersIn, PartsIn, corners_view}
+use Rattle.def_parts.specs.ClauseViews.{KeptAt, kept_view}
+use Rattle.def_parts.specs.PointViews.{CornersAt, corners_view}
 use Rattle.place_parts.specs.declared.regions.LaterCorners.{LaterCorners}
 use Rattle.place_parts.specs.declared.regions.RegionClause as code
 use Rattle.place_parts.specs.declared.regions.RegionClause.TheVariants as clauses
@@ -38,13 +41,24 @@ region_clauses_of parts = items parts.most is_plus (read region_clause) (rest_of
 abbrev pub region_view : RegionParts → Region
 region_view r = record { name = r.name.bytes.now; first = corners_view r.first; others = later_corners_of r.others; clauses = region_clauses_of r.clauses }
 
--- what the text lends: tokens are slices of it, and what is kept to be read later stands in it
-abbrev pub RegionClauseIn : List ℕ → code.RegionClause → Type 0
-RegionClauseIn text (clauses.Kind kind) = Unit {0}
-RegionClauseIn text (clauses.Kept kept) = KeptIn text kept
+-- the words of these rectangles
+abbrev pub rectangle_words : List Corners → List (List ℕ)
+rectangle_words all = spell_all (spell later_corners) all
 
-abbrev pub LaterCornersIn : List ℕ → LaterCorners → Type 0
-LaterCornersIn text c = CornersIn text c.corners
+-- a clause without its + begins with the first of these tokens
+abbrev pub RegionBodyAt : List Token → code.RegionClause → Type 0
+RegionBodyAt ps (clauses.Kind kind) = Unit {0}
+RegionBodyAt ps (clauses.Kept kept) = KeptAt ps kept
 
-abbrev pub RegionIn : List ℕ → RegionParts → Type 0
-RegionIn text r = IsIn text r.name × CornersIn text r.first × PartsIn text r.others × PartsIn text r.clauses
+-- of these tokens, the first is a clause's +
+abbrev pub RegionClauseAt : List Token → code.RegionClause → Type 0
+RegionClauseAt ps c = RegionBodyAt (past 1 ps) c
+
+-- a rectangle begins with the first of these tokens
+abbrev pub LaterCornersAt : List Token → LaterCorners → Type 0
+LaterCornersAt ps c = CornersAt ps c.corners
+
+-- of these tokens, the first is an entry's -, the second its name, and the next eight its first rectangle; its clauses
+-- begin behind its other rectangles
+abbrev pub RegionPartsAt : List Token → RegionParts → Type 0
+RegionPartsAt ps r = StandsAt (past 1 ps) r.name × CornersAt (past 2 ps) r.first × PartsAt (past 10 ps) r.others × PartsAt (behind (rectangle_words (later_corners_of r.others)) (past 10 ps)) r.clauses

@@ -1,16 +1,19 @@
--- Rows of the program as those of the definitions, and what they lend from a text.
-use Rattle.std.specs.Prelude.{ℕ, List, Option, IfSome}
+-- Rows of the program as those of the definitions, and which tokens they are.
+use Rattle.std.specs.Prelude.{ℕ, List, Option, IfSome, codes}
 use Rattle.std.specs.Option.{option_map}
 use Rattle.form_meanings.specs.Words.{is_plus}
 use Rattle.form_meanings.specs.Meaning.{items}
-use Rattle.statement_model.specs.Form.{read}
+use Rattle.statement_model.specs.Form.{opt_on, read, spell}
+use Rattle.statement_model.specs.Tokens.{Token}
 use Rattle.def_grammar.specs.Parts.{Coordinates}
 use Rattle.def_grammar.specs.Clauses.{KeptClause}
-use Rattle.def_grammar.specs.Rows.{Row, SiteArray, row_clause}
-use Rattle.lefdef_tokens.specs.Views.{IsIn, rest_of}
+use Rattle.def_grammar.specs.Rows.{Row, SiteArray, row_clause, site_array}
+use Rattle.lefdef_tokens.specs.Places.{StandsAt, behind, past}
+use Rattle.lefdef_tokens.specs.Views.{rest_of}
+use Rattle.statement_reader.specs.PartViews.{PartsAt}
 use Rattle.statement_reader.specs.declared.parts.Parts.{Parts}
-use Rattle.def_parts.specs.ClauseViews.{KeptIn, kept_view}
-use Rattle.def_parts.specs.PointViews.{PartsIn, PointIn, point_view}
+use Rattle.def_parts.specs.ClauseViews.{KeptAt, kept_view}
+use Rattle.def_parts.specs.PointViews.{NumbersAt, point_view}
 use Rattle.def_parts.specs.declared.point.Coordinates as code_point
 use Rattle.place_parts.specs.declared.rows.RowClause.{RowClause}
 use Rattle.place_parts.specs.declared.rows.RowParts.{RowParts}
@@ -42,18 +45,27 @@ row_view r = record {
   clauses = row_clauses_of r.clauses;
 }
 
--- what the text lends: tokens are slices of it, and what is kept to be read later stands in it
-abbrev pub StepIn : List ℕ → Option code_point.Coordinates → Type 0
-StepIn text step = IfSome step (λ p. PointIn text p)
+-- the numbers behind STEP
+abbrev pub StepAt : List Token → Option code_point.Coordinates → Type 0
+StepAt ps step = IfSome step (λ p. NumbersAt (past 1 ps) p)
 
-abbrev pub SiteArrayIn : List ℕ → code.SiteArray → Type 0
-SiteArrayIn text a = IsIn text a.columns × IsIn text a.rows × StepIn text a.step
+-- columns BY rows, and the step
+abbrev pub SiteArrayAt : List Token → code.SiteArray → Type 0
+SiteArrayAt ps a = StandsAt ps a.columns × StandsAt (past 2 ps) a.rows × StepAt (past 3 ps) a.step
 
-abbrev pub SitesIn : List ℕ → Option code.SiteArray → Type 0
-SitesIn text sites = IfSome sites (λ a. SiteArrayIn text a)
+-- what stands behind DO
+abbrev pub SitesAt : List Token → Option code.SiteArray → Type 0
+SitesAt ps sites = IfSome sites (λ a. SiteArrayAt (past 1 ps) a)
 
-abbrev pub RowClauseIn : List ℕ → RowClause → Type 0
-RowClauseIn text c = KeptIn text c.kept
+-- of these tokens, the first is a clause's +
+abbrev pub RowClauseAt : List Token → RowClause → Type 0
+RowClauseAt ps c = KeptAt (past 1 ps) c.kept
 
-abbrev pub RowIn : List ℕ → RowParts → Type 0
-RowIn text r = IsIn text r.name × IsIn text r.site × PointIn text r.origin × SitesIn text r.sites × PartsIn text r.clauses
+-- the words of a row's sites, from DO
+abbrev pub site_words : Option SiteArray → List (List ℕ)
+site_words sites = spell (opt_on (codes "DO") site_array) sites
+
+-- of these tokens, the first is a row's name, the second its site, the next two its origin, and the fifth its orientation;
+-- its clauses begin behind its sites
+abbrev pub RowPartsAt : List Token → RowParts → Type 0
+RowPartsAt ps r = StandsAt ps r.name × StandsAt (past 1 ps) r.site × NumbersAt (past 2 ps) r.origin × SitesAt (past 5 ps) r.sites × PartsAt (behind (site_words (sites_view r.sites)) (past 5 ps)) r.clauses

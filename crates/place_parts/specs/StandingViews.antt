@@ -1,5 +1,5 @@
 -- What a clause of a component says of where it stands.
-use Rattle.std.specs.Prelude.{ℕ, List, Option, Some, None}
+use Rattle.std.specs.Prelude.{List, Option, Some, None}
 use Rattle.def_grammar.specs.Components.{Clause, placed, unplaced}
 use Rattle.form_meanings.specs.Words.{◌>>=◌}
 use Rattle.def_grammar.specs.Numbers.{int_of}

@@ -4,9 +4,10 @@ ghost use Rattle.std.specs.Prelude.{◌≡◌, IfSome, Some};
 ghost use Rattle.form_meanings.specs.Words.{Gives, is_plus, is_semicolon};
 ghost use Rattle.statement_model.specs.Form.{closed, or_else, read, spell, upto};
 ghost use Rattle.def_grammar.specs.Blockages.{blockage, blockage_clause, blockage_form, blockage_kind, blockage_shape, is_shape, is_shape_or_stop};
-ghost use Rattle.lefdef_tokens.specs.Views.{IsLater, rest_of};
+ghost use Rattle.lefdef_tokens.specs.Places.{behind};
+ghost use Rattle.lefdef_tokens.specs.Views.{IsLater, pieces_of, rest_of};
 ghost use Rattle.def_parts.specs.PointViews.{with_rest};
-ghost use Rattle.place_parts.specs.BlockageViews.{blockage_clause_view, blockage_entry_view, blockage_kind_view, blockage_shape_view, blockage_view, BlockageClauseIn, BlockageEntryIn, BlockageIn, BlockageKindIn, BlockageShapeIn};
+ghost use Rattle.place_parts.specs.BlockageViews.{blockage_clause_view, blockage_entry_view, blockage_kind_view, blockage_shape_view, blockage_view, BlockageBodyAt, BlockageClauseAt, BlockageEntryAt, BlockagePartsAt, BlockageKindAt, BlockageShapeAt};
 
 use def_parts::clauses::KeptClause;
 use def_parts::points::{Corners, Polygon, corners_at, polygon_at};
@@ -75,7 +76,8 @@ impl PartEnd for ShapeOrStop {
 fn blockage_kind_at<'t>(cursor: Cursor<'t>) -> Option<(BlockageKind<'t>, Cursor<'t>)>
     ensures gives { Gives (with_rest blockage_kind_view) result (read blockage_kind (rest_of cursor.entry)) }
     ensures later { IfSome result (λ x. IsLater cursor.entry x.1) }
-    ensures lent { IfSome result (λ x. BlockageKindIn cursor.entry.tokens.text.now x.0) }
+    ensures left { IfSome result (λ x. pieces_of x.1.tokens ≡ behind (spell blockage_kind (blockage_kind_view x.0)) (pieces_of cursor.entry.tokens)) }
+    ensures lent { IfSome result (λ x. BlockageKindAt (pieces_of cursor.entry.tokens) x.0) }
 {
     if cursor.next_is(b"LAYER") {
         let (layer, cursor) = cursor.key(b"LAYER")?.name()?;
@@ -91,7 +93,8 @@ fn blockage_kind_at<'t>(cursor: Cursor<'t>) -> Option<(BlockageKind<'t>, Cursor<
 fn blockage_clause_at<'t>(cursor: Cursor<'t>) -> Option<(BlockageClause<'t>, Cursor<'t>)>
     ensures gives { Gives (with_rest blockage_clause_view) result (read blockage_clause (rest_of cursor.entry)) }
     ensures later { IfSome result (λ x. IsLater cursor.entry x.1) }
-    ensures lent { IfSome result (λ x. BlockageClauseIn cursor.entry.tokens.text.now x.0) }
+    ensures left { IfSome result (λ x. pieces_of x.1.tokens ≡ behind (spell blockage_clause (blockage_clause_view x.0)) (pieces_of cursor.entry.tokens)) }
+    ensures lent { IfSome result (λ x. BlockageClauseAt (pieces_of cursor.entry.tokens) x.0) }
 {
     let (keyword, cursor) = cursor.key(b"+")?.next()?;
     if !is_plain(keyword.bytes) || is_shape(keyword.bytes) {
@@ -109,7 +112,7 @@ impl<'t> Part<'t> for BlockageClause<'t> {
 
     ghost view = { blockage_clause_view };
 
-    ghost lent = { BlockageClauseIn };
+    ghost lent = { BlockageClauseAt };
 
     ghost test = { is_plus };
 
@@ -128,18 +131,20 @@ impl<'t> Part<'t> for BlockageClause<'t> {
     fn read(cursor: Cursor<'t>) -> Option<(BlockageClause<'t>, Cursor<'t>)>
         ensures gives { Gives (with_rest blockage_clause_view) result (read blockage_clause (rest_of cursor.entry)) }
         ensures later { IfSome result (λ x. IsLater cursor.entry x.1) }
-        ensures lent { IfSome result (λ x. BlockageClauseIn cursor.entry.tokens.text.now x.0) }
+        ensures left { IfSome result (λ x. pieces_of x.1.tokens ≡ behind (spell blockage_clause (blockage_clause_view x.0)) (pieces_of cursor.entry.tokens)) }
+        ensures lent { IfSome result (λ x. BlockageClauseAt (pieces_of cursor.entry.tokens) x.0) }
     {
         blockage_clause_at(cursor)
     }
 }
 
 /// `RECT` and two points, or `POLYGON` and three points and more
-#[tactic(auto, unfolding(def_grammar::specs::Blockages::blockage_shape))]
+#[tactic(auto, unfolding(def_grammar::specs::Blockages::blockage_shape, def_grammar::specs::Points::corners, def_grammar::specs::Points::later_point, def_grammar::specs::Parts::point))]
 fn blockage_shape_at<'t>(cursor: Cursor<'t>) -> Option<(BlockageShape<'t>, Cursor<'t>)>
     ensures gives { Gives (with_rest blockage_shape_view) result (read blockage_shape (rest_of cursor.entry)) }
     ensures later { IfSome result (λ x. IsLater cursor.entry x.1) }
-    ensures lent { IfSome result (λ x. BlockageShapeIn cursor.entry.tokens.text.now x.0) }
+    ensures left { IfSome result (λ x. pieces_of x.1.tokens ≡ behind (spell blockage_shape (blockage_shape_view x.0)) (pieces_of cursor.entry.tokens)) }
+    ensures lent { IfSome result (λ x. BlockageShapeAt (pieces_of cursor.entry.tokens) x.0) }
 {
     if cursor.next_is(b"RECT") {
         let (corners, cursor) = corners_at(cursor.key(b"RECT")?)?;
@@ -157,7 +162,7 @@ impl<'t> Part<'t> for BlockageShape<'t> {
 
     ghost view = { blockage_shape_view };
 
-    ghost lent = { BlockageShapeIn };
+    ghost lent = { BlockageShapeAt };
 
     ghost test = { is_shape };
 
@@ -176,18 +181,20 @@ impl<'t> Part<'t> for BlockageShape<'t> {
     fn read(cursor: Cursor<'t>) -> Option<(BlockageShape<'t>, Cursor<'t>)>
         ensures gives { Gives (with_rest blockage_shape_view) result (read blockage_shape (rest_of cursor.entry)) }
         ensures later { IfSome result (λ x. IsLater cursor.entry x.1) }
-        ensures lent { IfSome result (λ x. BlockageShapeIn cursor.entry.tokens.text.now x.0) }
+        ensures left { IfSome result (λ x. pieces_of x.1.tokens ≡ behind (spell blockage_shape (blockage_shape_view x.0)) (pieces_of cursor.entry.tokens)) }
+        ensures lent { IfSome result (λ x. BlockageShapeAt (pieces_of cursor.entry.tokens) x.0) }
     {
         blockage_shape_at(cursor)
     }
 }
 
 /// `LAYER name` or `PLACEMENT`, `(+ word rest)*`, and one shape or more
-#[tactic(auto, unfolding(def_grammar::specs::Blockages::blockage))]
+#[tactic(auto, unfolding(def_grammar::specs::Blockages::blockage), using(lefdef_tokens::proofs::PlaceLemmas::behind_append))]
 fn blockage_at<'t>(cursor: Cursor<'t>) -> Option<(BlockageParts<'t>, Cursor<'t>)>
     ensures gives { Gives (with_rest blockage_view) result (read blockage (rest_of cursor.entry)) }
     ensures later { IfSome result (λ x. IsLater cursor.entry x.1) }
-    ensures lent { IfSome result (λ x. BlockageIn cursor.entry.tokens.text.now x.0) }
+    ensures left { IfSome result (λ x. pieces_of x.1.tokens ≡ behind (spell blockage (blockage_view x.0)) (pieces_of cursor.entry.tokens)) }
+    ensures lent { IfSome result (λ x. BlockagePartsAt (pieces_of cursor.entry.tokens) x.0) }
 {
     let (kind, cursor) = blockage_kind_at(cursor)?;
     let (clauses, cursor) = read_parts::<BlockageClause<'t>>(cursor)?;
@@ -206,7 +213,8 @@ fn blockage_at<'t>(cursor: Cursor<'t>) -> Option<(BlockageParts<'t>, Cursor<'t>)
 fn whole_blockage_at<'t>(cursor: Cursor<'t>) -> Option<(BlockageParts<'t>, Cursor<'t>)>
     ensures gives { Gives (with_rest blockage_view) result (read (closed is_semicolon blockage) (rest_of cursor.entry)) }
     ensures later { IfSome result (λ x. IsLater cursor.entry x.1) }
-    ensures lent { IfSome result (λ x. BlockageIn cursor.entry.tokens.text.now x.0) }
+    ensures left { IfSome result (λ x. pieces_of x.1.tokens ≡ behind (spell (closed is_semicolon blockage) (blockage_view x.0)) (pieces_of cursor.entry.tokens)) }
+    ensures lent { IfSome result (λ x. BlockagePartsAt (pieces_of cursor.entry.tokens) x.0) }
 {
     let (parts, cursor) = blockage_at(cursor)?;
     if cursor.next_is(b";") {
@@ -220,7 +228,8 @@ fn whole_blockage_at<'t>(cursor: Cursor<'t>) -> Option<(BlockageParts<'t>, Curso
 fn blockage_or_tokens_at<'t>(cursor: Cursor<'t>) -> (BlockageEntry<'t>, Cursor<'t>)
     ensures gives { read (or_else (closed is_semicolon blockage) (upto is_semicolon)) (rest_of cursor.entry) ≡ Some (with_rest blockage_entry_view result) }
     ensures later { IsLater cursor.entry result.1 }
-    ensures lent { BlockageEntryIn cursor.entry.tokens.text.now result.0 }
+    ensures left { pieces_of result.1.tokens ≡ behind (spell (or_else (closed is_semicolon blockage) (upto is_semicolon)) (blockage_entry_view result.0)) (pieces_of cursor.entry.tokens) }
+    ensures lent { BlockageBodyAt (pieces_of cursor.entry.tokens) result.0 }
 {
     match whole_blockage_at(cursor) {
         Some((parts, later)) => (BlockageEntry::Blocks(parts), later),
@@ -232,12 +241,13 @@ fn blockage_or_tokens_at<'t>(cursor: Cursor<'t>) -> (BlockageEntry<'t>, Cursor<'
 }
 
 /// `-`, a blockage or tokens without its form, and `;`
-#[tactic(auto, unfolding(def_grammar::specs::Blockages::blockage_form))]
+#[tactic(auto, unfolding(def_grammar::specs::Blockages::blockage_form), using(lefdef_tokens::proofs::PlaceLemmas::behind_append))]
 #[inline(never)]
 pub fn blockage_entry_at<'t>(cursor: Cursor<'t>) -> Option<(BlockageEntry<'t>, Cursor<'t>)>
     ensures gives { Gives (with_rest blockage_entry_view) result (read blockage_form (rest_of cursor.entry)) }
     ensures later { IfSome result (λ x. IsLater cursor.entry x.1) }
-    ensures lent { IfSome result (λ x. BlockageEntryIn cursor.entry.tokens.text.now x.0) }
+    ensures left { IfSome result (λ x. pieces_of x.1.tokens ≡ behind (spell blockage_form (blockage_entry_view x.0)) (pieces_of cursor.entry.tokens)) }
+    ensures lent { IfSome result (λ x. BlockageEntryAt (pieces_of cursor.entry.tokens) x.0) }
 {
     let cursor = cursor.key(b"-")?;
     let (entry, cursor) = blockage_or_tokens_at(cursor);

@@ -30,19 +30,21 @@ pub struct ComponentParts<'t> {
 impl<'t> ComponentParts<'t> {
     ghost use Rattle.std.specs.Prelude.{IfSome};
     ghost use Rattle.form_meanings.specs.Words.{Gives};
-    ghost use Rattle.statement_model.specs.Form.{read};
+    ghost use Rattle.statement_model.specs.Form.{read, spell};
     ghost use Rattle.def_grammar.specs.Components.{component_form};
-    ghost use Rattle.lefdef_tokens.specs.Views.{IsLater, rest_of};
+    ghost use Rattle.lefdef_tokens.specs.Places.{behind};
+    ghost use Rattle.lefdef_tokens.specs.Views.{IsLater, pieces_of, rest_of};
     ghost use Rattle.def_parts.specs.PointViews.{with_rest};
-    ghost use Rattle.place_parts.specs.ComponentViews.{component_view, ComponentIn};
+    ghost use Rattle.place_parts.specs.ComponentViews.{component_view, ComponentAt};
 
     /// `- name macro rest (+ clause)* ;`
-    #[tactic(auto, unfolding(def_grammar::specs::Components::component_form))]
+    #[tactic(auto, unfolding(def_grammar::specs::Components::component_form), using(lefdef_tokens::proofs::PlaceLemmas::behind_append))]
     #[inline(never)]
     pub fn read(cursor: Cursor<'t>) -> Option<(ComponentParts<'t>, Cursor<'t>)>
         ensures gives { Gives (with_rest component_view) result (read component_form (rest_of cursor.entry)) }
         ensures later { IfSome result (λ x. IsLater cursor.entry x.1) }
-        ensures lent { IfSome result (λ x. ComponentIn cursor.entry.tokens.text.now x.0) }
+        ensures left { IfSome result (λ x. pieces_of x.1.tokens ≡ behind (spell component_form (component_view x.0)) (pieces_of cursor.entry.tokens)) }
+        ensures lent { IfSome result (λ x. ComponentAt (pieces_of cursor.entry.tokens) x.0) }
     {
         let cursor = cursor.key(b"-")?;
         let (name, cursor) = cursor.name()?;

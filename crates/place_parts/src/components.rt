@@ -5,10 +5,10 @@ ghost use Rattle.form_meanings.specs.Words.{Gives, is_plus};
 ghost use Rattle.statement_model.specs.Form.{◌⨟◌, read, spell};
 ghost use Rattle.def_grammar.specs.Parts.{orient, point};
 ghost use Rattle.def_grammar.specs.Components.{clause, is_placing};
-ghost use Rattle.lefdef_tokens.specs.Views.{IsLater, rest_of};
-ghost use Rattle.place_parts.specs.ClauseViews.{clause_view, spot_view, ClauseIn};
-ghost use Rattle.def_parts.specs.PointViews.{PointIn};
-ghost use Rattle.def_parts.specs.PointViews.{with_rest};
+ghost use Rattle.lefdef_tokens.specs.Places.{behind, past};
+ghost use Rattle.lefdef_tokens.specs.Views.{IsLater, pieces_of, rest_of};
+ghost use Rattle.place_parts.specs.ClauseViews.{clause_view, spot_view, ClauseAt};
+ghost use Rattle.def_parts.specs.PointViews.{PointAt, with_rest};
 
 use def_parts::point::{Coordinates, orient_at, point_at};
 use design_model::geometry::{Orient, Status};
@@ -46,7 +46,8 @@ impl<'t> Clause<'t> {
 pub(crate) fn spot_at<'t>(cursor: Cursor<'t>) -> Option<((Coordinates<'t>, Orient), Cursor<'t>)>
     ensures gives { Gives (with_rest spot_view) result (read (point ⨟ orient) (rest_of cursor.entry)) }
     ensures later { IfSome result (λ x. IsLater cursor.entry x.1) }
-    ensures lent { IfSome result (λ x. PointIn cursor.entry.tokens.text.now x.0.0) }
+    ensures left { IfSome result (λ x. pieces_of x.1.tokens ≡ past 5 (pieces_of cursor.entry.tokens)) }
+    ensures lent { IfSome result (λ x. PointAt (pieces_of cursor.entry.tokens) x.0.0) }
 {
     let (at, cursor) = point_at(cursor)?;
     let (orient, cursor) = orient_at(cursor)?;
@@ -54,11 +55,12 @@ pub(crate) fn spot_at<'t>(cursor: Cursor<'t>) -> Option<((Coordinates<'t>, Orien
 }
 
 /// `+` and a clause by its word
-#[tactic(auto, unfolding(def_grammar::specs::Components::clause, def_grammar::specs::Components::placement))]
+#[tactic(auto, unfolding(def_grammar::specs::Components::clause, def_grammar::specs::Components::placement, def_grammar::specs::Parts::point, def_grammar::specs::Parts::orient))]
 pub(crate) fn clause_at<'t>(cursor: Cursor<'t>) -> Option<(Clause<'t>, Cursor<'t>)>
     ensures gives { Gives (with_rest clause_view) result (read clause (rest_of cursor.entry)) }
     ensures later { IfSome result (λ x. IsLater cursor.entry x.1) }
-    ensures lent { IfSome result (λ x. ClauseIn cursor.entry.tokens.text.now x.0) }
+    ensures left { IfSome result (λ x. pieces_of x.1.tokens ≡ behind (spell clause (clause_view x.0)) (pieces_of cursor.entry.tokens)) }
+    ensures lent { IfSome result (λ x. ClauseAt (pieces_of cursor.entry.tokens) x.0) }
 {
     let (word, cursor) = cursor.key(b"+")?.next()?;
     if let Some(status) = Status::of_word(word.bytes) {
@@ -92,7 +94,7 @@ impl<'t> Part<'t> for Clause<'t> {
 
     ghost view = { clause_view };
 
-    ghost lent = { ClauseIn };
+    ghost lent = { ClauseAt };
 
     ghost test = { is_plus };
 
@@ -111,7 +113,8 @@ impl<'t> Part<'t> for Clause<'t> {
     fn read(cursor: Cursor<'t>) -> Option<(Clause<'t>, Cursor<'t>)>
         ensures gives { Gives (with_rest clause_view) result (read clause (rest_of cursor.entry)) }
         ensures later { IfSome result (λ x. IsLater cursor.entry x.1) }
-        ensures lent { IfSome result (λ x. ClauseIn cursor.entry.tokens.text.now x.0) }
+        ensures left { IfSome result (λ x. pieces_of x.1.tokens ≡ behind (spell clause (clause_view x.0)) (pieces_of cursor.entry.tokens)) }
+        ensures lent { IfSome result (λ x. ClauseAt (pieces_of cursor.entry.tokens) x.0) }
     {
         clause_at(cursor)
     }

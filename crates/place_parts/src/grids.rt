@@ -2,12 +2,13 @@
 
 ghost use Rattle.std.specs.Prelude.{◌≡◌, ◌+◌, IfSome, codes, length};
 ghost use Rattle.form_meanings.specs.Words.{Gives};
-ghost use Rattle.statement_model.specs.Form.{number, one_of, read, ◌▸◌, ◌⨟◌};
+ghost use Rattle.statement_model.specs.Form.{number, one_of, read, spell, ◌▸◌, ◌⨟◌};
 ghost use Rattle.def_grammar.specs.Limits.{is_lines, is_size};
 ghost use Rattle.def_grammar.specs.Grids.{axes, axis_word, gcell_grid_statement, grid_lines, tracks_statement};
-ghost use Rattle.lefdef_tokens.specs.Views.{IsLater, rest_of};
+ghost use Rattle.lefdef_tokens.specs.Places.{behind, past};
+ghost use Rattle.lefdef_tokens.specs.Views.{IsLater, pieces_of, rest_of};
 ghost use Rattle.def_parts.specs.PointViews.{with_rest};
-ghost use Rattle.place_parts.specs.GridViews.{axis_view, gcell_grid_view, lines_view, tracks_view, two_words_view, GcellGridIn, LinesIn, TracksIn, TwoWordsIn};
+ghost use Rattle.place_parts.specs.GridViews.{axis_view, gcell_grid_view, lines_view, tracks_view, two_words_view, GcellGridAt, LinesAt, TracksAt, TwoWordsAt};
 
 use def_parts::number::{int_at, is_in_range, lines_at, size_at};
 use lefdef_tokens::{Cursor, Token, TokenRun, is_word};
@@ -50,6 +51,7 @@ pub struct GcellGridParts<'t> {
 fn axis_at<'t>(cursor: Cursor<'t>) -> Option<(Axis, Cursor<'t>)>
     ensures gives { Gives (with_rest axis_view) result (read (one_of axis_word axes) (rest_of cursor.entry)) }
     ensures later { IfSome result (λ x. IsLater cursor.entry x.1) }
+    ensures left { IfSome result (λ x. pieces_of x.1.tokens ≡ past 1 (pieces_of cursor.entry.tokens)) }
 {
     let (word, cursor) = cursor.next()?;
     if is_word(word.bytes, b"X") {
@@ -62,11 +64,12 @@ fn axis_at<'t>(cursor: Cursor<'t>) -> Option<(Axis, Cursor<'t>)>
 }
 
 /// `X|Y start DO count STEP step any* ;`, after `TRACKS`
-#[tactic(auto, unfolding(def_grammar::specs::Grids::tracks_statement))]
+#[tactic(auto, unfolding(def_grammar::specs::Grids::tracks_statement), using(lefdef_tokens::proofs::PlaceLemmas::behind_append))]
 pub fn tracks_at<'t>(cursor: Cursor<'t>) -> Option<(TracksParts<'t>, Cursor<'t>)>
     ensures gives { Gives (with_rest tracks_view) result (read tracks_statement (rest_of cursor.entry)) }
     ensures later { IfSome result (λ x. IsLater cursor.entry x.1) }
-    ensures lent { IfSome result (λ x. TracksIn cursor.entry.tokens.text.now x.0) }
+    ensures left { IfSome result (λ x. pieces_of x.1.tokens ≡ behind (spell tracks_statement (tracks_view x.0)) (pieces_of cursor.entry.tokens)) }
+    ensures lent { IfSome result (λ x. TracksAt (pieces_of cursor.entry.tokens) x.0) }
 {
     let (axis, cursor) = axis_at(cursor)?;
     let (start, cursor) = int_at(cursor)?;
@@ -87,9 +90,10 @@ pub fn tracks_at<'t>(cursor: Cursor<'t>) -> Option<(TracksParts<'t>, Cursor<'t>)
 /// `count STEP step`
 fn count_and_step_at<'t>(cursor: Cursor<'t>) -> Option<((Token<'t>, Token<'t>), Cursor<'t>)>
     ensures gives { Gives (with_rest two_words_view) result (read (number is_lines ⨟ codes "STEP" ▸ number is_size) (rest_of cursor.entry)) }
-    ensures left { IfSome result (λ x. length (rest_of cursor.entry).words ≡ 3 + length (rest_of x.1).words) }
+    ensures count { IfSome result (λ x. length (rest_of cursor.entry).words ≡ 3 + length (rest_of x.1).words) }
     ensures later { IfSome result (λ x. IsLater cursor.entry x.1) }
-    ensures lent { IfSome result (λ x. TwoWordsIn cursor.entry.tokens.text.now x.0) }
+    ensures left { IfSome result (λ x. pieces_of x.1.tokens ≡ past 3 (pieces_of cursor.entry.tokens)) }
+    ensures lent { IfSome result (λ x. TwoWordsAt (pieces_of cursor.entry.tokens) x.0) }
 {
     let (count, cursor) = lines_at(cursor)?;
     let cursor = cursor.key(b"STEP")?;
@@ -102,7 +106,8 @@ fn count_and_step_at<'t>(cursor: Cursor<'t>) -> Option<((Token<'t>, Token<'t>), 
 fn grid_lines_at<'t>(cursor: Cursor<'t>) -> Option<(GridLines<'t>, Cursor<'t>)>
     ensures gives { Gives (with_rest lines_view) result (read grid_lines (rest_of cursor.entry)) }
     ensures later { IfSome result (λ x. IsLater cursor.entry x.1) }
-    ensures lent { IfSome result (λ x. LinesIn cursor.entry.tokens.text.now x.0) }
+    ensures left { IfSome result (λ x. pieces_of x.1.tokens ≡ past 5 (pieces_of cursor.entry.tokens)) }
+    ensures lent { IfSome result (λ x. LinesAt (pieces_of cursor.entry.tokens) x.0) }
 {
     let (start, cursor) = int_at(cursor)?;
     let counted = cursor.key(b"DO")?;
@@ -117,7 +122,8 @@ fn grid_lines_at<'t>(cursor: Cursor<'t>) -> Option<(GridLines<'t>, Cursor<'t>)>
 pub fn gcell_grid_at<'t>(cursor: Cursor<'t>) -> Option<(GcellGridParts<'t>, Cursor<'t>)>
     ensures gives { Gives (with_rest gcell_grid_view) result (read gcell_grid_statement (rest_of cursor.entry)) }
     ensures later { IfSome result (λ x. IsLater cursor.entry x.1) }
-    ensures lent { IfSome result (λ x. GcellGridIn cursor.entry.tokens.text.now x.0) }
+    ensures left { IfSome result (λ x. pieces_of x.1.tokens ≡ past 7 (pieces_of cursor.entry.tokens)) }
+    ensures lent { IfSome result (λ x. GcellGridAt (pieces_of cursor.entry.tokens) x.0) }
 {
     let (axis, cursor) = axis_at(cursor)?;
     let (lines, cursor) = grid_lines_at(cursor)?;

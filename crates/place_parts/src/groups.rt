@@ -5,10 +5,12 @@ ghost use Rattle.std.specs.Option.{option_map};
 ghost use Rattle.form_meanings.specs.Words.{Gives, is_plain, is_plus};
 ghost use Rattle.statement_model.specs.Form.{read, spell, word};
 ghost use Rattle.def_grammar.specs.Groups.{group_clause, group_form, region_named};
-ghost use Rattle.lefdef_tokens.specs.Views.{IsIn, IsLater, rest_of};
+ghost use Rattle.statement_model.specs.Tokens.{Token as TheToken};
+ghost use Rattle.lefdef_tokens.specs.Places.{StandsAt, behind, past};
+ghost use Rattle.lefdef_tokens.specs.Views.{IsLater, pieces_of, rest_of};
 ghost use Rattle.def_parts.specs.ClauseViews.{bytes_view};
 ghost use Rattle.def_parts.specs.PointViews.{with_rest};
-ghost use Rattle.place_parts.specs.GroupViews.{group_clause_view, group_view, pattern_view, GroupClauseIn, GroupIn, PatternIn};
+ghost use Rattle.place_parts.specs.GroupViews.{group_clause_view, group_view, pattern_view, GroupAt, GroupClauseAt, PatternAt};
 
 use def_parts::clauses::{KeptClause, kept_clause_at};
 use lefdef_tokens::{Cursor, Token, TokenRun, is_name, is_plain, is_plus};
@@ -40,7 +42,7 @@ impl<'t> GroupClause<'t> {
     /// The region that it names: `REGION` with one name.
     pub fn region(self) -> Option<Token<'t>>
         ensures gives { option_map bytes_view result ≡ region_named (group_clause_view self.entry) }
-        ensures lent { (text : List ℕ) → GroupClauseIn text self.entry → IfSome result (λ name. IsIn text name) }
+        ensures lent { (ps : List TheToken) → GroupClauseAt ps self.entry → IfSome result (λ name. StandsAt (past 2 ps) name) }
     {
         let GroupClause::Region(rest) = self else {
             return None;
@@ -58,7 +60,8 @@ impl<'t> GroupClause<'t> {
 fn pattern_at<'t>(cursor: Cursor<'t>) -> Option<(Pattern<'t>, Cursor<'t>)>
     ensures gives { Gives (with_rest pattern_view) result (read (word is_plain) (rest_of cursor.entry)) }
     ensures later { IfSome result (λ x. IsLater cursor.entry x.1) }
-    ensures lent { IfSome result (λ x. PatternIn cursor.entry.tokens.text.now x.0) }
+    ensures left { IfSome result (λ x. pieces_of x.1.tokens ≡ behind (spell (word is_plain) (pattern_view x.0)) (pieces_of cursor.entry.tokens)) }
+    ensures lent { IfSome result (λ x. PatternAt (pieces_of cursor.entry.tokens) x.0) }
 {
     let (word, cursor) = cursor.plain_word()?;
     Some((Pattern { word }, cursor))
@@ -69,7 +72,7 @@ impl<'t> Part<'t> for Pattern<'t> {
 
     ghost view = { pattern_view };
 
-    ghost lent = { PatternIn };
+    ghost lent = { PatternAt };
 
     ghost test = { is_plain };
 
@@ -88,7 +91,8 @@ impl<'t> Part<'t> for Pattern<'t> {
     fn read(cursor: Cursor<'t>) -> Option<(Pattern<'t>, Cursor<'t>)>
         ensures gives { Gives (with_rest pattern_view) result (read (word is_plain) (rest_of cursor.entry)) }
         ensures later { IfSome result (λ x. IsLater cursor.entry x.1) }
-        ensures lent { IfSome result (λ x. PatternIn cursor.entry.tokens.text.now x.0) }
+        ensures left { IfSome result (λ x. pieces_of x.1.tokens ≡ behind (spell (word is_plain) (pattern_view x.0)) (pieces_of cursor.entry.tokens)) }
+        ensures lent { IfSome result (λ x. PatternAt (pieces_of cursor.entry.tokens) x.0) }
     {
         pattern_at(cursor)
     }
@@ -99,7 +103,8 @@ impl<'t> Part<'t> for Pattern<'t> {
 fn group_clause_at<'t>(cursor: Cursor<'t>) -> Option<(GroupClause<'t>, Cursor<'t>)>
     ensures gives { Gives (with_rest group_clause_view) result (read group_clause (rest_of cursor.entry)) }
     ensures later { IfSome result (λ x. IsLater cursor.entry x.1) }
-    ensures lent { IfSome result (λ x. GroupClauseIn cursor.entry.tokens.text.now x.0) }
+    ensures left { IfSome result (λ x. pieces_of x.1.tokens ≡ behind (spell group_clause (group_clause_view x.0)) (pieces_of cursor.entry.tokens)) }
+    ensures lent { IfSome result (λ x. GroupClauseAt (pieces_of cursor.entry.tokens) x.0) }
 {
     let cursor = cursor.key(b"+")?;
     if cursor.next_is(b"REGION") {
@@ -118,7 +123,7 @@ impl<'t> Part<'t> for GroupClause<'t> {
 
     ghost view = { group_clause_view };
 
-    ghost lent = { GroupClauseIn };
+    ghost lent = { GroupClauseAt };
 
     ghost test = { is_plus };
 
@@ -137,19 +142,21 @@ impl<'t> Part<'t> for GroupClause<'t> {
     fn read(cursor: Cursor<'t>) -> Option<(GroupClause<'t>, Cursor<'t>)>
         ensures gives { Gives (with_rest group_clause_view) result (read group_clause (rest_of cursor.entry)) }
         ensures later { IfSome result (λ x. IsLater cursor.entry x.1) }
-        ensures lent { IfSome result (λ x. GroupClauseIn cursor.entry.tokens.text.now x.0) }
+        ensures left { IfSome result (λ x. pieces_of x.1.tokens ≡ behind (spell group_clause (group_clause_view x.0)) (pieces_of cursor.entry.tokens)) }
+        ensures lent { IfSome result (λ x. GroupClauseAt (pieces_of cursor.entry.tokens) x.0) }
     {
         group_clause_at(cursor)
     }
 }
 
 /// `- name word* (+ clause)* ;`
-#[tactic(auto, unfolding(def_grammar::specs::Groups::group_form))]
+#[tactic(auto, unfolding(def_grammar::specs::Groups::group_form), using(lefdef_tokens::proofs::PlaceLemmas::behind_append))]
 #[inline(never)]
 pub fn group_at<'t>(cursor: Cursor<'t>) -> Option<(GroupParts<'t>, Cursor<'t>)>
     ensures gives { Gives (with_rest group_view) result (read group_form (rest_of cursor.entry)) }
     ensures later { IfSome result (λ x. IsLater cursor.entry x.1) }
-    ensures lent { IfSome result (λ x. GroupIn cursor.entry.tokens.text.now x.0) }
+    ensures left { IfSome result (λ x. pieces_of x.1.tokens ≡ behind (spell group_form (group_view x.0)) (pieces_of cursor.entry.tokens)) }
+    ensures lent { IfSome result (λ x. GroupAt (pieces_of cursor.entry.tokens) x.0) }
 {
     let cursor = cursor.key(b"-")?;
     let (name, cursor) = cursor.name()?;

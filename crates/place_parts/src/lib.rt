@@ -5,8 +5,8 @@
 //! `placing` says how a component is placed.
 //!
 //! What they say is in `def_grammar/specs`, in the file of the same name; `specs/NAMEViews` have the views of these
-//! parts there, and what they lend. Tokens are lent from the text that was read, parts that are repeated are read when
-//! they are asked for (`statement_reader::parts`), and nothing takes memory.
+//! parts there, and which of the statement's tokens each of them is. Tokens are lent from the text that was read, parts
+//! that are repeated are read when they are asked for (`statement_reader::parts`), and nothing takes memory.
 //!
 //! Where an entry isn't in its form a function answers `None`. An invalid number is noted by the cursor after it.
 #![tactic(auto)]

@@ -7,9 +7,10 @@ ghost use Rattle.def_grammar.specs.Parts.{name, rest};
 ghost use Rattle.def_grammar.specs.Clauses.{kept_clause};
 ghost use Rattle.def_grammar.specs.Components.{is_status, placement};
 ghost use Rattle.def_grammar.specs.Pins.{clearance, pin_clause, pin_form, pin_rectangle, pin_shape, pin_via, pin_clause_body};
-ghost use Rattle.lefdef_tokens.specs.Views.{IsLater, rest_of};
-ghost use Rattle.def_parts.specs.PointViews.{PointIn, with_rest};
-ghost use Rattle.place_parts.specs.PinViews.{clearance_view, pin_clause_view, pin_rectangle_view, pin_via_view, pin_view, placement_view, ClearanceIn, PinClauseIn, PinIn, PinRectangleIn, PinViaIn};
+ghost use Rattle.lefdef_tokens.specs.Places.{behind, past};
+ghost use Rattle.lefdef_tokens.specs.Views.{IsLater, pieces_of, rest_of};
+ghost use Rattle.def_parts.specs.PointViews.{PointAt, with_rest};
+ghost use Rattle.place_parts.specs.PinViews.{clearance_view, pin_clause_view, pin_rectangle_view, pin_via_view, pin_view, placement_view, ClearanceAt, PinAt, PinBodyAt, PinClauseAt, PinRectangleAt, PinViaAt};
 
 use crate::components::{Placement, spot_at};
 use def_parts::clauses::{KeptClause, kept_clause_at, mask_at};
@@ -77,11 +78,12 @@ fn next_is_status<'t>(cursor: Cursor<'t>) -> bool
 }
 
 /// `status ( x y ) orient`
-#[tactic(auto, unfolding(def_grammar::specs::Components::placement))]
+#[tactic(auto, unfolding(def_grammar::specs::Components::placement, def_grammar::specs::Parts::point, def_grammar::specs::Parts::orient))]
 fn placement_at<'t>(cursor: Cursor<'t>) -> Option<(Placement<'t>, Cursor<'t>)>
     ensures gives { Gives (with_rest placement_view) result (read placement (rest_of cursor.entry)) }
     ensures later { IfSome result (λ x. IsLater cursor.entry x.1) }
-    ensures lent { IfSome result (λ x. PointIn cursor.entry.tokens.text.now x.0.at) }
+    ensures left { IfSome result (λ x. pieces_of x.1.tokens ≡ behind (spell placement (placement_view x.0)) (pieces_of cursor.entry.tokens)) }
+    ensures lent { IfSome result (λ x. PointAt (past 1 (pieces_of cursor.entry.tokens)) x.0.at) }
 {
     let (word, cursor) = cursor.next()?;
     let status = Status::of_word(word.bytes)?;
@@ -94,7 +96,8 @@ fn placement_at<'t>(cursor: Cursor<'t>) -> Option<(Placement<'t>, Cursor<'t>)>
 fn clearance_at<'t>(cursor: Cursor<'t>) -> Option<(Clearance<'t>, Cursor<'t>)>
     ensures gives { Gives (with_rest clearance_view) result (read clearance (rest_of cursor.entry)) }
     ensures later { IfSome result (λ x. IsLater cursor.entry x.1) }
-    ensures lent { IfSome result (λ x. ClearanceIn cursor.entry.tokens.text.now x.0) }
+    ensures left { IfSome result (λ x. pieces_of x.1.tokens ≡ behind (spell clearance (clearance_view x.0)) (pieces_of cursor.entry.tokens)) }
+    ensures lent { IfSome result (λ x. ClearanceAt (pieces_of cursor.entry.tokens) x.0) }
 {
     if cursor.next_is(b"SPACING") {
         let (distance, cursor) = int_at(cursor.key(b"SPACING")?)?;
@@ -108,11 +111,12 @@ fn clearance_at<'t>(cursor: Cursor<'t>) -> Option<(Clearance<'t>, Cursor<'t>)>
 }
 
 /// `layer [MASK word] [SPACING int | DESIGNRULEWIDTH int]` and two points, after `LAYER`
-#[tactic(auto, unfolding(def_grammar::specs::Pins::pin_rectangle))]
+#[tactic(auto, unfolding(def_grammar::specs::Pins::pin_rectangle, def_grammar::specs::Points::corners, def_grammar::specs::Points::later_point, def_grammar::specs::Parts::point), using(lefdef_tokens::proofs::PlaceLemmas::behind_append))]
 fn pin_rectangle_at<'t>(cursor: Cursor<'t>) -> Option<(PinRectangle<'t>, Cursor<'t>)>
     ensures gives { Gives (with_rest pin_rectangle_view) result (read pin_rectangle (rest_of cursor.entry)) }
     ensures later { IfSome result (λ x. IsLater cursor.entry x.1) }
-    ensures lent { IfSome result (λ x. PinRectangleIn cursor.entry.tokens.text.now x.0) }
+    ensures left { IfSome result (λ x. pieces_of x.1.tokens ≡ behind (spell pin_rectangle (pin_rectangle_view x.0)) (pieces_of cursor.entry.tokens)) }
+    ensures lent { IfSome result (λ x. PinRectangleAt (pieces_of cursor.entry.tokens) x.0) }
 {
     let (layer, cursor) = cursor.name()?;
     let (mask, cursor) = mask_at(cursor)?;
@@ -128,11 +132,12 @@ fn pin_rectangle_at<'t>(cursor: Cursor<'t>) -> Option<(PinRectangle<'t>, Cursor<
 }
 
 /// `name [MASK word]` and a point, after `VIA`
-#[tactic(auto, unfolding(def_grammar::specs::Pins::pin_via))]
+#[tactic(auto, unfolding(def_grammar::specs::Pins::pin_via, def_grammar::specs::Parts::point))]
 fn pin_via_at<'t>(cursor: Cursor<'t>) -> Option<(PinVia<'t>, Cursor<'t>)>
     ensures gives { Gives (with_rest pin_via_view) result (read pin_via (rest_of cursor.entry)) }
     ensures later { IfSome result (λ x. IsLater cursor.entry x.1) }
-    ensures lent { IfSome result (λ x. PinViaIn cursor.entry.tokens.text.now x.0) }
+    ensures left { IfSome result (λ x. pieces_of x.1.tokens ≡ behind (spell pin_via (pin_via_view x.0)) (pieces_of cursor.entry.tokens)) }
+    ensures lent { IfSome result (λ x. PinViaAt (pieces_of cursor.entry.tokens) x.0) }
 {
     let (name, cursor) = cursor.name()?;
     let (mask, cursor) = mask_at(cursor)?;
@@ -141,30 +146,36 @@ fn pin_via_at<'t>(cursor: Cursor<'t>) -> Option<(PinVia<'t>, Cursor<'t>)>
 }
 
 /// `LAYER` and a rectangle
+#[tactic(auto, unfolding(def_grammar::specs::Pins::pin_shape))]
 fn rectangle_clause_at<'t>(cursor: Cursor<'t>) -> Option<(PinClause<'t>, Cursor<'t>)>
     ensures gives { Gives (with_rest pin_clause_view) result (read (right (right (right (left (codes "LAYER" ▸ pin_rectangle))))) (rest_of cursor.entry)) }
     ensures later { IfSome result (λ x. IsLater cursor.entry x.1) }
-    ensures lent { IfSome result (λ x. PinClauseIn cursor.entry.tokens.text.now x.0) }
+    ensures left { IfSome result (λ x. pieces_of x.1.tokens ≡ behind (spell pin_clause_body (pin_clause_view x.0)) (pieces_of cursor.entry.tokens)) }
+    ensures lent { IfSome result (λ x. PinBodyAt (pieces_of cursor.entry.tokens) x.0) }
 {
     let (rectangle, cursor) = pin_rectangle_at(cursor.key(b"LAYER")?)?;
     Some((PinClause::Rectangle(rectangle), cursor))
 }
 
 /// `VIA` and a via
+#[tactic(auto, unfolding(def_grammar::specs::Pins::pin_shape))]
 fn via_clause_at<'t>(cursor: Cursor<'t>) -> Option<(PinClause<'t>, Cursor<'t>)>
     ensures gives { Gives (with_rest pin_clause_view) result (read (right (right (right (right (left (codes "VIA" ▸ pin_via)))))) (rest_of cursor.entry)) }
     ensures later { IfSome result (λ x. IsLater cursor.entry x.1) }
-    ensures lent { IfSome result (λ x. PinClauseIn cursor.entry.tokens.text.now x.0) }
+    ensures left { IfSome result (λ x. pieces_of x.1.tokens ≡ behind (spell pin_clause_body (pin_clause_view x.0)) (pieces_of cursor.entry.tokens)) }
+    ensures lent { IfSome result (λ x. PinBodyAt (pieces_of cursor.entry.tokens) x.0) }
 {
     let (via, cursor) = pin_via_at(cursor.key(b"VIA")?)?;
     Some((PinClause::Via(via), cursor))
 }
 
 /// `POLYGON layer rest`
+#[tactic(auto, unfolding(def_grammar::specs::Pins::pin_shape))]
 fn polygon_clause_at<'t>(cursor: Cursor<'t>) -> Option<(PinClause<'t>, Cursor<'t>)>
     ensures gives { Gives (with_rest pin_clause_view) result (read (right (right (right (right (right (left (codes "POLYGON" ▸ name ⨟ rest))))))) (rest_of cursor.entry)) }
     ensures later { IfSome result (λ x. IsLater cursor.entry x.1) }
-    ensures lent { IfSome result (λ x. PinClauseIn cursor.entry.tokens.text.now x.0) }
+    ensures left { IfSome result (λ x. pieces_of x.1.tokens ≡ behind (spell pin_clause_body (pin_clause_view x.0)) (pieces_of cursor.entry.tokens)) }
+    ensures lent { IfSome result (λ x. PinBodyAt (pieces_of cursor.entry.tokens) x.0) }
 {
     let (layer, cursor) = cursor.key(b"POLYGON")?.name()?;
     let (rest, cursor) = cursor.rest();
@@ -172,10 +183,12 @@ fn polygon_clause_at<'t>(cursor: Cursor<'t>) -> Option<(PinClause<'t>, Cursor<'t
 }
 
 /// `word rest`
+#[tactic(auto, unfolding(def_grammar::specs::Pins::pin_shape))]
 fn other_clause_at<'t>(cursor: Cursor<'t>) -> Option<(PinClause<'t>, Cursor<'t>)>
     ensures gives { Gives (with_rest pin_clause_view) result (read (right (right (right (right (right (right kept_clause)))))) (rest_of cursor.entry)) }
     ensures later { IfSome result (λ x. IsLater cursor.entry x.1) }
-    ensures lent { IfSome result (λ x. PinClauseIn cursor.entry.tokens.text.now x.0) }
+    ensures left { IfSome result (λ x. pieces_of x.1.tokens ≡ behind (spell pin_clause_body (pin_clause_view x.0)) (pieces_of cursor.entry.tokens)) }
+    ensures lent { IfSome result (λ x. PinBodyAt (pieces_of cursor.entry.tokens) x.0) }
 {
     let (kept, cursor) = kept_clause_at(cursor)?;
     Some((PinClause::Kept(kept), cursor))
@@ -186,7 +199,8 @@ fn other_clause_at<'t>(cursor: Cursor<'t>) -> Option<(PinClause<'t>, Cursor<'t>)
 fn pin_shape_at<'t>(cursor: Cursor<'t>) -> Option<(PinClause<'t>, Cursor<'t>)>
     ensures gives { Gives (with_rest pin_clause_view) result (read (right (right (right pin_shape))) (rest_of cursor.entry)) }
     ensures later { IfSome result (λ x. IsLater cursor.entry x.1) }
-    ensures lent { IfSome result (λ x. PinClauseIn cursor.entry.tokens.text.now x.0) }
+    ensures left { IfSome result (λ x. pieces_of x.1.tokens ≡ behind (spell pin_clause_body (pin_clause_view x.0)) (pieces_of cursor.entry.tokens)) }
+    ensures lent { IfSome result (λ x. PinBodyAt (pieces_of cursor.entry.tokens) x.0) }
 {
     if cursor.next_is(b"LAYER") {
         rectangle_clause_at(cursor)
@@ -203,7 +217,8 @@ fn pin_shape_at<'t>(cursor: Cursor<'t>) -> Option<(PinClause<'t>, Cursor<'t>)>
 fn placed_clause_at<'t>(cursor: Cursor<'t>) -> Option<(PinClause<'t>, Cursor<'t>)>
     ensures gives { Gives (with_rest pin_clause_view) result (read (left placement) (rest_of cursor.entry)) }
     ensures later { IfSome result (λ x. IsLater cursor.entry x.1) }
-    ensures lent { IfSome result (λ x. PinClauseIn cursor.entry.tokens.text.now x.0) }
+    ensures left { IfSome result (λ x. pieces_of x.1.tokens ≡ behind (spell pin_clause_body (pin_clause_view x.0)) (pieces_of cursor.entry.tokens)) }
+    ensures lent { IfSome result (λ x. PinBodyAt (pieces_of cursor.entry.tokens) x.0) }
 {
     let (placement, cursor) = placement_at(cursor)?;
     Some((PinClause::Placed(placement), cursor))
@@ -213,7 +228,8 @@ fn placed_clause_at<'t>(cursor: Cursor<'t>) -> Option<(PinClause<'t>, Cursor<'t>
 fn net_clause_at<'t>(cursor: Cursor<'t>) -> Option<(PinClause<'t>, Cursor<'t>)>
     ensures gives { Gives (with_rest pin_clause_view) result (read (right (left (codes "NET" ▸ name))) (rest_of cursor.entry)) }
     ensures later { IfSome result (λ x. IsLater cursor.entry x.1) }
-    ensures lent { IfSome result (λ x. PinClauseIn cursor.entry.tokens.text.now x.0) }
+    ensures left { IfSome result (λ x. pieces_of x.1.tokens ≡ behind (spell pin_clause_body (pin_clause_view x.0)) (pieces_of cursor.entry.tokens)) }
+    ensures lent { IfSome result (λ x. PinBodyAt (pieces_of cursor.entry.tokens) x.0) }
 {
     let (net, cursor) = cursor.name_behind(b"NET")?;
     Some((PinClause::Net(net), cursor))
@@ -223,7 +239,8 @@ fn net_clause_at<'t>(cursor: Cursor<'t>) -> Option<(PinClause<'t>, Cursor<'t>)>
 fn port_clause_at<'t>(cursor: Cursor<'t>) -> Option<(PinClause<'t>, Cursor<'t>)>
     ensures gives { Gives (with_rest pin_clause_view) result (read (right (right (left (codes "PORT" ▸ empty)))) (rest_of cursor.entry)) }
     ensures later { IfSome result (λ x. IsLater cursor.entry x.1) }
-    ensures lent { IfSome result (λ x. PinClauseIn cursor.entry.tokens.text.now x.0) }
+    ensures left { IfSome result (λ x. pieces_of x.1.tokens ≡ behind (spell pin_clause_body (pin_clause_view x.0)) (pieces_of cursor.entry.tokens)) }
+    ensures lent { IfSome result (λ x. PinBodyAt (pieces_of cursor.entry.tokens) x.0) }
 {
     let cursor = cursor.key(b"PORT")?;
     Some((PinClause::Port, cursor))
@@ -233,7 +250,8 @@ fn port_clause_at<'t>(cursor: Cursor<'t>) -> Option<(PinClause<'t>, Cursor<'t>)>
 fn pin_clause_body_at<'t>(cursor: Cursor<'t>) -> Option<(PinClause<'t>, Cursor<'t>)>
     ensures gives { Gives (with_rest pin_clause_view) result (read pin_clause_body (rest_of cursor.entry)) }
     ensures later { IfSome result (λ x. IsLater cursor.entry x.1) }
-    ensures lent { IfSome result (λ x. PinClauseIn cursor.entry.tokens.text.now x.0) }
+    ensures left { IfSome result (λ x. pieces_of x.1.tokens ≡ behind (spell pin_clause_body (pin_clause_view x.0)) (pieces_of cursor.entry.tokens)) }
+    ensures lent { IfSome result (λ x. PinBodyAt (pieces_of cursor.entry.tokens) x.0) }
 {
     if next_is_status(cursor) {
         placed_clause_at(cursor)
@@ -251,7 +269,8 @@ fn pin_clause_body_at<'t>(cursor: Cursor<'t>) -> Option<(PinClause<'t>, Cursor<'
 fn pin_clause_at<'t>(cursor: Cursor<'t>) -> Option<(PinClause<'t>, Cursor<'t>)>
     ensures gives { Gives (with_rest pin_clause_view) result (read pin_clause (rest_of cursor.entry)) }
     ensures later { IfSome result (λ x. IsLater cursor.entry x.1) }
-    ensures lent { IfSome result (λ x. PinClauseIn cursor.entry.tokens.text.now x.0) }
+    ensures left { IfSome result (λ x. pieces_of x.1.tokens ≡ behind (spell pin_clause (pin_clause_view x.0)) (pieces_of cursor.entry.tokens)) }
+    ensures lent { IfSome result (λ x. PinClauseAt (pieces_of cursor.entry.tokens) x.0) }
 {
     let (clause, cursor) = pin_clause_body_at(cursor.key(b"+")?)?;
     if cursor.next_is_stop() {
@@ -268,7 +287,7 @@ impl<'t> Part<'t> for PinClause<'t> {
 
     ghost view = { pin_clause_view };
 
-    ghost lent = { PinClauseIn };
+    ghost lent = { PinClauseAt };
 
     ghost test = { is_plus };
 
@@ -287,19 +306,21 @@ impl<'t> Part<'t> for PinClause<'t> {
     fn read(cursor: Cursor<'t>) -> Option<(PinClause<'t>, Cursor<'t>)>
         ensures gives { Gives (with_rest pin_clause_view) result (read pin_clause (rest_of cursor.entry)) }
         ensures later { IfSome result (λ x. IsLater cursor.entry x.1) }
-        ensures lent { IfSome result (λ x. PinClauseIn cursor.entry.tokens.text.now x.0) }
+        ensures left { IfSome result (λ x. pieces_of x.1.tokens ≡ behind (spell pin_clause (pin_clause_view x.0)) (pieces_of cursor.entry.tokens)) }
+        ensures lent { IfSome result (λ x. PinClauseAt (pieces_of cursor.entry.tokens) x.0) }
     {
         pin_clause_at(cursor)
     }
 }
 
 /// `- name (+ clause)* ;`
-#[tactic(auto, unfolding(def_grammar::specs::Pins::pin_form))]
+#[tactic(auto, unfolding(def_grammar::specs::Pins::pin_form), using(lefdef_tokens::proofs::PlaceLemmas::behind_append))]
 #[inline(never)]
 pub fn pin_at<'t>(cursor: Cursor<'t>) -> Option<(PinParts<'t>, Cursor<'t>)>
     ensures gives { Gives (with_rest pin_view) result (read pin_form (rest_of cursor.entry)) }
     ensures later { IfSome result (λ x. IsLater cursor.entry x.1) }
-    ensures lent { IfSome result (λ x. PinIn cursor.entry.tokens.text.now x.0) }
+    ensures left { IfSome result (λ x. pieces_of x.1.tokens ≡ behind (spell pin_form (pin_view x.0)) (pieces_of cursor.entry.tokens)) }
+    ensures lent { IfSome result (λ x. PinAt (pieces_of cursor.entry.tokens) x.0) }
 {
     let cursor = cursor.key(b"-")?;
     let (name, cursor) = cursor.name()?;

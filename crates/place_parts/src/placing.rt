@@ -6,8 +6,9 @@ ghost use Rattle.form_meanings.specs.Meaning.{spell_all};
 ghost use Rattle.statement_model.specs.Form.{spell};
 ghost use Rattle.def_grammar.specs.Components.{clause, component_form};
 ghost use Rattle.def_grammar.specs.Placing.{before_placing, placing};
-ghost use Rattle.lefdef_tokens.specs.Views.{words_of};
-ghost use Rattle.place_parts.specs.ClauseViews.{clause_view, clauses_of, ClauseIn};
+ghost use Rattle.lefdef_tokens.specs.Places.{behind};
+ghost use Rattle.lefdef_tokens.specs.Views.{pieces_of, words_of};
+ghost use Rattle.place_parts.specs.ClauseViews.{clause_view, clauses_of, ClauseAt};
 ghost use Rattle.place_parts.specs.ComponentViews.{component_view};
 ghost use Rattle.place_parts.specs.PlacingViews.{placing_view, IsPlacing};
 
@@ -29,7 +30,7 @@ fn placing_clause<'t>(clauses: Parts<'t, Clause<'t>>) -> Option<PlacingClause<'t
     ensures clause { option_map placing_view result ≡ placing (clauses_of clauses.entry) }
     ensures before { IfSome result (λ p. p.before ≡ length (spell_all (spell clause) (before_placing (clauses_of clauses.entry)))) }
     ensures count { IfSome result (λ p. p.count ≡ length (spell clause (clause_view p.clause))) }
-    ensures lent { IfSome result (λ p. ClauseIn clauses.entry.cursor.tokens.text.now p.clause) }
+    ensures lent { IfSome result (λ p. ClauseAt (behind (spell_all (spell clause) (before_placing (clauses_of clauses.entry))) (pieces_of clauses.entry.cursor.tokens)) p.clause) }
 {
     let all = clauses.cursor.len();
     let mut left = clauses;

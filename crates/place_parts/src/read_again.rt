@@ -2,7 +2,7 @@
 //! again when they are asked for: so each of its elements is small.
 
 ghost use Rattle.std.specs.Prelude.{◌≡◌, true, is_some};
-ghost use Rattle.statement_model.specs.Form.{read};
+ghost use Rattle.statement_model.specs.Form.{read, spell};
 ghost use Rattle.def_grammar.specs.Blockages.{blockage_form};
 ghost use Rattle.def_grammar.specs.Regions.{region_form};
 ghost use Rattle.def_grammar.specs.Rows.{row_statement};
@@ -37,17 +37,19 @@ pub struct RowAt<'t> {
 impl<'t> RegionAt<'t> {
     ghost use Rattle.std.specs.Prelude.{IfSome};
     ghost use Rattle.form_meanings.specs.Words.{Gives};
-    ghost use Rattle.lefdef_tokens.specs.Views.{IsLater};
+    ghost use Rattle.lefdef_tokens.specs.Places.{behind};
+    ghost use Rattle.lefdef_tokens.specs.Views.{IsLater, pieces_of};
     ghost use Rattle.def_parts.specs.PointViews.{with_rest};
-    ghost use Rattle.place_parts.specs.AgainViews.{region_at_view, RegionAtIn};
-    ghost use Rattle.place_parts.specs.RegionViews.{region_view, RegionIn};
+    ghost use Rattle.place_parts.specs.AgainViews.{region_at_view, RegionBegins};
+    ghost use Rattle.place_parts.specs.RegionViews.{region_view, RegionPartsAt};
 
     /// The region that comes next.
     #[inline(never)]
     pub fn read(cursor: Cursor<'t>) -> Option<(RegionAt<'t>, Cursor<'t>)>
         ensures gives { Gives (with_rest region_at_view) result (read region_form (rest_of cursor.entry)) }
         ensures later { IfSome result (λ x. IsLater cursor.entry x.1) }
-        ensures lent { IfSome result (λ x. RegionAtIn cursor.entry.tokens.text.now x.0) }
+        ensures left { IfSome result (λ x. pieces_of x.1.tokens ≡ behind (spell region_form (region_at_view x.0)) (pieces_of cursor.entry.tokens)) }
+        ensures lent { IfSome result (λ x. RegionBegins (pieces_of cursor.entry.tokens) x.0) }
     {
         let (_, later) = region_at(cursor)?;
         Some((RegionAt { cursor }, later))
@@ -56,7 +58,7 @@ impl<'t> RegionAt<'t> {
     /// Its parts.
     pub fn parts(&self) -> RegionParts<'t>
         ensures gives { region_view result ≡ region_at_view self.now }
-        ensures lent { RegionIn self.now.cursor.tokens.text.now result }
+        ensures lent { RegionPartsAt (pieces_of self.now.cursor.tokens) result }
     {
         let Some((parts, _)) = region_at(self.cursor) else {
             unreachable!()
@@ -68,17 +70,19 @@ impl<'t> RegionAt<'t> {
 impl<'t> BlockageAt<'t> {
     ghost use Rattle.std.specs.Prelude.{IfSome};
     ghost use Rattle.form_meanings.specs.Words.{Gives};
-    ghost use Rattle.lefdef_tokens.specs.Views.{IsLater};
+    ghost use Rattle.lefdef_tokens.specs.Places.{behind};
+    ghost use Rattle.lefdef_tokens.specs.Views.{IsLater, pieces_of};
     ghost use Rattle.def_parts.specs.PointViews.{with_rest};
-    ghost use Rattle.place_parts.specs.AgainViews.{blockage_at_view, BlockageAtIn};
-    ghost use Rattle.place_parts.specs.BlockageViews.{blockage_entry_view, BlockageEntryIn};
+    ghost use Rattle.place_parts.specs.AgainViews.{blockage_at_view, BlockageBegins};
+    ghost use Rattle.place_parts.specs.BlockageViews.{blockage_entry_view, BlockageEntryAt};
 
     /// The entry that comes next.
     #[inline(never)]
     pub fn read(cursor: Cursor<'t>) -> Option<(BlockageAt<'t>, Cursor<'t>)>
         ensures gives { Gives (with_rest blockage_at_view) result (read blockage_form (rest_of cursor.entry)) }
         ensures later { IfSome result (λ x. IsLater cursor.entry x.1) }
-        ensures lent { IfSome result (λ x. BlockageAtIn cursor.entry.tokens.text.now x.0) }
+        ensures left { IfSome result (λ x. pieces_of x.1.tokens ≡ behind (spell blockage_form (blockage_at_view x.0)) (pieces_of cursor.entry.tokens)) }
+        ensures lent { IfSome result (λ x. BlockageBegins (pieces_of cursor.entry.tokens) x.0) }
     {
         let (_, later) = blockage_entry_at(cursor)?;
         Some((BlockageAt { cursor }, later))
@@ -87,7 +91,7 @@ impl<'t> BlockageAt<'t> {
     /// Its parts.
     pub fn parts(&self) -> BlockageEntry<'t>
         ensures gives { blockage_entry_view result ≡ blockage_at_view self.now }
-        ensures lent { BlockageEntryIn self.now.cursor.tokens.text.now result }
+        ensures lent { BlockageEntryAt (pieces_of self.now.cursor.tokens) result }
     {
         let Some((entry, _)) = blockage_entry_at(self.cursor) else {
             unreachable!()
@@ -99,17 +103,19 @@ impl<'t> BlockageAt<'t> {
 impl<'t> RowAt<'t> {
     ghost use Rattle.std.specs.Prelude.{IfSome};
     ghost use Rattle.form_meanings.specs.Words.{Gives};
-    ghost use Rattle.lefdef_tokens.specs.Views.{IsLater};
+    ghost use Rattle.lefdef_tokens.specs.Places.{behind};
+    ghost use Rattle.lefdef_tokens.specs.Views.{IsLater, pieces_of};
     ghost use Rattle.def_parts.specs.PointViews.{with_rest};
-    ghost use Rattle.place_parts.specs.AgainViews.{row_at_view, RowAtIn};
-    ghost use Rattle.place_parts.specs.RowViews.{row_view, RowIn};
+    ghost use Rattle.place_parts.specs.AgainViews.{row_at_view, RowBegins};
+    ghost use Rattle.place_parts.specs.RowViews.{row_view, RowPartsAt};
 
     /// The row that comes next.
     #[inline(never)]
     pub fn read(cursor: Cursor<'t>) -> Option<(RowAt<'t>, Cursor<'t>)>
         ensures gives { Gives (with_rest row_at_view) result (read row_statement (rest_of cursor.entry)) }
         ensures later { IfSome result (λ x. IsLater cursor.entry x.1) }
-        ensures lent { IfSome result (λ x. RowAtIn cursor.entry.tokens.text.now x.0) }
+        ensures left { IfSome result (λ x. pieces_of x.1.tokens ≡ behind (spell row_statement (row_at_view x.0)) (pieces_of cursor.entry.tokens)) }
+        ensures lent { IfSome result (λ x. RowBegins (pieces_of cursor.entry.tokens) x.0) }
     {
         let (_, later) = row_at(cursor)?;
         Some((RowAt { cursor }, later))
@@ -118,7 +124,7 @@ impl<'t> RowAt<'t> {
     /// Its parts.
     pub fn parts(&self) -> RowParts<'t>
         ensures gives { row_view result ≡ row_at_view self.now }
-        ensures lent { RowIn self.now.cursor.tokens.text.now result }
+        ensures lent { RowPartsAt (pieces_of self.now.cursor.tokens) result }
     {
         let Some((parts, _)) = row_at(self.cursor) else {
             unreachable!()

@@ -6,9 +6,10 @@ ghost use Rattle.statement_model.specs.Form.{◌▸◌, left, on, one_of, read, 
 ghost use Rattle.def_grammar.specs.Clauses.{kept_clause};
 ghost use Rattle.def_grammar.specs.Points.{is_open};
 ghost use Rattle.def_grammar.specs.Regions.{later_corners, region_clause, region_form, region_kind_word, region_kinds};
-ghost use Rattle.lefdef_tokens.specs.Views.{IsLater, rest_of};
+ghost use Rattle.lefdef_tokens.specs.Places.{behind, past};
+ghost use Rattle.lefdef_tokens.specs.Views.{IsLater, pieces_of, rest_of};
 ghost use Rattle.def_parts.specs.PointViews.{with_rest};
-ghost use Rattle.place_parts.specs.RegionViews.{later_corners_view, region_clause_view, region_kind_view, region_view, LaterCornersIn, RegionClauseIn, RegionIn};
+ghost use Rattle.place_parts.specs.RegionViews.{later_corners_view, region_clause_view, region_kind_view, region_view, LaterCornersAt, RegionBodyAt, RegionClauseAt, RegionPartsAt};
 
 use def_parts::clauses::{KeptClause, kept_clause_at};
 use def_parts::points::{Corners, corners_at, is_open, later_point_at};
@@ -51,6 +52,7 @@ pub struct RegionParts<'t> {
 fn region_kind_at<'t>(cursor: Cursor<'t>) -> Option<(RegionKind, Cursor<'t>)>
     ensures gives { Gives (with_rest region_kind_view) result (read (one_of region_kind_word region_kinds) (rest_of cursor.entry)) }
     ensures later { IfSome result (λ x. IsLater cursor.entry x.1) }
+    ensures left { IfSome result (λ x. pieces_of x.1.tokens ≡ past 1 (pieces_of cursor.entry.tokens)) }
 {
     let (word, cursor) = cursor.next()?;
     if is_word(word.bytes, b"FENCE") {
@@ -66,7 +68,8 @@ fn region_kind_at<'t>(cursor: Cursor<'t>) -> Option<(RegionKind, Cursor<'t>)>
 fn type_clause_at<'t>(cursor: Cursor<'t>) -> Option<(RegionClause<'t>, Cursor<'t>)>
     ensures gives { Gives (with_rest region_clause_view) result (read (left (codes "TYPE" ▸ one_of region_kind_word region_kinds)) (rest_of cursor.entry)) }
     ensures later { IfSome result (λ x. IsLater cursor.entry x.1) }
-    ensures lent { IfSome result (λ x. RegionClauseIn cursor.entry.tokens.text.now x.0) }
+    ensures left { IfSome result (λ x. pieces_of x.1.tokens ≡ past 2 (pieces_of cursor.entry.tokens)) }
+    ensures lent { IfSome result (λ x. RegionBodyAt (pieces_of cursor.entry.tokens) x.0) }
 {
     let (kind, cursor) = region_kind_at(cursor.key(b"TYPE")?)?;
     Some((RegionClause::Kind(kind), cursor))
@@ -76,7 +79,8 @@ fn type_clause_at<'t>(cursor: Cursor<'t>) -> Option<(RegionClause<'t>, Cursor<'t
 fn other_clause_at<'t>(cursor: Cursor<'t>) -> Option<(RegionClause<'t>, Cursor<'t>)>
     ensures gives { Gives (with_rest region_clause_view) result (read (right kept_clause) (rest_of cursor.entry)) }
     ensures later { IfSome result (λ x. IsLater cursor.entry x.1) }
-    ensures lent { IfSome result (λ x. RegionClauseIn cursor.entry.tokens.text.now x.0) }
+    ensures left { IfSome result (λ x. pieces_of x.1.tokens ≡ behind (spell (right kept_clause) (region_clause_view x.0)) (pieces_of cursor.entry.tokens)) }
+    ensures lent { IfSome result (λ x. RegionBodyAt (pieces_of cursor.entry.tokens) x.0) }
 {
     let (kept, cursor) = kept_clause_at(cursor)?;
     Some((RegionClause::Kept(kept), cursor))
@@ -86,7 +90,8 @@ fn other_clause_at<'t>(cursor: Cursor<'t>) -> Option<(RegionClause<'t>, Cursor<'
 fn region_clause_body_at<'t>(cursor: Cursor<'t>) -> Option<(RegionClause<'t>, Cursor<'t>)>
     ensures gives { Gives (with_rest region_clause_view) result (read (on (codes "TYPE") (one_of region_kind_word region_kinds) kept_clause) (rest_of cursor.entry)) }
     ensures later { IfSome result (λ x. IsLater cursor.entry x.1) }
-    ensures lent { IfSome result (λ x. RegionClauseIn cursor.entry.tokens.text.now x.0) }
+    ensures left { IfSome result (λ x. pieces_of x.1.tokens ≡ behind (spell (on (codes "TYPE") (one_of region_kind_word region_kinds) kept_clause) (region_clause_view x.0)) (pieces_of cursor.entry.tokens)) }
+    ensures lent { IfSome result (λ x. RegionBodyAt (pieces_of cursor.entry.tokens) x.0) }
 {
     if cursor.next_is(b"TYPE") {
         type_clause_at(cursor)
@@ -100,7 +105,8 @@ fn region_clause_body_at<'t>(cursor: Cursor<'t>) -> Option<(RegionClause<'t>, Cu
 fn region_clause_at<'t>(cursor: Cursor<'t>) -> Option<(RegionClause<'t>, Cursor<'t>)>
     ensures gives { Gives (with_rest region_clause_view) result (read region_clause (rest_of cursor.entry)) }
     ensures later { IfSome result (λ x. IsLater cursor.entry x.1) }
-    ensures lent { IfSome result (λ x. RegionClauseIn cursor.entry.tokens.text.now x.0) }
+    ensures left { IfSome result (λ x. pieces_of x.1.tokens ≡ behind (spell region_clause (region_clause_view x.0)) (pieces_of cursor.entry.tokens)) }
+    ensures lent { IfSome result (λ x. RegionClauseAt (pieces_of cursor.entry.tokens) x.0) }
 {
     let (clause, cursor) = region_clause_body_at(cursor.key(b"+")?)?;
     if cursor.next_is_stop() {
@@ -117,7 +123,7 @@ impl<'t> Part<'t> for RegionClause<'t> {
 
     ghost view = { region_clause_view };
 
-    ghost lent = { RegionClauseIn };
+    ghost lent = { RegionClauseAt };
 
     ghost test = { is_plus };
 
@@ -136,18 +142,20 @@ impl<'t> Part<'t> for RegionClause<'t> {
     fn read(cursor: Cursor<'t>) -> Option<(RegionClause<'t>, Cursor<'t>)>
         ensures gives { Gives (with_rest region_clause_view) result (read region_clause (rest_of cursor.entry)) }
         ensures later { IfSome result (λ x. IsLater cursor.entry x.1) }
-        ensures lent { IfSome result (λ x. RegionClauseIn cursor.entry.tokens.text.now x.0) }
+        ensures left { IfSome result (λ x. pieces_of x.1.tokens ≡ behind (spell region_clause (region_clause_view x.0)) (pieces_of cursor.entry.tokens)) }
+        ensures lent { IfSome result (λ x. RegionClauseAt (pieces_of cursor.entry.tokens) x.0) }
     {
         region_clause_at(cursor)
     }
 }
 
 /// Two points, after another one
-#[tactic(auto, unfolding(def_grammar::specs::Regions::later_corners))]
+#[tactic(auto, unfolding(def_grammar::specs::Regions::later_corners, def_grammar::specs::Points::later_point))]
 fn later_corners_at<'t>(cursor: Cursor<'t>) -> Option<(LaterCorners<'t>, Cursor<'t>)>
     ensures gives { Gives (with_rest later_corners_view) result (read later_corners (rest_of cursor.entry)) }
     ensures later { IfSome result (λ x. IsLater cursor.entry x.1) }
-    ensures lent { IfSome result (λ x. LaterCornersIn cursor.entry.tokens.text.now x.0) }
+    ensures left { IfSome result (λ x. pieces_of x.1.tokens ≡ behind (spell later_corners (later_corners_view x.0)) (pieces_of cursor.entry.tokens)) }
+    ensures lent { IfSome result (λ x. LaterCornersAt (pieces_of cursor.entry.tokens) x.0) }
 {
     let (first, cursor) = later_point_at(cursor)?;
     let (second, cursor) = later_point_at(cursor)?;
@@ -165,7 +173,7 @@ impl<'t> Part<'t> for LaterCorners<'t> {
 
     ghost view = { later_corners_view };
 
-    ghost lent = { LaterCornersIn };
+    ghost lent = { LaterCornersAt };
 
     ghost test = { is_open };
 
@@ -184,19 +192,21 @@ impl<'t> Part<'t> for LaterCorners<'t> {
     fn read(cursor: Cursor<'t>) -> Option<(LaterCorners<'t>, Cursor<'t>)>
         ensures gives { Gives (with_rest later_corners_view) result (read later_corners (rest_of cursor.entry)) }
         ensures later { IfSome result (λ x. IsLater cursor.entry x.1) }
-        ensures lent { IfSome result (λ x. LaterCornersIn cursor.entry.tokens.text.now x.0) }
+        ensures left { IfSome result (λ x. pieces_of x.1.tokens ≡ behind (spell later_corners (later_corners_view x.0)) (pieces_of cursor.entry.tokens)) }
+        ensures lent { IfSome result (λ x. LaterCornersAt (pieces_of cursor.entry.tokens) x.0) }
     {
         later_corners_at(cursor)
     }
 }
 
 /// `- name`, two points for each rectangle, and `(+ clause)* ;`
-#[tactic(auto, unfolding(def_grammar::specs::Regions::region_form))]
+#[tactic(auto, unfolding(def_grammar::specs::Regions::region_form, def_grammar::specs::Points::corners, def_grammar::specs::Points::later_point, def_grammar::specs::Parts::point), using(lefdef_tokens::proofs::PlaceLemmas::behind_append))]
 #[inline(never)]
 pub fn region_at<'t>(cursor: Cursor<'t>) -> Option<(RegionParts<'t>, Cursor<'t>)>
     ensures gives { Gives (with_rest region_view) result (read region_form (rest_of cursor.entry)) }
     ensures later { IfSome result (λ x. IsLater cursor.entry x.1) }
-    ensures lent { IfSome result (λ x. RegionIn cursor.entry.tokens.text.now x.0) }
+    ensures left { IfSome result (λ x. pieces_of x.1.tokens ≡ behind (spell region_form (region_view x.0)) (pieces_of cursor.entry.tokens)) }
+    ensures lent { IfSome result (λ x. RegionPartsAt (pieces_of cursor.entry.tokens) x.0) }
 {
     let cursor = cursor.key(b"-")?;
     let (name, cursor) = cursor.name()?;

@@ -5,9 +5,10 @@ ghost use Rattle.form_meanings.specs.Words.{Gives, is_plus};
 ghost use Rattle.statement_model.specs.Form.{opt_on, read, spell};
 ghost use Rattle.def_grammar.specs.Points.{two_numbers};
 ghost use Rattle.def_grammar.specs.Rows.{row_clause, row_statement, site_array};
-ghost use Rattle.lefdef_tokens.specs.Views.{IsLater, rest_of};
+ghost use Rattle.lefdef_tokens.specs.Places.{behind};
+ghost use Rattle.lefdef_tokens.specs.Views.{IsLater, pieces_of, rest_of};
 ghost use Rattle.def_parts.specs.PointViews.{with_rest};
-ghost use Rattle.place_parts.specs.RowViews.{row_clause_view, row_view, site_array_view, sites_view, step_view, RowClauseIn, RowIn, SiteArrayIn, SitesIn, StepIn};
+ghost use Rattle.place_parts.specs.RowViews.{row_clause_view, row_view, site_array_view, sites_view, step_view, RowClauseAt, RowPartsAt, SiteArrayAt, SitesAt, StepAt};
 
 use def_parts::clauses::{KeptClause, kept_clause_at};
 use def_parts::number::count_at;
@@ -43,10 +44,12 @@ pub struct RowParts<'t> {
 }
 
 /// `[STEP x y]`
+#[tactic(auto, unfolding(def_grammar::specs::Points::two_numbers))]
 fn step_at<'t>(cursor: Cursor<'t>) -> Option<(Option<Coordinates<'t>>, Cursor<'t>)>
     ensures gives { Gives (with_rest step_view) result (read (opt_on (codes "STEP") two_numbers) (rest_of cursor.entry)) }
     ensures later { IfSome result (λ x. IsLater cursor.entry x.1) }
-    ensures lent { IfSome result (λ x. StepIn cursor.entry.tokens.text.now x.0) }
+    ensures left { IfSome result (λ x. pieces_of x.1.tokens ≡ behind (spell (opt_on (codes "STEP") two_numbers) (step_view x.0)) (pieces_of cursor.entry.tokens)) }
+    ensures lent { IfSome result (λ x. StepAt (pieces_of cursor.entry.tokens) x.0) }
 {
     if cursor.next_is(b"STEP") {
         let (step, cursor) = two_numbers_at(cursor.key(b"STEP")?)?;
@@ -61,7 +64,8 @@ fn step_at<'t>(cursor: Cursor<'t>) -> Option<(Option<Coordinates<'t>>, Cursor<'t
 fn site_array_at<'t>(cursor: Cursor<'t>) -> Option<(SiteArray<'t>, Cursor<'t>)>
     ensures gives { Gives (with_rest site_array_view) result (read site_array (rest_of cursor.entry)) }
     ensures later { IfSome result (λ x. IsLater cursor.entry x.1) }
-    ensures lent { IfSome result (λ x. SiteArrayIn cursor.entry.tokens.text.now x.0) }
+    ensures left { IfSome result (λ x. pieces_of x.1.tokens ≡ behind (spell site_array (site_array_view x.0)) (pieces_of cursor.entry.tokens)) }
+    ensures lent { IfSome result (λ x. SiteArrayAt (pieces_of cursor.entry.tokens) x.0) }
 {
     let (columns, cursor) = count_at(cursor)?;
     let cursor = cursor.key(b"BY")?;
@@ -79,7 +83,8 @@ fn site_array_at<'t>(cursor: Cursor<'t>) -> Option<(SiteArray<'t>, Cursor<'t>)>
 fn sites_at<'t>(cursor: Cursor<'t>) -> Option<(Option<SiteArray<'t>>, Cursor<'t>)>
     ensures gives { Gives (with_rest sites_view) result (read (opt_on (codes "DO") site_array) (rest_of cursor.entry)) }
     ensures later { IfSome result (λ x. IsLater cursor.entry x.1) }
-    ensures lent { IfSome result (λ x. SitesIn cursor.entry.tokens.text.now x.0) }
+    ensures left { IfSome result (λ x. pieces_of x.1.tokens ≡ behind (spell (opt_on (codes "DO") site_array) (sites_view x.0)) (pieces_of cursor.entry.tokens)) }
+    ensures lent { IfSome result (λ x. SitesAt (pieces_of cursor.entry.tokens) x.0) }
 {
     if cursor.next_is(b"DO") {
         let (sites, cursor) = site_array_at(cursor.key(b"DO")?)?;
@@ -94,7 +99,8 @@ fn sites_at<'t>(cursor: Cursor<'t>) -> Option<(Option<SiteArray<'t>>, Cursor<'t>
 fn row_clause_at<'t>(cursor: Cursor<'t>) -> Option<(RowClause<'t>, Cursor<'t>)>
     ensures gives { Gives (with_rest row_clause_view) result (read row_clause (rest_of cursor.entry)) }
     ensures later { IfSome result (λ x. IsLater cursor.entry x.1) }
-    ensures lent { IfSome result (λ x. RowClauseIn cursor.entry.tokens.text.now x.0) }
+    ensures left { IfSome result (λ x. pieces_of x.1.tokens ≡ behind (spell row_clause (row_clause_view x.0)) (pieces_of cursor.entry.tokens)) }
+    ensures lent { IfSome result (λ x. RowClauseAt (pieces_of cursor.entry.tokens) x.0) }
 {
     let (kept, cursor) = kept_clause_at(cursor.key(b"+")?)?;
     Some((RowClause { kept }, cursor))
@@ -107,7 +113,7 @@ impl<'t> Part<'t> for RowClause<'t> {
 
     ghost view = { row_clause_view };
 
-    ghost lent = { RowClauseIn };
+    ghost lent = { RowClauseAt };
 
     ghost test = { is_plus };
 
@@ -126,18 +132,20 @@ impl<'t> Part<'t> for RowClause<'t> {
     fn read(cursor: Cursor<'t>) -> Option<(RowClause<'t>, Cursor<'t>)>
         ensures gives { Gives (with_rest row_clause_view) result (read row_clause (rest_of cursor.entry)) }
         ensures later { IfSome result (λ x. IsLater cursor.entry x.1) }
-        ensures lent { IfSome result (λ x. RowClauseIn cursor.entry.tokens.text.now x.0) }
+        ensures left { IfSome result (λ x. pieces_of x.1.tokens ≡ behind (spell row_clause (row_clause_view x.0)) (pieces_of cursor.entry.tokens)) }
+        ensures lent { IfSome result (λ x. RowClauseAt (pieces_of cursor.entry.tokens) x.0) }
     {
         row_clause_at(cursor)
     }
 }
 
 /// `name site x y orient [DO columns BY rows [STEP x y]] (+ word rest)* ;`, after `ROW`
-#[tactic(auto, unfolding(def_grammar::specs::Rows::row_statement))]
+#[tactic(auto, unfolding(def_grammar::specs::Rows::row_statement, def_grammar::specs::Points::two_numbers, def_grammar::specs::Parts::orient), using(lefdef_tokens::proofs::PlaceLemmas::behind_append))]
 pub fn row_at<'t>(cursor: Cursor<'t>) -> Option<(RowParts<'t>, Cursor<'t>)>
     ensures gives { Gives (with_rest row_view) result (read row_statement (rest_of cursor.entry)) }
     ensures later { IfSome result (λ x. IsLater cursor.entry x.1) }
-    ensures lent { IfSome result (λ x. RowIn cursor.entry.tokens.text.now x.0) }
+    ensures left { IfSome result (λ x. pieces_of x.1.tokens ≡ behind (spell row_statement (row_view x.0)) (pieces_of cursor.entry.tokens)) }
+    ensures lent { IfSome result (λ x. RowPartsAt (pieces_of cursor.entry.tokens) x.0) }
 {
     let (name, cursor) = cursor.name()?;
     let (site, cursor) = cursor.name()?;

@@ -3,12 +3,14 @@
 ghost use Rattle.std.specs.Prelude.{◌≡◌, false, IfSome};
 ghost use Rattle.std.specs.Option.{option_map, option_or};
 ghost use Rattle.form_meanings.specs.Words.{Gives, is_plus, next_passes};
-ghost use Rattle.form_meanings.specs.Meaning.{items, read_many, repeat};
-ghost use Rattle.statement_model.specs.Form.{read};
+ghost use Rattle.form_meanings.specs.Meaning.{items, read_many, repeat, spell_all};
+ghost use Rattle.statement_model.specs.Form.{read, spell};
 ghost use Rattle.def_grammar.specs.Components.{clause, region_of_clause};
 ghost use Rattle.form_meanings.specs.Firsts.{first_of};
-ghost use Rattle.lefdef_tokens.specs.Views.{rest_of, IsLater, word_view};
-ghost use Rattle.statement_reader.specs.PartViews.{left_after};
+ghost use Rattle.lefdef_tokens.specs.Places.{behind};
+ghost use Rattle.lefdef_tokens.specs.Unseens.{Finds};
+ghost use Rattle.lefdef_tokens.specs.Views.{IsLater, pieces_of, rest_of, word_view};
+ghost use Rattle.statement_reader.specs.PartViews.{PartsAt, left_after, tokens_after};
 ghost use Rattle.place_parts.specs.ClauseViews.{clause_view, clauses_of};
 ghost use Rattle.place_parts.specs.StandingViews.{standing_by, standing_of};
 
@@ -95,6 +97,7 @@ fn next_is_clause<'t>(cursor: Cursor<'t>) -> bool
 #[inline(always)]
 fn pass_clauses<'t>(cursor: Cursor<'t>, most: usize) -> Option<(Noted<'t>, Cursor<'t>)>
     ensures gives { Gives (λ x. rest_of x.1) result (left_after (repeat most is_plus (read clause) (rest_of cursor.entry))) }
+    ensures left { Finds (λ x. pieces_of x.1.tokens) result (tokens_after (spell_all (spell clause)) (pieces_of cursor.entry.tokens) (repeat most is_plus (read clause) (rest_of cursor.entry))) }
     ensures stands { IfSome result (λ x. x.0.standing ≡ standing_of (items most is_plus (read clause) (rest_of cursor.entry))) }
     ensures assigned { IfSome result (λ x. option_map word_view x.0.region ≡ first_of region_of_clause (items most is_plus (read clause) (rest_of cursor.entry))) }
     ensures ends { IfSome result (λ x. next_passes is_plus (rest_of x.1) ≡ false) }
@@ -129,7 +132,8 @@ pub(crate) fn noted_clauses_at<'t>(
     ensures stands { IfSome result (λ x. x.0.1.standing ≡ standing_of (clauses_of x.0.0)) }
     ensures assigned { IfSome result (λ x. option_map word_view x.0.1.region ≡ first_of region_of_clause (clauses_of x.0.0)) }
     ensures later { IfSome result (λ x. IsLater cursor.entry x.1) }
-    ensures lent { IfSome result (λ x. x.0.0.cursor.tokens.text.now ≡ cursor.entry.tokens.text.now) }
+    ensures left { IfSome result (λ x. pieces_of x.1.tokens ≡ behind (spell_all (spell clause) (clauses_of x.0.0)) (pieces_of cursor.entry.tokens)) }
+    ensures lent { IfSome result (λ x. PartsAt (pieces_of cursor.entry.tokens) x.0.0) }
 {
     let most = cursor.len();
     let (noted, later) = pass_clauses(cursor, most)?;

@@ -2,6 +2,7 @@ pub mod Cutting
 pub mod ListSteps
 pub mod LocatedSteps
 pub mod PartLoops
+pub mod PastLoops
 pub mod TokenLemmas
 pub mod SoFar
 pub mod StatementSteps

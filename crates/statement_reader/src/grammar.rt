@@ -4,14 +4,15 @@ ghost use Rattle.std.specs.Prelude.{◌≡◌, ℕ, Bool, List, Option, Some, If
 ghost use Rattle.form_meanings.specs.Words.{Gives};
 ghost use Rattle.statement_model.specs.Form.{whole};
 ghost use Rattle.statement_model.specs.Grammar.{Grammar};
-ghost use Rattle.lefdef_tokens.specs.Views.{words_of};
+ghost use Rattle.statement_model.specs.Tokens.{Token};
+ghost use Rattle.lefdef_tokens.specs.Views.{pieces_of, words_of};
 ghost use Rattle.statement_reader.specs.Endings.{ending_view};
 
 use crate::boundary::Ending;
 use lefdef_tokens::{Span, TokenRun};
 
-/// The statements of a kind of text, such as DEF: by `grammar`, which says what they mean. A statement lends from its text
-/// what `lent` says.
+/// The statements of a kind of text, such as DEF: by `grammar`, which says what they mean. A statement lends from its
+/// tokens what `lent` says.
 pub trait Statement<'t>: Sized + Copy + Drop {
     /// Where a statement stands, such as a section or a block.
     type Place: Copy + Drop;
@@ -26,7 +27,7 @@ pub trait Statement<'t>: Sized + Copy + Drop {
 
     ghost view: { Self → Says };
 
-    ghost lent: { List ℕ → Self → Type 0 };
+    ghost lent: { List Token → Self → Type 0 };
 
     /// How a statement ends, by its first token.
     fn ending(place: Self::Place, first: &[u8]) -> Ending
@@ -35,7 +36,7 @@ pub trait Statement<'t>: Sized + Copy + Drop {
     /// The statement that these tokens are, and how many of them were left at the first invalid number.
     fn read(place: Self::Place, tokens: TokenRun<'t>) -> Option<(Self, Option<usize>)>
         ensures gives { Gives (λ x. (view x.0, x.1)) result (whole (grammar.form (place_view place)) (words_of tokens.entry)) }
-        ensures lent { IfSome result (λ x. lent tokens.entry.text.now x.0) };
+        ensures lent { IfSome result (λ x. lent (pieces_of tokens.entry) x.0) };
 
     /// Where the statement after it stands.
     fn after(place: Self::Place, statement: &Self) -> Self::Place

@@ -2,22 +2,24 @@
 
 ghost use Rattle.std.specs.Prelude.{◌≡◌, ◌<◌, ℕ, Bool, List, ◌++◌, length, take, true, Option, Some, IfSome, MatchOption};
 ghost use Rattle.form_meanings.specs.Words.{Rest, Gives, next_passes};
-ghost use Rattle.form_meanings.specs.Meaning.{read_many, items, repeat};
+ghost use Rattle.form_meanings.specs.Meaning.{read_many, items, repeat, spell_all};
+ghost use Rattle.statement_model.specs.Tokens.{Token};
+ghost use Rattle.lefdef_tokens.specs.Places.{RunAt, behind};
 ghost use Rattle.lefdef_tokens.specs.Unseens.{Finds};
 ghost use Rattle.lefdef_tokens.specs.Views.{pieces_of, rest_of, words_of, IsLater};
-ghost use Rattle.statement_reader.specs.PartViews.{Going, IsFirst, IsStep, left_after};
+ghost use Rattle.statement_reader.specs.PartViews.{Going, GoingPast, IsFirst, IsStep, PartsAt, left_after, tokens_after};
 
 use lefdef_tokens::{Cursor, TokenRun};
 use std::marker::PhantomData;
 
 /// A part that can be repeated: `reads` says what it means, `test` by which words it begins, and `spells` how it is written.
-/// It lends from its text what `lent` says.
+/// It lends from its tokens what `lent` says.
 pub trait Part<'t>: Sized + Copy + Drop {
     ghost Value: { Type 0 };
 
     ghost view: { Self → Value };
 
-    ghost lent: { List ℕ → Self → Type 0 };
+    ghost lent: { List Token → Self → Type 0 };
 
     ghost test: { List ℕ → Bool };
 
@@ -33,7 +35,8 @@ pub trait Part<'t>: Sized + Copy + Drop {
     fn read(cursor: Cursor<'t>) -> Option<(Self, Cursor<'t>)>
         ensures gives { Gives (λ x. (view x.0, rest_of x.1)) result (reads (rest_of cursor.entry)) }
         ensures later { IfSome result (λ x. IsLater cursor.entry x.1) }
-        ensures lent { IfSome result (λ x. lent cursor.entry.tokens.text.now x.0) };
+        ensures left { IfSome result (λ x. pieces_of x.1.tokens ≡ behind (spells (view x.0)) (pieces_of cursor.entry.tokens)) }
+        ensures lent { IfSome result (λ x. lent (pieces_of cursor.entry.tokens) x.0) };
 
     ghost spelled: { (r : Rest) (p : Value × Rest) → reads r ≡ Some p → r.words ≡ spells p.0 ++ p.1.words };
 }
@@ -44,7 +47,8 @@ pub trait UsualPart<'t>: Part<'t> {
     fn skip(cursor: Cursor<'t>) -> Option<Cursor<'t>>
         ensures begins { IfSome result (λ x. next_passes Self.test (rest_of cursor.entry) ≡ true) }
         ensures gives { Finds rest_of result (left_after (Self.reads (rest_of cursor.entry))) }
-        ensures later { IfSome result (λ x. IsLater cursor.entry x) };
+        ensures later { IfSome result (λ x. IsLater cursor.entry x) }
+        ensures left { Finds (λ x. pieces_of x.tokens) result (tokens_after Self.spells (pieces_of cursor.entry.tokens) (Self.reads (rest_of cursor.entry))) };
 }
 
 /// Parts that are left, at most `most` of them. They are read when they are asked for, and take no memory.
@@ -70,6 +74,7 @@ fn next_begins<'t, P: Part<'t>>(cursor: Cursor<'t>) -> bool
 #[inline(never)]
 fn skip_usual<'t, P: UsualPart<'t>>(cursor: Cursor<'t>, most: usize) -> (Cursor<'t>, usize)
     ensures going { Going P.test P.reads most (rest_of cursor.entry) result.1 (rest_of result.0) }
+    ensures left { GoingPast P.spells P.test P.reads most (rest_of cursor.entry) (pieces_of cursor.entry.tokens) result.1 (rest_of result.0) (pieces_of result.0.tokens) }
     ensures later { IsLater cursor.entry result.0 }
 {
     let mut left = cursor;
@@ -86,6 +91,7 @@ fn skip_usual<'t, P: UsualPart<'t>>(cursor: Cursor<'t>, most: usize) -> (Cursor<
 #[inline(always)]
 fn pass_parts<'t, P: Part<'t>>(cursor: Cursor<'t>, most: usize) -> Option<Cursor<'t>>
     ensures gives { Gives rest_of result (left_after (repeat most P.test P.reads (rest_of cursor.entry))) }
+    ensures left { Finds (λ x. pieces_of x.tokens) result (tokens_after (spell_all P.spells) (pieces_of cursor.entry.tokens) (repeat most P.test P.reads (rest_of cursor.entry))) }
     ensures later { IfSome result (λ x. IsLater cursor.entry x) }
 {
     let mut left = cursor;
@@ -105,6 +111,7 @@ fn pass_parts<'t, P: Part<'t>>(cursor: Cursor<'t>, most: usize) -> Option<Cursor
 #[inline(never)]
 fn pass_unusual<'t, P: UsualPart<'t>>(cursor: Cursor<'t>, most: usize) -> Option<Cursor<'t>>
     ensures gives { Gives rest_of result (left_after (repeat most P.test P.reads (rest_of cursor.entry))) }
+    ensures left { Finds (λ x. pieces_of x.tokens) result (tokens_after (spell_all P.spells) (pieces_of cursor.entry.tokens) (repeat most P.test P.reads (rest_of cursor.entry))) }
     ensures later { IfSome result (λ x. IsLater cursor.entry x) }
 {
     pass_parts::<P>(cursor, most)
@@ -115,7 +122,8 @@ fn pass_unusual<'t, P: UsualPart<'t>>(cursor: Cursor<'t>, most: usize) -> Option
 pub fn read_parts<'t, P: Part<'t>>(cursor: Cursor<'t>) -> Option<(Parts<'t, P>, Cursor<'t>)>
     ensures gives { Gives (λ x. (items x.0.most P.test P.reads (rest_of x.0.cursor), rest_of x.1)) result (read_many P.test P.reads (rest_of cursor.entry)) }
     ensures later { IfSome result (λ x. IsLater cursor.entry x.1) }
-    ensures lent { IfSome result (λ x. x.0.cursor.tokens.text.now ≡ cursor.entry.tokens.text.now) }
+    ensures left { IfSome result (λ x. pieces_of x.1.tokens ≡ behind (spell_all P.spells (items x.0.most P.test P.reads (rest_of x.0.cursor))) (pieces_of cursor.entry.tokens)) }
+    ensures lent { IfSome result (λ x. PartsAt (pieces_of cursor.entry.tokens) x.0) }
 {
     let most = cursor.len();
     let all = Parts {
@@ -134,7 +142,8 @@ pub fn read_usual_parts<'t, P: UsualPart<'t>>(
 ) -> Option<(Parts<'t, P>, Cursor<'t>)>
     ensures gives { Gives (λ x. (items x.0.most P.test P.reads (rest_of x.0.cursor), rest_of x.1)) result (read_many P.test P.reads (rest_of cursor.entry)) }
     ensures later { IfSome result (λ x. IsLater cursor.entry x.1) }
-    ensures lent { IfSome result (λ x. x.0.cursor.tokens.text.now ≡ cursor.entry.tokens.text.now) }
+    ensures left { IfSome result (λ x. pieces_of x.1.tokens ≡ behind (spell_all P.spells (items x.0.most P.test P.reads (rest_of x.0.cursor))) (pieces_of cursor.entry.tokens)) }
+    ensures lent { IfSome result (λ x. PartsAt (pieces_of cursor.entry.tokens) x.0) }
 {
     let most = cursor.len();
     let all = Parts {
@@ -155,6 +164,7 @@ pub fn read_usual_parts<'t, P: UsualPart<'t>>(
 #[inline(always)]
 pub fn skip_parts<'t, P: UsualPart<'t>>(cursor: Cursor<'t>) -> Option<Cursor<'t>>
     ensures gives { Finds (λ x. (items (length (rest_of cursor.entry).words) P.test P.reads (rest_of cursor.entry), rest_of x)) result (read_many P.test P.reads (rest_of cursor.entry)) }
+    ensures left { Finds (λ x. pieces_of x.tokens) result (tokens_after (spell_all P.spells) (pieces_of cursor.entry.tokens) (read_many P.test P.reads (rest_of cursor.entry))) }
     ensures later { IfSome result (λ x. IsLater cursor.entry x) }
 {
     let (later, _) = skip_usual::<P>(cursor, cursor.len());
@@ -180,7 +190,8 @@ impl<'t, P: Part<'t>> Parts<'t, P> {
         ensures reads { IfSome result (λ x. P.reads (rest_of self.old.cursor) ≡ Some (P.view x, rest_of self.new.cursor)) }
         ensures fewer { MatchOption result ((self.new.most ≡ self.old.most) × (self.new.cursor ≡ self.old.cursor)) (λ x. self.new.most < self.old.most) }
         ensures later { IsLater self.old.cursor self.new.cursor }
-        ensures lent { IfSome result (λ x. P.lent self.old.cursor.tokens.text.now x) }
+        ensures left { IfSome result (λ x. pieces_of self.new.cursor.tokens ≡ behind (P.spells (P.view x)) (pieces_of self.old.cursor.tokens)) }
+        ensures lent { IfSome result (λ x. P.lent (pieces_of self.old.cursor.tokens) x) }
     {
         if self.most == 0 || !next_begins::<P>(self.cursor) {
             return None;
@@ -196,9 +207,10 @@ impl<'t, P: Part<'t>> Parts<'t, P> {
         ensures step { IsStep (λ x. P.view x.0) P.test P.reads self.old.most (rest_of self.old.cursor) result self.new.most (rest_of self.new.cursor) }
         ensures fewer { MatchOption result ((self.new.most ≡ self.old.most) × (self.new.cursor ≡ self.old.cursor)) (λ x. self.new.most < self.old.most) }
         ensures tokens { IfSome result (λ x. words_of x.1 ≡ P.spells (P.view x.0)) }
-        ensures first { IfSome result (λ x. pieces_of x.1 ≡ take (length (words_of x.1)) (pieces_of self.old.cursor.tokens)) }
+        ensures first { IfSome result (λ x. RunAt (pieces_of self.old.cursor.tokens) x.1) }
+        ensures left { IfSome result (λ x. pieces_of self.new.cursor.tokens ≡ behind (words_of x.1) (pieces_of self.old.cursor.tokens)) }
         ensures text { IfSome result (λ x. x.1.text.now ≡ self.old.cursor.tokens.text.now) }
-        ensures lent { IfSome result (λ x. P.lent self.old.cursor.tokens.text.now x.0) }
+        ensures lent { IfSome result (λ x. P.lent (pieces_of self.old.cursor.tokens) x.0) }
         ensures later { IsLater self.old.cursor self.new.cursor }
     {
         let before = self.cursor;
@@ -210,7 +222,7 @@ impl<'t, P: Part<'t>> Parts<'t, P> {
     /// The next part, which stays the next.
     pub fn peek(self) -> Option<P>
         ensures first { IsFirst P.view P.test P.reads self.entry.most (rest_of self.entry.cursor) result }
-        ensures lent { IfSome result (λ x. P.lent self.entry.cursor.tokens.text.now x) }
+        ensures lent { IfSome result (λ x. P.lent (pieces_of self.entry.cursor.tokens) x) }
     {
         let mut parts = self;
         parts.next()

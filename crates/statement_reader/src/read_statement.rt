@@ -36,7 +36,7 @@ pub fn read_statement<'t, S: Statement<'t>>(
     requires { pos ≤ length text.now }
     ensures reads { ReadsStatement S.grammar S.place_view S.view place text.now pos result }
     ensures cuts { CutsStatement S.grammar S.place_view place text.now pos result }
-    ensures lent { IfOk result (λ found. IfSome found (λ x. S.lent text.now x.statement)) }
+    ensures lent { IfOk result (λ found. IfSome found (λ x. S.lent (pieces_of x.tokens) x.statement)) }
     ensures text { IfOk result (λ found. IfSome found (λ x. x.tokens.text.now ≡ text.now)) }
     ensures span { IfOk result (λ found. IfSome found (λ x. span_of (pieces_of x.tokens) ≡ record { lo = x.start; hi = x.end })) }
 {

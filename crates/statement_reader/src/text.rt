@@ -40,7 +40,7 @@ impl<'t, S: Statement<'t, Place = P>, P: Copy + Drop> Statements<'t, S, P> {
         ensures same { self.new.text.now ≡ self.old.text.now }
         ensures further { MatchOption result ((self.new.place ≡ self.old.place) × (self.new.pos ≡ self.old.pos)) (λ x. self.old.pos < self.new.pos) }
         ensures gives { GivesNext S.grammar S.place_view S.view self.old.place self.old.text.now self.old.pos result self.new.place self.new.pos }
-        ensures lent { IfSome result (λ x. S.lent self.old.text.now x.statement) }
+        ensures lent { IfSome result (λ x. S.lent (pieces_of x.tokens) x.statement) }
         ensures tokens { IfSome result (λ x. x.tokens.text.now ≡ self.old.text.now) }
         ensures span { IfSome result (λ x. span_of (pieces_of x.tokens) ≡ record { lo = x.start; hi = x.end }) }
     {

@@ -1,13 +1,15 @@
--- Entries of NONDEFAULTRULES of the program as those of the definitions, and what they lend from a text.
-use Rattle.std.specs.Prelude.{ℕ, List}
+-- Entries of NONDEFAULTRULES of the program as those of the definitions, and which tokens they are.
+use Rattle.std.specs.Prelude.{List}
 use Rattle.form_meanings.specs.Words.{is_plus}
 use Rattle.form_meanings.specs.Meaning.{items}
 use Rattle.statement_model.specs.Form.{read}
 use Rattle.def_grammar.specs.Rules.{RuleLayer, RuleClause, rule_has_layer, rule_kept, rule_clause, Rule}
-use Rattle.lefdef_tokens.specs.Views.{IsIn, rest_of, words_of}
+use Rattle.statement_model.specs.Tokens.{Token}
+use Rattle.lefdef_tokens.specs.Places.{RunAt, StandsAt, past}
+use Rattle.lefdef_tokens.specs.Views.{rest_of, words_of}
 use Rattle.statement_reader.specs.declared.parts.Parts.{Parts}
-use Rattle.def_parts.specs.ClauseViews.{KeptIn, RunIn, kept_view}
-use Rattle.def_parts.specs.PointViews.{PartsIn}
+use Rattle.def_parts.specs.ClauseViews.{KeptAt, kept_view}
+use Rattle.statement_reader.specs.PartViews.{PartsAt}
 use Rattle.via_parts.specs.declared.rules.RuleLayer as code_layer
 use Rattle.via_parts.specs.declared.rules.RuleClause as code_clause
 use Rattle.via_parts.specs.declared.rules.RuleClause.TheVariants as clauses
@@ -27,12 +29,15 @@ rule_clauses_of parts = items parts.most is_plus (read rule_clause) (rest_of par
 abbrev pub rule_view : code_rule.RuleParts → Rule
 rule_view r = record { name = r.name.bytes.now; clauses = rule_clauses_of r.clauses }
 
-abbrev pub RuleLayerIn : List ℕ → code_layer.RuleLayer → Type 0
-RuleLayerIn text l = IsIn text l.layer × IsIn text l.width × RunIn text l.rest
+-- of these tokens, the first is the layer and the third its width, behind WIDTH
+abbrev pub RuleLayerAt : List Token → code_layer.RuleLayer → Type 0
+RuleLayerAt ps l = StandsAt ps l.layer × StandsAt (past 2 ps) l.width × RunAt (past 3 ps) l.rest
 
-abbrev pub RuleClauseIn : List ℕ → code_clause.RuleClause → Type 0
-RuleClauseIn text (clauses.Layer layer) = RuleLayerIn text layer
-RuleClauseIn text (clauses.Other clause) = KeptIn text clause
+-- behind the +, and the word LAYER
+abbrev pub RuleClauseAt : List Token → code_clause.RuleClause → Type 0
+RuleClauseAt ps (clauses.Layer layer) = RuleLayerAt (past 2 ps) layer
+RuleClauseAt ps (clauses.Other clause) = KeptAt (past 1 ps) clause
 
-abbrev pub RuleIn : List ℕ → code_rule.RuleParts → Type 0
-RuleIn text r = IsIn text r.name × PartsIn text r.clauses
+-- of these tokens, the second is the name, and behind it come the clauses
+abbrev pub RuleAt : List Token → code_rule.RuleParts → Type 0
+RuleAt ps r = StandsAt (past 1 ps) r.name × PartsAt (past 2 ps) r.clauses

@@ -1,17 +1,20 @@
--- Entries of VIAS of the program as those of the definitions, and what they lend from a text.
+-- Entries of VIAS of the program as those of the definitions, and which tokens they are.
 use Rattle.std.specs.Prelude.{ℕ, List, Option, codes, IfSome}
 use Rattle.std.specs.Option.{option_map}
 use Rattle.form_meanings.specs.Words.{is_plus}
 use Rattle.form_meanings.specs.Meaning.{items}
-use Rattle.statement_model.specs.Form.{Form, on, read, right}
+use Rattle.statement_model.specs.Form.{Form, on, opt, read, right, spell}
 use Rattle.def_grammar.specs.Parts.{Coordinates, name}
 use Rattle.def_grammar.specs.Clauses.{list_of}
-use Rattle.def_grammar.specs.DefVias.{ViaRectangle, via_rectangle, ViaPolygon, via_polygon, ViaLayers, ByLayer, CutArray, ViaArrayClause, GeneratedClause, generated_clause, ViaClause, via_has_rectangle, via_has_polygon, via_rule, cut_size, on_layers, cut_spacing, enclosure, row_col, via_origin, via_offset, via_kept, via_clause, DefVia}
-use Rattle.lefdef_tokens.specs.Views.{IsIn, rest_of}
+use Rattle.def_grammar.specs.DefVias.{ViaRectangle, via_rectangle, ViaPolygon, via_polygon, ViaLayers, ByLayer, CutArray, ViaArrayClause, GeneratedClause, generated_clause, plus_mask, ViaClause, via_has_rectangle, via_has_polygon, via_rule, cut_size, on_layers, cut_spacing, enclosure, row_col, via_origin, via_offset, via_kept, via_clause, DefVia}
+use Rattle.statement_model.specs.Tokens as tokens
+use Rattle.lefdef_tokens.specs.Places.{StandsAt, behind, past}
+use Rattle.lefdef_tokens.specs.Views.{rest_of}
 use Rattle.lefdef_tokens.specs.declared.token.Token.{Token}
 use Rattle.statement_reader.specs.declared.parts.Parts.{Parts}
-use Rattle.def_parts.specs.ClauseViews.{KeptIn, MaskIn, kept_view, mask_view}
-use Rattle.def_parts.specs.PointViews.{CornersIn, PartsIn, PointIn, corners_view, later_points, point_view}
+use Rattle.def_parts.specs.ClauseViews.{KeptAt, OptionAt, kept_view, mask_view}
+use Rattle.def_parts.specs.PointViews.{CornersAt, NumbersAt, PointAt, corners_view, later_points, point_view}
+use Rattle.statement_reader.specs.PartViews.{PartsAt}
 use Rattle.via_parts.specs.declared.vias.PointRow as code_row
 use Rattle.via_parts.specs.declared.vias.ViaRectangle as code_rectangle
 use Rattle.via_parts.specs.declared.vias.ViaPolygon as code_polygon
@@ -81,39 +84,52 @@ via_clauses_of parts = items parts.most is_plus (read via_clause) (rest_of parts
 abbrev pub via_view : code_via.ViaParts → DefVia
 via_view v = record { name = v.name.bytes.now; clauses = via_clauses_of v.clauses }
 
-abbrev pub RowIn : List ℕ → code_row.PointRow → Type 0
-RowIn text r = PointIn text r.first × PartsIn text r.others
+-- of these tokens, the first four are the first point
+abbrev pub RowAt : List tokens.Token → code_row.PointRow → Type 0
+RowAt ps r = PointAt ps r.first × PartsAt (past 4 ps) r.others
 
-abbrev pub MaybeRowIn : List ℕ → Option code_row.PointRow → Type 0
-MaybeRowIn text row = IfSome row (λ r. RowIn text r)
+abbrev pub MaybeRowAt : List tokens.Token → Option code_row.PointRow → Type 0
+MaybeRowAt ps row = IfSome row (λ r. RowAt ps r)
 
-abbrev pub ViaRectangleIn : List ℕ → code_rectangle.ViaRectangle → Type 0
-ViaRectangleIn text r = IsIn text r.layer × MaskIn text r.mask × CornersIn text r.corners
+-- the word behind + MASK
+abbrev pub PlusMaskAt : List tokens.Token → Option Token → Type 0
+PlusMaskAt ps mask = OptionAt (past 2 ps) mask
 
-abbrev pub ViaPolygonIn : List ℕ → code_polygon.ViaPolygon → Type 0
-ViaPolygonIn text p = IsIn text p.layer × MaskIn text p.mask × MaybeRowIn text p.points
+-- what stands behind a mask that may be there
+abbrev pub behind_mask : Option Token → List tokens.Token → List tokens.Token
+behind_mask mask ps = behind (spell (opt is_plus plus_mask) (mask_view mask)) ps
 
-abbrev pub ViaLayersIn : List ℕ → code_layers.ViaLayers → Type 0
-ViaLayersIn text l = IsIn text l.bottom × IsIn text l.cut × IsIn text l.top
+-- of these tokens, the first is the layer
+abbrev pub ViaRectangleAt : List tokens.Token → code_rectangle.ViaRectangle → Type 0
+ViaRectangleAt ps r = StandsAt ps r.layer × PlusMaskAt (past 1 ps) r.mask × CornersAt (behind_mask r.mask (past 1 ps)) r.corners
 
-abbrev pub ByLayerIn : List ℕ → code_by_layer.ByLayer → Type 0
-ByLayerIn text b = PointIn text b.bottom × PointIn text b.top
+abbrev pub ViaPolygonAt : List tokens.Token → code_polygon.ViaPolygon → Type 0
+ViaPolygonAt ps p = StandsAt ps p.layer × PlusMaskAt (past 1 ps) p.mask × MaybeRowAt (behind_mask p.mask (past 1 ps)) p.points
 
-abbrev pub CutArrayIn : List ℕ → code_array.CutArray → Type 0
-CutArrayIn text a = IsIn text a.rows × IsIn text a.columns
+-- the first three of these tokens
+abbrev pub ViaLayersAt : List tokens.Token → code_layers.ViaLayers → Type 0
+ViaLayersAt ps l = StandsAt ps l.bottom × StandsAt (past 1 ps) l.cut × StandsAt (past 2 ps) l.top
 
-abbrev pub ViaClauseIn : List ℕ → code_clause.ViaClause → Type 0
-ViaClauseIn text (clauses.Rectangle rectangle) = ViaRectangleIn text rectangle
-ViaClauseIn text (clauses.Polygon polygon) = ViaPolygonIn text polygon
-ViaClauseIn text (clauses.Rule name) = IsIn text name
-ViaClauseIn text (clauses.CutSize size) = PointIn text size
-ViaClauseIn text (clauses.Layers layers) = ViaLayersIn text layers
-ViaClauseIn text (clauses.CutSpacing space) = PointIn text space
-ViaClauseIn text (clauses.Enclosure by) = ByLayerIn text by
-ViaClauseIn text (clauses.RowCol array) = CutArrayIn text array
-ViaClauseIn text (clauses.Origin at) = PointIn text at
-ViaClauseIn text (clauses.Offset by) = ByLayerIn text by
-ViaClauseIn text (clauses.Other clause) = KeptIn text clause
+abbrev pub ByLayerAt : List tokens.Token → code_by_layer.ByLayer → Type 0
+ByLayerAt ps b = NumbersAt ps b.bottom × NumbersAt (past 2 ps) b.top
 
-abbrev pub ViaIn : List ℕ → code_via.ViaParts → Type 0
-ViaIn text v = IsIn text v.name × PartsIn text v.clauses
+abbrev pub CutArrayAt : List tokens.Token → code_array.CutArray → Type 0
+CutArrayAt ps a = StandsAt ps a.rows × StandsAt (past 1 ps) a.columns
+
+-- behind the clause's word, or from it on where it means nothing
+abbrev pub ViaClauseAt : List tokens.Token → code_clause.ViaClause → Type 0
+ViaClauseAt ps (clauses.Rectangle rectangle) = ViaRectangleAt (past 1 ps) rectangle
+ViaClauseAt ps (clauses.Polygon polygon) = ViaPolygonAt (past 1 ps) polygon
+ViaClauseAt ps (clauses.Rule name) = StandsAt (past 1 ps) name
+ViaClauseAt ps (clauses.CutSize size) = NumbersAt (past 1 ps) size
+ViaClauseAt ps (clauses.Layers layers) = ViaLayersAt (past 1 ps) layers
+ViaClauseAt ps (clauses.CutSpacing space) = NumbersAt (past 1 ps) space
+ViaClauseAt ps (clauses.Enclosure by) = ByLayerAt (past 1 ps) by
+ViaClauseAt ps (clauses.RowCol array) = CutArrayAt (past 1 ps) array
+ViaClauseAt ps (clauses.Origin at) = NumbersAt (past 1 ps) at
+ViaClauseAt ps (clauses.Offset by) = ByLayerAt (past 1 ps) by
+ViaClauseAt ps (clauses.Other clause) = KeptAt ps clause
+
+-- of these tokens, the second is the name, and behind it come the clauses
+abbrev pub ViaAt : List tokens.Token → code_via.ViaParts → Type 0
+ViaAt ps v = StandsAt (past 1 ps) v.name × PartsAt (past 2 ps) v.clauses

@@ -4,9 +4,10 @@ ghost use Rattle.std.specs.Prelude.{◌≡◌, IfSome};
 ghost use Rattle.form_meanings.specs.Words.{Gives, is_plus};
 ghost use Rattle.statement_model.specs.Form.{read, spell};
 ghost use Rattle.def_grammar.specs.Rules.{rule_clause, rule_form, rule_layer};
-ghost use Rattle.lefdef_tokens.specs.Views.{IsLater, rest_of};
+ghost use Rattle.lefdef_tokens.specs.Places.{behind};
+ghost use Rattle.lefdef_tokens.specs.Views.{IsLater, pieces_of, rest_of};
 ghost use Rattle.def_parts.specs.PointViews.{with_rest};
-ghost use Rattle.via_parts.specs.RuleViews.{RuleClauseIn, RuleIn, RuleLayerIn, rule_clause_view, rule_layer_view, rule_view};
+ghost use Rattle.via_parts.specs.RuleViews.{RuleAt, RuleClauseAt, RuleLayerAt, rule_clause_view, rule_layer_view, rule_view};
 
 use def_parts::clauses::{KeptClause, kept_clause_at};
 use def_parts::number::size_at;
@@ -42,7 +43,8 @@ pub struct RuleParts<'t> {
 fn rule_layer_at<'t>(cursor: Cursor<'t>) -> Option<(RuleLayer<'t>, Cursor<'t>)>
     ensures gives { Gives (with_rest rule_layer_view) result (read rule_layer (rest_of cursor.entry)) }
     ensures later { IfSome result (λ x. IsLater cursor.entry x.1) }
-    ensures lent { IfSome result (λ x. RuleLayerIn cursor.entry.tokens.text.now x.0) }
+    ensures left { IfSome result (λ x. pieces_of x.1.tokens ≡ behind (spell rule_layer (rule_layer_view x.0)) (pieces_of cursor.entry.tokens)) }
+    ensures lent { IfSome result (λ x. RuleLayerAt (pieces_of cursor.entry.tokens) x.0) }
 {
     let (layer, cursor) = cursor.name()?;
     let (width, cursor) = size_at(cursor.key(b"WIDTH")?)?;
@@ -55,7 +57,8 @@ fn rule_layer_at<'t>(cursor: Cursor<'t>) -> Option<(RuleLayer<'t>, Cursor<'t>)>
 fn rule_clause_at<'t>(cursor: Cursor<'t>) -> Option<(RuleClause<'t>, Cursor<'t>)>
     ensures gives { Gives (with_rest rule_clause_view) result (read rule_clause (rest_of cursor.entry)) }
     ensures later { IfSome result (λ x. IsLater cursor.entry x.1) }
-    ensures lent { IfSome result (λ x. RuleClauseIn cursor.entry.tokens.text.now x.0) }
+    ensures left { IfSome result (λ x. pieces_of x.1.tokens ≡ behind (spell rule_clause (rule_clause_view x.0)) (pieces_of cursor.entry.tokens)) }
+    ensures lent { IfSome result (λ x. RuleClauseAt (pieces_of cursor.entry.tokens) x.0) }
 {
     let cursor = cursor.key(b"+")?;
     if cursor.next_is(b"LAYER") {
@@ -74,7 +77,7 @@ impl<'t> Part<'t> for RuleClause<'t> {
 
     ghost view = { rule_clause_view };
 
-    ghost lent = { RuleClauseIn };
+    ghost lent = { RuleClauseAt };
 
     ghost test = { is_plus };
 
@@ -93,19 +96,21 @@ impl<'t> Part<'t> for RuleClause<'t> {
     fn read(cursor: Cursor<'t>) -> Option<(RuleClause<'t>, Cursor<'t>)>
         ensures gives { Gives (with_rest rule_clause_view) result (read rule_clause (rest_of cursor.entry)) }
         ensures later { IfSome result (λ x. IsLater cursor.entry x.1) }
-        ensures lent { IfSome result (λ x. RuleClauseIn cursor.entry.tokens.text.now x.0) }
+        ensures left { IfSome result (λ x. pieces_of x.1.tokens ≡ behind (spell rule_clause (rule_clause_view x.0)) (pieces_of cursor.entry.tokens)) }
+        ensures lent { IfSome result (λ x. RuleClauseAt (pieces_of cursor.entry.tokens) x.0) }
     {
         rule_clause_at(cursor)
     }
 }
 
 /// `- name (+ clause)* ;`
-#[tactic(auto, unfolding(def_grammar::specs::Rules::rule_form))]
+#[tactic(auto, unfolding(def_grammar::specs::Rules::rule_form), using(lefdef_tokens::proofs::PlaceLemmas::behind_append))]
 #[inline(never)]
 pub fn rule_at<'t>(cursor: Cursor<'t>) -> Option<(RuleParts<'t>, Cursor<'t>)>
     ensures gives { Gives (with_rest rule_view) result (read rule_form (rest_of cursor.entry)) }
     ensures later { IfSome result (λ x. IsLater cursor.entry x.1) }
-    ensures lent { IfSome result (λ x. RuleIn cursor.entry.tokens.text.now x.0) }
+    ensures left { IfSome result (λ x. pieces_of x.1.tokens ≡ behind (spell rule_form (rule_view x.0)) (pieces_of cursor.entry.tokens)) }
+    ensures lent { IfSome result (λ x. RuleAt (pieces_of cursor.entry.tokens) x.0) }
 {
     let (name, cursor) = cursor.name_behind(b"-")?;
     let (clauses, cursor) = read_parts::<RuleClause<'t>>(cursor)?;

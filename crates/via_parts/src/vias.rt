@@ -7,10 +7,11 @@ ghost use Rattle.def_grammar.specs.Clauses.{kept_clause};
 ghost use Rattle.def_grammar.specs.DefVias.{by_layer, cut_array, def_via_form, generated_clause, plus_mask, two_sizes, via_array_clause, via_clause, via_layers, via_polygon, via_rectangle};
 ghost use Rattle.def_grammar.specs.Parts.{name, point};
 ghost use Rattle.def_grammar.specs.Points.{is_open, later_point, points, two_numbers};
-ghost use Rattle.lefdef_tokens.specs.Views.{IsIn, IsLater, rest_of, word_of};
-ghost use Rattle.def_parts.specs.ClauseViews.{MaskIn, mask_view};
-ghost use Rattle.def_parts.specs.PointViews.{PointIn, point_view, with_rest};
-ghost use Rattle.via_parts.specs.ViaViews.{ByLayerIn, CutArrayIn, MaybeRowIn, RowIn, ViaClauseIn, ViaIn, ViaLayersIn, ViaPolygonIn, ViaRectangleIn, by_layer_view, cut_array_view, first_and_later, masked_view, of_array, of_generated, row_view, unmasked_view, via_by_word, via_clause_view, via_layers_view, via_polygon_view, via_rectangle_view, via_view};
+ghost use Rattle.lefdef_tokens.specs.Places.{StandsAt, behind, past};
+ghost use Rattle.lefdef_tokens.specs.Views.{IsLater, pieces_of, rest_of, word_of};
+ghost use Rattle.def_parts.specs.ClauseViews.{mask_view};
+ghost use Rattle.def_parts.specs.PointViews.{NumbersAt, point_view, with_rest};
+ghost use Rattle.via_parts.specs.ViaViews.{ByLayerAt, CutArrayAt, MaybeRowAt, PlusMaskAt, RowAt, ViaAt, ViaClauseAt, ViaLayersAt, ViaPolygonAt, ViaRectangleAt, by_layer_view, cut_array_view, first_and_later, masked_view, of_array, of_generated, row_view, unmasked_view, via_by_word, via_clause_view, via_layers_view, via_polygon_view, via_rectangle_view, via_view};
 
 use def_parts::clauses::{KeptClause, kept_clause_at};
 use def_parts::number::{cuts_at, size_at};
@@ -90,10 +91,12 @@ pub struct ViaParts<'t> {
 }
 
 /// A point, and points after it
+#[tactic(auto, unfolding(def_grammar::specs::Parts::point))]
 fn point_row_at<'t>(cursor: Cursor<'t>) -> Option<(PointRow<'t>, Cursor<'t>)>
     ensures gives { Gives (with_rest first_and_later) result (read (point ⨟ many is_open later_point) (rest_of cursor.entry)) }
     ensures later { IfSome result (λ x. IsLater cursor.entry x.1) }
-    ensures lent { IfSome result (λ x. RowIn cursor.entry.tokens.text.now x.0) }
+    ensures left { IfSome result (λ x. pieces_of x.1.tokens ≡ behind (spell (point ⨟ many is_open later_point) (first_and_later x.0)) (pieces_of cursor.entry.tokens)) }
+    ensures lent { IfSome result (λ x. RowAt (pieces_of cursor.entry.tokens) x.0) }
 {
     let (first, cursor) = point_at(cursor)?;
     let (others, cursor) = read_parts::<LaterPoint<'t>>(cursor)?;
@@ -105,7 +108,8 @@ fn point_row_at<'t>(cursor: Cursor<'t>) -> Option<(PointRow<'t>, Cursor<'t>)>
 fn points_at<'t>(cursor: Cursor<'t>) -> Option<(Option<PointRow<'t>>, Cursor<'t>)>
     ensures gives { Gives (with_rest row_view) result (read points (rest_of cursor.entry)) }
     ensures later { IfSome result (λ x. IsLater cursor.entry x.1) }
-    ensures lent { IfSome result (λ x. MaybeRowIn cursor.entry.tokens.text.now x.0) }
+    ensures left { IfSome result (λ x. pieces_of x.1.tokens ≡ behind (spell points (row_view x.0)) (pieces_of cursor.entry.tokens)) }
+    ensures lent { IfSome result (λ x. MaybeRowAt (pieces_of cursor.entry.tokens) x.0) }
 {
     if next_is_open(cursor) {
         let (row, cursor) = point_row_at(cursor)?;
@@ -119,7 +123,8 @@ fn points_at<'t>(cursor: Cursor<'t>) -> Option<(Option<PointRow<'t>>, Cursor<'t>
 fn plus_mask_at<'t>(cursor: Cursor<'t>) -> Option<(Token<'t>, Cursor<'t>)>
     ensures gives { Gives word_of result (read plus_mask (rest_of cursor.entry)) }
     ensures later { IfSome result (λ x. IsLater cursor.entry x.1) }
-    ensures lent { IfSome result (λ x. IsIn cursor.entry.tokens.text.now x.0) }
+    ensures left { IfSome result (λ x. pieces_of x.1.tokens ≡ behind (spell plus_mask x.0.bytes.now) (pieces_of cursor.entry.tokens)) }
+    ensures lent { IfSome result (λ x. StandsAt (past 2 (pieces_of cursor.entry.tokens)) x.0) }
 {
     cursor.key(b"+")?.plain_word_behind(b"MASK")
 }
@@ -128,7 +133,8 @@ fn plus_mask_at<'t>(cursor: Cursor<'t>) -> Option<(Token<'t>, Cursor<'t>)>
 fn optional_mask_at<'t>(cursor: Cursor<'t>) -> Option<(Option<Token<'t>>, Cursor<'t>)>
     ensures gives { Gives (with_rest mask_view) result (read (opt is_plus plus_mask) (rest_of cursor.entry)) }
     ensures later { IfSome result (λ x. IsLater cursor.entry x.1) }
-    ensures lent { IfSome result (λ x. MaskIn cursor.entry.tokens.text.now x.0) }
+    ensures left { IfSome result (λ x. pieces_of x.1.tokens ≡ behind (spell (opt is_plus plus_mask) (mask_view x.0)) (pieces_of cursor.entry.tokens)) }
+    ensures lent { IfSome result (λ x. PlusMaskAt (pieces_of cursor.entry.tokens) x.0) }
 {
     if cursor.next_is_plus() {
         let (word, cursor) = plus_mask_at(cursor)?;
@@ -139,11 +145,12 @@ fn optional_mask_at<'t>(cursor: Cursor<'t>) -> Option<(Option<Token<'t>>, Cursor
 }
 
 /// `layer [+ MASK word] point point`, after `RECT`
-#[tactic(auto, unfolding(def_grammar::specs::DefVias::via_rectangle))]
+#[tactic(auto, unfolding(def_grammar::specs::DefVias::via_rectangle, def_grammar::specs::Points::corners, def_grammar::specs::Points::later_point, def_grammar::specs::Parts::point))]
 fn via_rectangle_at<'t>(cursor: Cursor<'t>) -> Option<(ViaRectangle<'t>, Cursor<'t>)>
     ensures gives { Gives (with_rest via_rectangle_view) result (read via_rectangle (rest_of cursor.entry)) }
     ensures later { IfSome result (λ x. IsLater cursor.entry x.1) }
-    ensures lent { IfSome result (λ x. ViaRectangleIn cursor.entry.tokens.text.now x.0) }
+    ensures left { IfSome result (λ x. pieces_of x.1.tokens ≡ behind (spell via_rectangle (via_rectangle_view x.0)) (pieces_of cursor.entry.tokens)) }
+    ensures lent { IfSome result (λ x. ViaRectangleAt (pieces_of cursor.entry.tokens) x.0) }
 {
     let (layer, cursor) = cursor.name()?;
     let (mask, cursor) = optional_mask_at(cursor)?;
@@ -162,7 +169,8 @@ fn masked_points_at<'t>(
 ) -> Option<((Token<'t>, Token<'t>, Option<PointRow<'t>>), Cursor<'t>)>
     ensures gives { Gives (with_rest masked_view) result (read (closed is_stop (name ⨟ plus_mask ⨟ points)) (rest_of cursor.entry)) }
     ensures later { IfSome result (λ x. IsLater cursor.entry x.1) }
-    ensures lent { IfSome result (λ x. IsIn cursor.entry.tokens.text.now x.0.0 × IsIn cursor.entry.tokens.text.now x.0.1 × MaybeRowIn cursor.entry.tokens.text.now x.0.2) }
+    ensures left { IfSome result (λ x. pieces_of x.1.tokens ≡ behind (spell (closed is_stop (name ⨟ plus_mask ⨟ points)) (masked_view x.0)) (pieces_of cursor.entry.tokens)) }
+    ensures lent { IfSome result (λ x. StandsAt (pieces_of cursor.entry.tokens) x.0.0 × StandsAt (past 3 (pieces_of cursor.entry.tokens)) x.0.1 × MaybeRowAt (past 4 (pieces_of cursor.entry.tokens)) x.0.2) }
 {
     let (layer, cursor) = cursor.name()?;
     let (mask, cursor) = plus_mask_at(cursor)?;
@@ -180,7 +188,8 @@ fn unmasked_points_at<'t>(
 ) -> Option<((Token<'t>, Option<PointRow<'t>>), Cursor<'t>)>
     ensures gives { Gives (with_rest unmasked_view) result (read (closed is_stop (name ⨟ points)) (rest_of cursor.entry)) }
     ensures later { IfSome result (λ x. IsLater cursor.entry x.1) }
-    ensures lent { IfSome result (λ x. IsIn cursor.entry.tokens.text.now x.0.0 × MaybeRowIn cursor.entry.tokens.text.now x.0.1) }
+    ensures left { IfSome result (λ x. pieces_of x.1.tokens ≡ behind (spell (closed is_stop (name ⨟ points)) (unmasked_view x.0)) (pieces_of cursor.entry.tokens)) }
+    ensures lent { IfSome result (λ x. StandsAt (pieces_of cursor.entry.tokens) x.0.0 × MaybeRowAt (past 1 (pieces_of cursor.entry.tokens)) x.0.1) }
 {
     let (layer, cursor) = cursor.name()?;
     let (points, cursor) = points_at(cursor)?;
@@ -197,7 +206,8 @@ fn unmasked_points_at<'t>(
 fn via_polygon_at<'t>(cursor: Cursor<'t>) -> Option<(ViaPolygon<'t>, Cursor<'t>)>
     ensures gives { Gives (with_rest via_polygon_view) result (read via_polygon (rest_of cursor.entry)) }
     ensures later { IfSome result (λ x. IsLater cursor.entry x.1) }
-    ensures lent { IfSome result (λ x. ViaPolygonIn cursor.entry.tokens.text.now x.0) }
+    ensures left { IfSome result (λ x. pieces_of x.1.tokens ≡ behind (spell via_polygon (via_polygon_view x.0)) (pieces_of cursor.entry.tokens)) }
+    ensures lent { IfSome result (λ x. ViaPolygonAt (pieces_of cursor.entry.tokens) x.0) }
 {
     if let Some(((layer, mask, points), later)) = masked_points_at(cursor) {
         let polygon = ViaPolygon {
@@ -221,7 +231,8 @@ fn via_polygon_at<'t>(cursor: Cursor<'t>) -> Option<(ViaPolygon<'t>, Cursor<'t>)
 fn two_sizes_at<'t>(cursor: Cursor<'t>) -> Option<(Coordinates<'t>, Cursor<'t>)>
     ensures gives { Gives (with_rest point_view) result (read two_sizes (rest_of cursor.entry)) }
     ensures later { IfSome result (λ x. IsLater cursor.entry x.1) }
-    ensures lent { IfSome result (λ x. PointIn cursor.entry.tokens.text.now x.0) }
+    ensures left { IfSome result (λ x. pieces_of x.1.tokens ≡ behind (spell two_sizes (point_view x.0)) (pieces_of cursor.entry.tokens)) }
+    ensures lent { IfSome result (λ x. NumbersAt (pieces_of cursor.entry.tokens) x.0) }
 {
     let (x, cursor) = size_at(cursor)?;
     let (y, cursor) = size_at(cursor)?;
@@ -233,7 +244,8 @@ fn two_sizes_at<'t>(cursor: Cursor<'t>) -> Option<(Coordinates<'t>, Cursor<'t>)>
 fn via_layers_at<'t>(cursor: Cursor<'t>) -> Option<(ViaLayers<'t>, Cursor<'t>)>
     ensures gives { Gives (with_rest via_layers_view) result (read via_layers (rest_of cursor.entry)) }
     ensures later { IfSome result (λ x. IsLater cursor.entry x.1) }
-    ensures lent { IfSome result (λ x. ViaLayersIn cursor.entry.tokens.text.now x.0) }
+    ensures left { IfSome result (λ x. pieces_of x.1.tokens ≡ behind (spell via_layers (via_layers_view x.0)) (pieces_of cursor.entry.tokens)) }
+    ensures lent { IfSome result (λ x. ViaLayersAt (pieces_of cursor.entry.tokens) x.0) }
 {
     let (bottom, cursor) = cursor.name()?;
     let (cut, cursor) = cursor.name()?;
@@ -242,11 +254,12 @@ fn via_layers_at<'t>(cursor: Cursor<'t>) -> Option<(ViaLayers<'t>, Cursor<'t>)>
 }
 
 /// Two numbers of the bottom layer and two of the top layer
-#[tactic(auto, unfolding(def_grammar::specs::DefVias::by_layer))]
+#[tactic(auto, unfolding(def_grammar::specs::DefVias::by_layer, def_grammar::specs::Points::two_numbers))]
 fn by_layer_at<'t>(cursor: Cursor<'t>) -> Option<(ByLayer<'t>, Cursor<'t>)>
     ensures gives { Gives (with_rest by_layer_view) result (read by_layer (rest_of cursor.entry)) }
     ensures later { IfSome result (λ x. IsLater cursor.entry x.1) }
-    ensures lent { IfSome result (λ x. ByLayerIn cursor.entry.tokens.text.now x.0) }
+    ensures left { IfSome result (λ x. pieces_of x.1.tokens ≡ behind (spell by_layer (by_layer_view x.0)) (pieces_of cursor.entry.tokens)) }
+    ensures lent { IfSome result (λ x. ByLayerAt (pieces_of cursor.entry.tokens) x.0) }
 {
     let (bottom, cursor) = two_numbers_at(cursor)?;
     let (top, cursor) = two_numbers_at(cursor)?;
@@ -258,7 +271,8 @@ fn by_layer_at<'t>(cursor: Cursor<'t>) -> Option<(ByLayer<'t>, Cursor<'t>)>
 fn cut_array_at<'t>(cursor: Cursor<'t>) -> Option<(CutArray<'t>, Cursor<'t>)>
     ensures gives { Gives (with_rest cut_array_view) result (read cut_array (rest_of cursor.entry)) }
     ensures later { IfSome result (λ x. IsLater cursor.entry x.1) }
-    ensures lent { IfSome result (λ x. CutArrayIn cursor.entry.tokens.text.now x.0) }
+    ensures left { IfSome result (λ x. pieces_of x.1.tokens ≡ behind (spell cut_array (cut_array_view x.0)) (pieces_of cursor.entry.tokens)) }
+    ensures lent { IfSome result (λ x. CutArrayAt (pieces_of cursor.entry.tokens) x.0) }
 {
     let (rows, cursor) = cuts_at(cursor)?;
     let (columns, cursor) = cuts_at(cursor)?;
@@ -269,17 +283,20 @@ fn cut_array_at<'t>(cursor: Cursor<'t>) -> Option<(CutArray<'t>, Cursor<'t>)>
 fn row_col_clause_at<'t>(cursor: Cursor<'t>) -> Option<(ViaClause<'t>, Cursor<'t>)>
     ensures gives { Gives (with_rest via_clause_view) result (read (of_array (left (codes "ROWCOL" ▸ cut_array))) (rest_of cursor.entry)) }
     ensures later { IfSome result (λ x. IsLater cursor.entry x.1) }
-    ensures lent { IfSome result (λ x. ViaClauseIn cursor.entry.tokens.text.now x.0) }
+    ensures left { IfSome result (λ x. pieces_of x.1.tokens ≡ behind (spell (of_array (left (codes "ROWCOL" ▸ cut_array))) (via_clause_view x.0)) (pieces_of cursor.entry.tokens)) }
+    ensures lent { IfSome result (λ x. ViaClauseAt (pieces_of cursor.entry.tokens) x.0) }
 {
     let (array, cursor) = cut_array_at(cursor.key(b"ROWCOL")?)?;
     Some((ViaClause::RowCol(array), cursor))
 }
 
 /// `ORIGIN ..`
+#[tactic(auto, unfolding(def_grammar::specs::Points::two_numbers))]
 fn origin_clause_at<'t>(cursor: Cursor<'t>) -> Option<(ViaClause<'t>, Cursor<'t>)>
     ensures gives { Gives (with_rest via_clause_view) result (read (of_array (right (left (codes "ORIGIN" ▸ two_numbers)))) (rest_of cursor.entry)) }
     ensures later { IfSome result (λ x. IsLater cursor.entry x.1) }
-    ensures lent { IfSome result (λ x. ViaClauseIn cursor.entry.tokens.text.now x.0) }
+    ensures left { IfSome result (λ x. pieces_of x.1.tokens ≡ behind (spell (of_array (right (left (codes "ORIGIN" ▸ two_numbers)))) (via_clause_view x.0)) (pieces_of cursor.entry.tokens)) }
+    ensures lent { IfSome result (λ x. ViaClauseAt (pieces_of cursor.entry.tokens) x.0) }
 {
     let (at, cursor) = two_numbers_at(cursor.key(b"ORIGIN")?)?;
     Some((ViaClause::Origin(at), cursor))
@@ -289,7 +306,8 @@ fn origin_clause_at<'t>(cursor: Cursor<'t>) -> Option<(ViaClause<'t>, Cursor<'t>
 fn offset_clause_at<'t>(cursor: Cursor<'t>) -> Option<(ViaClause<'t>, Cursor<'t>)>
     ensures gives { Gives (with_rest via_clause_view) result (read (of_array (right (right (left (codes "OFFSET" ▸ by_layer))))) (rest_of cursor.entry)) }
     ensures later { IfSome result (λ x. IsLater cursor.entry x.1) }
-    ensures lent { IfSome result (λ x. ViaClauseIn cursor.entry.tokens.text.now x.0) }
+    ensures left { IfSome result (λ x. pieces_of x.1.tokens ≡ behind (spell (of_array (right (right (left (codes "OFFSET" ▸ by_layer))))) (via_clause_view x.0)) (pieces_of cursor.entry.tokens)) }
+    ensures lent { IfSome result (λ x. ViaClauseAt (pieces_of cursor.entry.tokens) x.0) }
 {
     let (by, cursor) = by_layer_at(cursor.key(b"OFFSET")?)?;
     Some((ViaClause::Offset(by), cursor))
@@ -299,7 +317,8 @@ fn offset_clause_at<'t>(cursor: Cursor<'t>) -> Option<(ViaClause<'t>, Cursor<'t>
 fn other_clause_at<'t>(cursor: Cursor<'t>) -> Option<(ViaClause<'t>, Cursor<'t>)>
     ensures gives { Gives (with_rest via_clause_view) result (read (of_array (right (right (right kept_clause)))) (rest_of cursor.entry)) }
     ensures later { IfSome result (λ x. IsLater cursor.entry x.1) }
-    ensures lent { IfSome result (λ x. ViaClauseIn cursor.entry.tokens.text.now x.0) }
+    ensures left { IfSome result (λ x. pieces_of x.1.tokens ≡ behind (spell (of_array (right (right (right kept_clause)))) (via_clause_view x.0)) (pieces_of cursor.entry.tokens)) }
+    ensures lent { IfSome result (λ x. ViaClauseAt (pieces_of cursor.entry.tokens) x.0) }
 {
     let (clause, cursor) = kept_clause_at(cursor)?;
     Some((ViaClause::Other(clause), cursor))
@@ -310,7 +329,8 @@ fn other_clause_at<'t>(cursor: Cursor<'t>) -> Option<(ViaClause<'t>, Cursor<'t>)
 fn array_clause_at<'t>(cursor: Cursor<'t>) -> Option<(ViaClause<'t>, Cursor<'t>)>
     ensures gives { Gives (with_rest via_clause_view) result (read (of_array via_array_clause) (rest_of cursor.entry)) }
     ensures later { IfSome result (λ x. IsLater cursor.entry x.1) }
-    ensures lent { IfSome result (λ x. ViaClauseIn cursor.entry.tokens.text.now x.0) }
+    ensures left { IfSome result (λ x. pieces_of x.1.tokens ≡ behind (spell (of_array via_array_clause) (via_clause_view x.0)) (pieces_of cursor.entry.tokens)) }
+    ensures lent { IfSome result (λ x. ViaClauseAt (pieces_of cursor.entry.tokens) x.0) }
 {
     if cursor.next_is(b"ROWCOL") {
         row_col_clause_at(cursor)
@@ -327,7 +347,8 @@ fn array_clause_at<'t>(cursor: Cursor<'t>) -> Option<(ViaClause<'t>, Cursor<'t>)
 fn cut_size_clause_at<'t>(cursor: Cursor<'t>) -> Option<(ViaClause<'t>, Cursor<'t>)>
     ensures gives { Gives (with_rest via_clause_view) result (read (of_generated (left (codes "CUTSIZE" ▸ two_sizes))) (rest_of cursor.entry)) }
     ensures later { IfSome result (λ x. IsLater cursor.entry x.1) }
-    ensures lent { IfSome result (λ x. ViaClauseIn cursor.entry.tokens.text.now x.0) }
+    ensures left { IfSome result (λ x. pieces_of x.1.tokens ≡ behind (spell (of_generated (left (codes "CUTSIZE" ▸ two_sizes))) (via_clause_view x.0)) (pieces_of cursor.entry.tokens)) }
+    ensures lent { IfSome result (λ x. ViaClauseAt (pieces_of cursor.entry.tokens) x.0) }
 {
     let (size, cursor) = two_sizes_at(cursor.key(b"CUTSIZE")?)?;
     Some((ViaClause::CutSize(size), cursor))
@@ -337,7 +358,8 @@ fn cut_size_clause_at<'t>(cursor: Cursor<'t>) -> Option<(ViaClause<'t>, Cursor<'
 fn layers_clause_at<'t>(cursor: Cursor<'t>) -> Option<(ViaClause<'t>, Cursor<'t>)>
     ensures gives { Gives (with_rest via_clause_view) result (read (of_generated (right (left (codes "LAYERS" ▸ via_layers)))) (rest_of cursor.entry)) }
     ensures later { IfSome result (λ x. IsLater cursor.entry x.1) }
-    ensures lent { IfSome result (λ x. ViaClauseIn cursor.entry.tokens.text.now x.0) }
+    ensures left { IfSome result (λ x. pieces_of x.1.tokens ≡ behind (spell (of_generated (right (left (codes "LAYERS" ▸ via_layers)))) (via_clause_view x.0)) (pieces_of cursor.entry.tokens)) }
+    ensures lent { IfSome result (λ x. ViaClauseAt (pieces_of cursor.entry.tokens) x.0) }
 {
     let (layers, cursor) = via_layers_at(cursor.key(b"LAYERS")?)?;
     Some((ViaClause::Layers(layers), cursor))
@@ -347,7 +369,8 @@ fn layers_clause_at<'t>(cursor: Cursor<'t>) -> Option<(ViaClause<'t>, Cursor<'t>
 fn cut_spacing_clause_at<'t>(cursor: Cursor<'t>) -> Option<(ViaClause<'t>, Cursor<'t>)>
     ensures gives { Gives (with_rest via_clause_view) result (read (of_generated (right (right (left (codes "CUTSPACING" ▸ two_sizes))))) (rest_of cursor.entry)) }
     ensures later { IfSome result (λ x. IsLater cursor.entry x.1) }
-    ensures lent { IfSome result (λ x. ViaClauseIn cursor.entry.tokens.text.now x.0) }
+    ensures left { IfSome result (λ x. pieces_of x.1.tokens ≡ behind (spell (of_generated (right (right (left (codes "CUTSPACING" ▸ two_sizes))))) (via_clause_view x.0)) (pieces_of cursor.entry.tokens)) }
+    ensures lent { IfSome result (λ x. ViaClauseAt (pieces_of cursor.entry.tokens) x.0) }
 {
     let (space, cursor) = two_sizes_at(cursor.key(b"CUTSPACING")?)?;
     Some((ViaClause::CutSpacing(space), cursor))
@@ -357,7 +380,8 @@ fn cut_spacing_clause_at<'t>(cursor: Cursor<'t>) -> Option<(ViaClause<'t>, Curso
 fn enclosure_clause_at<'t>(cursor: Cursor<'t>) -> Option<(ViaClause<'t>, Cursor<'t>)>
     ensures gives { Gives (with_rest via_clause_view) result (read (of_generated (right (right (right (left (codes "ENCLOSURE" ▸ by_layer)))))) (rest_of cursor.entry)) }
     ensures later { IfSome result (λ x. IsLater cursor.entry x.1) }
-    ensures lent { IfSome result (λ x. ViaClauseIn cursor.entry.tokens.text.now x.0) }
+    ensures left { IfSome result (λ x. pieces_of x.1.tokens ≡ behind (spell (of_generated (right (right (right (left (codes "ENCLOSURE" ▸ by_layer)))))) (via_clause_view x.0)) (pieces_of cursor.entry.tokens)) }
+    ensures lent { IfSome result (λ x. ViaClauseAt (pieces_of cursor.entry.tokens) x.0) }
 {
     let (by, cursor) = by_layer_at(cursor.key(b"ENCLOSURE")?)?;
     Some((ViaClause::Enclosure(by), cursor))
@@ -368,7 +392,8 @@ fn enclosure_clause_at<'t>(cursor: Cursor<'t>) -> Option<(ViaClause<'t>, Cursor<
 fn generated_clause_at<'t>(cursor: Cursor<'t>) -> Option<(ViaClause<'t>, Cursor<'t>)>
     ensures gives { Gives (with_rest via_clause_view) result (read (of_generated generated_clause) (rest_of cursor.entry)) }
     ensures later { IfSome result (λ x. IsLater cursor.entry x.1) }
-    ensures lent { IfSome result (λ x. ViaClauseIn cursor.entry.tokens.text.now x.0) }
+    ensures left { IfSome result (λ x. pieces_of x.1.tokens ≡ behind (spell (of_generated generated_clause) (via_clause_view x.0)) (pieces_of cursor.entry.tokens)) }
+    ensures lent { IfSome result (λ x. ViaClauseAt (pieces_of cursor.entry.tokens) x.0) }
 {
     if cursor.next_is(b"CUTSIZE") {
         cut_size_clause_at(cursor)
@@ -387,7 +412,8 @@ fn generated_clause_at<'t>(cursor: Cursor<'t>) -> Option<(ViaClause<'t>, Cursor<
 fn rectangle_clause_at<'t>(cursor: Cursor<'t>) -> Option<(ViaClause<'t>, Cursor<'t>)>
     ensures gives { Gives (with_rest via_clause_view) result (read (left (codes "RECT" ▸ via_rectangle)) (rest_of cursor.entry)) }
     ensures later { IfSome result (λ x. IsLater cursor.entry x.1) }
-    ensures lent { IfSome result (λ x. ViaClauseIn cursor.entry.tokens.text.now x.0) }
+    ensures left { IfSome result (λ x. pieces_of x.1.tokens ≡ behind (spell (left (codes "RECT" ▸ via_rectangle)) (via_clause_view x.0)) (pieces_of cursor.entry.tokens)) }
+    ensures lent { IfSome result (λ x. ViaClauseAt (pieces_of cursor.entry.tokens) x.0) }
 {
     let (rectangle, cursor) = via_rectangle_at(cursor.key(b"RECT")?)?;
     Some((ViaClause::Rectangle(rectangle), cursor))
@@ -397,7 +423,8 @@ fn rectangle_clause_at<'t>(cursor: Cursor<'t>) -> Option<(ViaClause<'t>, Cursor<
 fn polygon_clause_at<'t>(cursor: Cursor<'t>) -> Option<(ViaClause<'t>, Cursor<'t>)>
     ensures gives { Gives (with_rest via_clause_view) result (read (right (left (codes "POLYGON" ▸ via_polygon))) (rest_of cursor.entry)) }
     ensures later { IfSome result (λ x. IsLater cursor.entry x.1) }
-    ensures lent { IfSome result (λ x. ViaClauseIn cursor.entry.tokens.text.now x.0) }
+    ensures left { IfSome result (λ x. pieces_of x.1.tokens ≡ behind (spell (right (left (codes "POLYGON" ▸ via_polygon))) (via_clause_view x.0)) (pieces_of cursor.entry.tokens)) }
+    ensures lent { IfSome result (λ x. ViaClauseAt (pieces_of cursor.entry.tokens) x.0) }
 {
     let (polygon, cursor) = via_polygon_at(cursor.key(b"POLYGON")?)?;
     Some((ViaClause::Polygon(polygon), cursor))
@@ -407,7 +434,8 @@ fn polygon_clause_at<'t>(cursor: Cursor<'t>) -> Option<(ViaClause<'t>, Cursor<'t
 fn rule_clause_at<'t>(cursor: Cursor<'t>) -> Option<(ViaClause<'t>, Cursor<'t>)>
     ensures gives { Gives (with_rest via_clause_view) result (read (right (right (left (codes "VIARULE" ▸ name)))) (rest_of cursor.entry)) }
     ensures later { IfSome result (λ x. IsLater cursor.entry x.1) }
-    ensures lent { IfSome result (λ x. ViaClauseIn cursor.entry.tokens.text.now x.0) }
+    ensures left { IfSome result (λ x. pieces_of x.1.tokens ≡ behind (spell (right (right (left (codes "VIARULE" ▸ name)))) (via_clause_view x.0)) (pieces_of cursor.entry.tokens)) }
+    ensures lent { IfSome result (λ x. ViaClauseAt (pieces_of cursor.entry.tokens) x.0) }
 {
     let (rule, cursor) = cursor.name_behind(b"VIARULE")?;
     Some((ViaClause::Rule(rule), cursor))
@@ -417,7 +445,8 @@ fn rule_clause_at<'t>(cursor: Cursor<'t>) -> Option<(ViaClause<'t>, Cursor<'t>)>
 fn clause_by_word_at<'t>(cursor: Cursor<'t>) -> Option<(ViaClause<'t>, Cursor<'t>)>
     ensures gives { Gives (with_rest via_clause_view) result (read via_by_word (rest_of cursor.entry)) }
     ensures later { IfSome result (λ x. IsLater cursor.entry x.1) }
-    ensures lent { IfSome result (λ x. ViaClauseIn cursor.entry.tokens.text.now x.0) }
+    ensures left { IfSome result (λ x. pieces_of x.1.tokens ≡ behind (spell via_by_word (via_clause_view x.0)) (pieces_of cursor.entry.tokens)) }
+    ensures lent { IfSome result (λ x. ViaClauseAt (pieces_of cursor.entry.tokens) x.0) }
 {
     if cursor.next_is(b"RECT") {
         rectangle_clause_at(cursor)
@@ -435,7 +464,8 @@ fn clause_by_word_at<'t>(cursor: Cursor<'t>) -> Option<(ViaClause<'t>, Cursor<'t
 fn via_clause_at<'t>(cursor: Cursor<'t>) -> Option<(ViaClause<'t>, Cursor<'t>)>
     ensures gives { Gives (with_rest via_clause_view) result (read via_clause (rest_of cursor.entry)) }
     ensures later { IfSome result (λ x. IsLater cursor.entry x.1) }
-    ensures lent { IfSome result (λ x. ViaClauseIn cursor.entry.tokens.text.now x.0) }
+    ensures left { IfSome result (λ x. pieces_of x.1.tokens ≡ behind (spell via_clause (via_clause_view x.0)) (pieces_of cursor.entry.tokens)) }
+    ensures lent { IfSome result (λ x. ViaClauseAt (past 1 (pieces_of cursor.entry.tokens)) x.0) }
 {
     let (clause, cursor) = clause_by_word_at(cursor.key(b"+")?)?;
     if cursor.next_is_stop() {
@@ -452,7 +482,7 @@ impl<'t> Part<'t> for ViaClause<'t> {
 
     ghost view = { via_clause_view };
 
-    ghost lent = { ViaClauseIn };
+    ghost lent = { λ ps clause. ViaClauseAt (past 1 ps) clause };
 
     ghost test = { is_plus };
 
@@ -471,19 +501,21 @@ impl<'t> Part<'t> for ViaClause<'t> {
     fn read(cursor: Cursor<'t>) -> Option<(ViaClause<'t>, Cursor<'t>)>
         ensures gives { Gives (with_rest via_clause_view) result (read via_clause (rest_of cursor.entry)) }
         ensures later { IfSome result (λ x. IsLater cursor.entry x.1) }
-        ensures lent { IfSome result (λ x. ViaClauseIn cursor.entry.tokens.text.now x.0) }
+        ensures left { IfSome result (λ x. pieces_of x.1.tokens ≡ behind (spell via_clause (via_clause_view x.0)) (pieces_of cursor.entry.tokens)) }
+        ensures lent { IfSome result (λ x. ViaClauseAt (past 1 (pieces_of cursor.entry.tokens)) x.0) }
     {
         via_clause_at(cursor)
     }
 }
 
 /// `- name (+ clause)* ;`
-#[tactic(auto, unfolding(def_grammar::specs::DefVias::def_via_form))]
+#[tactic(auto, unfolding(def_grammar::specs::DefVias::def_via_form), using(lefdef_tokens::proofs::PlaceLemmas::behind_append))]
 #[inline(never)]
 pub fn via_at<'t>(cursor: Cursor<'t>) -> Option<(ViaParts<'t>, Cursor<'t>)>
     ensures gives { Gives (with_rest via_view) result (read def_via_form (rest_of cursor.entry)) }
     ensures later { IfSome result (λ x. IsLater cursor.entry x.1) }
-    ensures lent { IfSome result (λ x. ViaIn cursor.entry.tokens.text.now x.0) }
+    ensures left { IfSome result (λ x. pieces_of x.1.tokens ≡ behind (spell def_via_form (via_view x.0)) (pieces_of cursor.entry.tokens)) }
+    ensures lent { IfSome result (λ x. ViaAt (pieces_of cursor.entry.tokens) x.0) }
 {
     let (name, cursor) = cursor.name_behind(b"-")?;
     let (clauses, cursor) = read_parts::<ViaClause<'t>>(cursor)?;

@@ -1,1 +1,2 @@
 mod ArrayTokens
+mod StandLemmas

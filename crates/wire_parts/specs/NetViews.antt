@@ -1,17 +1,20 @@
--- Entries of NETS of the program as those of the definitions, and what they lend from a text.
-use Rattle.std.specs.Prelude.{ℕ, List, codes}
+-- Entries of NETS of the program as those of the definitions, and which tokens they are.
+use Rattle.std.specs.Prelude.{List, codes}
 use Rattle.form_meanings.specs.Words.{is_plain, is_plus}
-use Rattle.form_meanings.specs.Meaning.{items}
-use Rattle.statement_model.specs.Form.{Form, on, read, word}
+use Rattle.form_meanings.specs.Meaning.{items, spell_all}
+use Rattle.statement_model.specs.Form.{Form, on, read, spell, word}
+use Rattle.statement_model.specs.Tokens.{Token}
 use Rattle.def_grammar.specs.Parts.{name}
 use Rattle.def_grammar.specs.Nets.{ListedClause, NetClause, net_subnet, net_use, net_rule, net_wiring, net_kept, net_clause, Net, NetEntry, must_join, is_net}
+use Rattle.def_grammar.specs.Terminals.{terminal}
 use Rattle.def_grammar.specs.Wiring.{wiring}
-use Rattle.lefdef_tokens.specs.Views.{IsIn, rest_of, words_of}
+use Rattle.lefdef_tokens.specs.Places.{RunAt, StandsAt, behind, past}
+use Rattle.lefdef_tokens.specs.Views.{rest_of, words_of}
 use Rattle.statement_reader.specs.declared.parts.Parts.{Parts}
-use Rattle.def_parts.specs.ClauseViews.{KeptIn, RunIn, kept_view}
-use Rattle.def_parts.specs.PointViews.{PartsIn}
+use Rattle.def_parts.specs.ClauseViews.{KeptAt, kept_view}
+use Rattle.statement_reader.specs.PartViews.{PartsAt}
 use Rattle.wire_parts.specs.TerminalViews.{terminals_of}
-use Rattle.wire_parts.specs.WiringViews.{WiringIn, wiring_view}
+use Rattle.wire_parts.specs.WiringViews.{WiringAt, wiring_view}
 use Rattle.wire_parts.specs.declared.nets.NetClause as code_clause
 use Rattle.wire_parts.specs.declared.nets.NetClause.TheVariants as clauses
 use Rattle.wire_parts.specs.declared.nets.NetParts as code_net
@@ -40,16 +43,19 @@ abbrev pub net_entry_view : code_entry.NetEntry → NetEntry
 net_entry_view (entries.MustJoin tokens) = must_join (words_of tokens)
 net_entry_view (entries.Net net) = is_net (net_view net)
 
-abbrev pub NetClauseIn : List ℕ → code_clause.NetClause → Type 0
-NetClauseIn text (clauses.Subnet tokens) = RunIn text tokens
-NetClauseIn text (clauses.Use word) = IsIn text word
-NetClauseIn text (clauses.Rule name) = IsIn text name
-NetClauseIn text (clauses.Wiring wiring) = WiringIn text wiring
-NetClauseIn text (clauses.Other clause) = KeptIn text clause
+-- from the clause's word on
+abbrev pub NetClauseAt : List Token → code_clause.NetClause → Type 0
+NetClauseAt ps (clauses.Subnet tokens) = RunAt (past 1 ps) tokens
+NetClauseAt ps (clauses.Use word) = StandsAt (past 1 ps) word
+NetClauseAt ps (clauses.Rule name) = StandsAt (past 1 ps) name
+NetClauseAt ps (clauses.Wiring wiring) = WiringAt ps wiring
+NetClauseAt ps (clauses.Other clause) = KeptAt ps clause
 
-abbrev pub NetIn : List ℕ → code_net.NetParts → Type 0
-NetIn text n = IsIn text n.name × PartsIn text n.terminals × PartsIn text n.clauses
+-- of these tokens, the first is the name, behind it come the terminals, and behind these the clauses
+abbrev pub NetAt : List Token → code_net.NetParts → Type 0
+NetAt ps n = StandsAt ps n.name × PartsAt (past 1 ps) n.terminals × PartsAt (behind (spell_all (spell terminal) (terminals_of n.terminals)) (past 1 ps)) n.clauses
 
-abbrev pub NetEntryIn : List ℕ → code_entry.NetEntry → Type 0
-NetEntryIn text (entries.MustJoin tokens) = RunIn text tokens
-NetEntryIn text (entries.Net net) = NetIn text net
+-- behind the -
+abbrev pub NetEntryAt : List Token → code_entry.NetEntry → Type 0
+NetEntryAt ps (entries.MustJoin tokens) = RunAt (past 1 ps) tokens
+NetEntryAt ps (entries.Net net) = NetAt ps net

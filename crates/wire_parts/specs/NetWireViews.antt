@@ -3,7 +3,8 @@ use Rattle.std.specs.Prelude.{◌≡◌, ℕ, List, [], ◌∷◌, ◌++◌, fla
 use Rattle.def_grammar.specs.NetWires.{wires_of}
 use Rattle.def_grammar.specs.Wiring.{Wire}
 use Rattle.statement_reader.specs.declared.parts.Parts.{Parts}
-use Rattle.def_parts.specs.PointViews.{PartsIn}
+use Rattle.statement_reader.specs.PartViews.{PartsAt}
+use Rattle.wire_parts.specs.WiresLeft.{StandsIn}
 use Rattle.wire_parts.specs.NetViews.{net_clauses_of}
 use Rattle.wire_parts.specs.WiringViews.{wire_view, wires_of as later_wires}
 use Rattle.wire_parts.specs.declared.net_wires.NetPaths.{NetPaths}
@@ -34,7 +35,7 @@ IsNextWiring before found later =
     MatchOption found ((of_clauses before ≡ []) × (of_clauses later ≡ [])) (λ w. of_clauses before ≡ wire_view w.first ∷ (later_wires w.others ++ of_clauses later))
 
 abbrev pub ClauseLeftIn : List ℕ → Option (Parts code_wire.Wire) → Type 0
-ClauseLeftIn text wires = IfSome wires (λ w. PartsIn text w)
+ClauseLeftIn text wires = IfSome wires (λ w. StandsIn PartsAt text w)
 
 abbrev pub PathsIn : List ℕ → NetPaths → Type 0
-PathsIn text p = ClauseLeftIn text p.wires × PartsIn text p.clauses
+PathsIn text p = ClauseLeftIn text p.wires × (p.clauses.cursor.tokens.text.now ≡ text)

@@ -1,18 +1,23 @@
--- Points, vias and paths of the program as those of the definitions, and what they lend from a text.
+-- Points, vias and paths of the program as those of the definitions, and which tokens they are.
 use Rattle.std.specs.Prelude.{ℕ, List, Option, codes, IfSome}
 use Rattle.std.specs.Option.{option_map}
 use Rattle.form_meanings.specs.Words.{Rest}
 use Rattle.form_meanings.specs.Meaning.{items}
-use Rattle.statement_model.specs.Form.{Form, number, read, ◌▸◌, ◌⨟◌}
+use Rattle.statement_model.specs.Form.{Form, number, read, spell, ◌▸◌, ◌⨟◌}
+use Rattle.def_grammar.specs.Clauses.{mask}
 use Rattle.def_grammar.specs.Limits.{is_copies}
-use Rattle.def_grammar.specs.Wiring.{WirePoint, WireVia, wire_via, ViaArray, SpecialVia, special_via, PathItem, path_mask, path_virtual, path_rectangle, path_point, path_via, goes_on, path_item, Path}
-use Rattle.lefdef_tokens.specs.Views.{IsIn, rest_of}
+use Rattle.def_grammar.specs.Wiring.{WirePoint, WireVia, wire_via, ViaArray, SpecialVia, special_via, PathItem, path_mask, path_virtual, path_rectangle, path_point, path_via, goes_on, path_item, Path, wire_start}
+use Rattle.statement_model.specs.Tokens as tokens
+use Rattle.lefdef_tokens.specs.Places.{StandsAt, behind, past}
+use Rattle.lefdef_tokens.specs.Views.{rest_of}
 use Rattle.lefdef_tokens.specs.Unseens.{unseen_rest}
 use Rattle.lefdef_tokens.specs.declared.token.Token.{Token}
 use Rattle.lefdef_tokens.specs.declared.unseen.Unseen.{Unseen}
 use Rattle.statement_reader.specs.declared.parts.Parts.{Parts}
-use Rattle.def_parts.specs.ClauseViews.{MaskIn, mask_view}
-use Rattle.def_parts.specs.PointViews.{CornersIn, PartsIn, PointIn, corners_view, point_view}
+use Rattle.def_parts.specs.ClauseViews.{MaskAt, OptionAt, mask_view}
+use Rattle.def_parts.specs.PointViews.{NumbersAt, PointAt, corners_view, point_view}
+use Rattle.def_parts.specs.declared.points.Corners as code_corners
+use Rattle.statement_reader.specs.PartViews.{PartsAt}
 use Rattle.wire_parts.specs.declared.paths.WirePoint as code_point
 use Rattle.wire_parts.specs.declared.paths.WireVia as code_via
 use Rattle.wire_parts.specs.declared.paths.ViaArray as code_array
@@ -64,24 +69,37 @@ net_path_view p = path_view wire_via p
 abbrev pub special_path_view : code_path.Path code_special.SpecialVia → Path SpecialVia
 special_path_view p = path_view special_via p
 
-abbrev pub WirePointIn : List ℕ → code_point.WirePoint → Type 0
-WirePointIn text p = PointIn text p.at × MaskIn text p.extension
+-- of these tokens, the second is x, the third is y, and the fourth how far the wire goes past them, if it is said
+abbrev pub WirePointAt : List tokens.Token → code_point.WirePoint → Type 0
+WirePointAt ps p = PointAt ps p.at × OptionAt (past 3 ps) p.extension
 
-abbrev pub WireViaIn : List ℕ → code_via.WireVia → Type 0
-WireViaIn text v = IsIn text v.name
+abbrev pub WireViaAt : List tokens.Token → code_via.WireVia → Type 0
+WireViaAt ps v = StandsAt ps v.name
 
-abbrev pub ViaArrayIn : List ℕ → code_array.ViaArray → Type 0
-ViaArrayIn text a = IsIn text a.columns × IsIn text a.rows × PointIn text a.step
+-- columns BY rows STEP x y
+abbrev pub ViaArrayAt : List tokens.Token → code_array.ViaArray → Type 0
+ViaArrayAt ps a = StandsAt ps a.columns × StandsAt (past 2 ps) a.rows × NumbersAt (past 4 ps) a.step
 
-abbrev pub SpecialViaIn : List ℕ → code_special.SpecialVia → Type 0
-SpecialViaIn text v = WireViaIn text v.via × IfSome v.array (λ a. ViaArrayIn text a)
+-- the array stands behind the via and DO
+abbrev pub SpecialViaAt : List tokens.Token → code_special.SpecialVia → Type 0
+SpecialViaAt ps v = WireViaAt ps v.via × IfSome v.array (λ a. ViaArrayAt (past 1 (behind (spell wire_via (wire_via_view v.via)) ps)) a)
 
-abbrev pub ItemIn : {V : Type 0} → (List ℕ → V → Type 0) → List ℕ → code_item.PathItem V → Type 0
-ItemIn lent text (path_items.Mask word) = IsIn text word
-ItemIn lent text (path_items.Virtual at) = PointIn text at
-ItemIn lent text (path_items.Rectangle corners) = CornersIn text corners
-ItemIn lent text (path_items.Point at) = WirePointIn text at
-ItemIn lent text (path_items.Via via) = lent text via
+-- ( x1 y1 x2 y2 )
+abbrev pub RectangleAt : List tokens.Token → code_corners.Corners → Type 0
+RectangleAt ps c = NumbersAt (past 1 ps) c.first × NumbersAt (past 3 ps) c.second
 
-abbrev pub PathIn : {V : Type 0} → List ℕ → code_path.Path V → Type 0
-PathIn text p = MaskIn text p.mask × WirePointIn text p.start × PartsIn text p.items
+-- behind its word, if it has one
+abbrev pub ItemAt : {V : Type 0} → (List tokens.Token → V → Type 0) → List tokens.Token → code_item.PathItem V → Type 0
+ItemAt lent ps (path_items.Mask word) = StandsAt (past 1 ps) word
+ItemAt lent ps (path_items.Virtual at) = PointAt (past 1 ps) at
+ItemAt lent ps (path_items.Rectangle corners) = RectangleAt (past 1 ps) corners
+ItemAt lent ps (path_items.Point at) = WirePointAt ps at
+ItemAt lent ps (path_items.Via via) = lent ps via
+
+-- what stands behind a mask that may be there
+abbrev pub behind_mask : Option Token → List tokens.Token → List tokens.Token
+behind_mask word ps = behind (spell mask (mask_view word)) ps
+
+-- a mask that may be there, the first point, and then what the path goes on with
+abbrev pub PathAt : {V : Type 0} → List tokens.Token → code_path.Path V → Type 0
+PathAt ps p = MaskAt ps p.mask × WirePointAt (behind_mask p.mask ps) p.start × PartsAt (behind (spell wire_start (wire_point_view p.start)) (behind_mask p.mask ps)) p.items

@@ -1,16 +1,21 @@
--- Entries of SPECIALNETS of the program as those of the definitions, and what they lend from a text.
-use Rattle.std.specs.Prelude.{ℕ, List, codes}
+-- Entries of SPECIALNETS of the program as those of the definitions, and which tokens they are.
+use Rattle.std.specs.Prelude.{List, codes}
 use Rattle.form_meanings.specs.Words.{is_plain, is_plus}
-use Rattle.form_meanings.specs.Meaning.{items}
-use Rattle.statement_model.specs.Form.{Form, left, on, read, right, word}
+use Rattle.form_meanings.specs.Meaning.{items, spell_all}
+use Rattle.statement_model.specs.Form.{Form, left, on, read, right, spell, word}
+use Rattle.statement_model.specs.Tokens.{Token}
 use Rattle.def_grammar.specs.SpecialNets.{PlacedVia, SpecialShape, SpecialListed, SpecialClause, special_subnet, special_use, special_shape_word, special_mask, special_rectangle, special_vias, special_polygon, special_has_wiring, special_kept, special_shape, special_clause, SpecialNet}
-use Rattle.lefdef_tokens.specs.Views.{IsIn, rest_of, words_of}
+use Rattle.def_grammar.specs.Terminals.{terminal}
+use Rattle.def_grammar.specs.Wiring.{wire_via}
+use Rattle.lefdef_tokens.specs.Places.{RunAt, StandsAt, behind, past}
+use Rattle.lefdef_tokens.specs.Views.{rest_of, words_of}
 use Rattle.statement_reader.specs.declared.parts.Parts.{Parts}
-use Rattle.def_parts.specs.ClauseViews.{KeptIn, RunIn, kept_view}
-use Rattle.def_parts.specs.PointViews.{CornersIn, PartsIn, PointIn, PolygonIn, corners_view, later_points, point_view, polygon_view}
-use Rattle.wire_parts.specs.PathViews.{WireViaIn, wire_via_view}
+use Rattle.def_parts.specs.ClauseViews.{KeptAt, kept_view}
+use Rattle.def_parts.specs.PointViews.{CornersAt, PointAt, PolygonAt, corners_view, later_points, point_view, polygon_view}
+use Rattle.statement_reader.specs.PartViews.{PartsAt}
+use Rattle.wire_parts.specs.PathViews.{WireViaAt, wire_via_view}
 use Rattle.wire_parts.specs.TerminalViews.{terminals_of}
-use Rattle.wire_parts.specs.WiringViews.{SpecialWiringIn, special_wiring_view}
+use Rattle.wire_parts.specs.WiringViews.{SpecialWiringAt, special_wiring_view}
 use Rattle.wire_parts.specs.declared.special_nets.PlacedVia as code_via
 use Rattle.wire_parts.specs.declared.special_nets.SpecialClause as code_clause
 use Rattle.wire_parts.specs.declared.special_nets.SpecialClause.TheVariants as clauses
@@ -49,19 +54,23 @@ special_clauses_of parts = items parts.most is_plus (read special_clause) (rest_
 abbrev pub special_net_view : code_net.SpecialNetParts → SpecialNet
 special_net_view n = record { name = n.name.bytes.now; terminals = terminals_of n.terminals; clauses = special_clauses_of n.clauses }
 
-abbrev pub PlacedViaIn : List ℕ → code_via.PlacedVia → Type 0
-PlacedViaIn text v = WireViaIn text v.via × PointIn text v.first × PartsIn text v.others
+abbrev pub PlacedViaAt : List Token → code_via.PlacedVia → Type 0
+PlacedViaAt ps v =
+    let points = behind (spell wire_via (wire_via_view v.via)) ps in
+    WireViaAt ps v.via × PointAt points v.first × PartsAt (past 4 points) v.others
 
-abbrev pub SpecialClauseIn : List ℕ → code_clause.SpecialClause → Type 0
-SpecialClauseIn text (clauses.Subnet tokens) = RunIn text tokens
-SpecialClauseIn text (clauses.Use word) = IsIn text word
-SpecialClauseIn text (clauses.Shape word) = IsIn text word
-SpecialClauseIn text (clauses.Mask word) = IsIn text word
-SpecialClauseIn text (clauses.Rectangle layer corners) = IsIn text layer × CornersIn text corners
-SpecialClauseIn text (clauses.Vias via) = PlacedViaIn text via
-SpecialClauseIn text (clauses.Polygon layer polygon) = IsIn text layer × PolygonIn text polygon
-SpecialClauseIn text (clauses.Wiring wiring) = SpecialWiringIn text wiring
-SpecialClauseIn text (clauses.Other clause) = KeptIn text clause
+-- from the clause's word on
+abbrev pub SpecialClauseAt : List Token → code_clause.SpecialClause → Type 0
+SpecialClauseAt ps (clauses.Subnet tokens) = RunAt (past 1 ps) tokens
+SpecialClauseAt ps (clauses.Use word) = StandsAt (past 1 ps) word
+SpecialClauseAt ps (clauses.Shape word) = StandsAt (past 1 ps) word
+SpecialClauseAt ps (clauses.Mask word) = StandsAt (past 1 ps) word
+SpecialClauseAt ps (clauses.Rectangle layer corners) = StandsAt (past 1 ps) layer × CornersAt (past 2 ps) corners
+SpecialClauseAt ps (clauses.Vias via) = PlacedViaAt (past 1 ps) via
+SpecialClauseAt ps (clauses.Polygon layer polygon) = StandsAt (past 1 ps) layer × PolygonAt (past 2 ps) polygon
+SpecialClauseAt ps (clauses.Wiring wiring) = SpecialWiringAt ps wiring
+SpecialClauseAt ps (clauses.Other clause) = KeptAt ps clause
 
-abbrev pub SpecialNetIn : List ℕ → code_net.SpecialNetParts → Type 0
-SpecialNetIn text n = IsIn text n.name × PartsIn text n.terminals × PartsIn text n.clauses
+-- of these tokens, the second is the name, behind it come the terminals, and behind these the clauses
+abbrev pub SpecialNetAt : List Token → code_net.SpecialNetParts → Type 0
+SpecialNetAt ps n = StandsAt (past 1 ps) n.name × PartsAt (past 2 ps) n.terminals × PartsAt (behind (spell_all (spell terminal) (terminals_of n.terminals)) (past 2 ps)) n.clauses

@@ -3,7 +3,8 @@ use Rattle.std.specs.Prelude.{◌≡◌, ℕ, List, [], ◌∷◌, ◌++◌, fla
 use Rattle.def_grammar.specs.SpecialWires.{special_wires_of}
 use Rattle.def_grammar.specs.Wiring.{SpecialWire}
 use Rattle.statement_reader.specs.declared.parts.Parts.{Parts}
-use Rattle.def_parts.specs.PointViews.{PartsIn}
+use Rattle.statement_reader.specs.PartViews.{PartsAt}
+use Rattle.wire_parts.specs.WiresLeft.{StandsIn}
 use Rattle.wire_parts.specs.SpecialNetViews.{special_clauses_of}
 use Rattle.wire_parts.specs.WiringViews.{special_wire_view, special_wires_of as later_special_wires}
 use Rattle.wire_parts.specs.declared.special_nets.SpecialClause.{SpecialClause}
@@ -30,7 +31,7 @@ IsNextWires before found later =
     (λ w. of_special_clauses before ≡ special_wire_view w.first ∷ (later_special_wires w.others ++ of_special_clauses later))
 
 abbrev pub SpecialClauseLeftIn : List ℕ → Option (Parts code_wire.SpecialWire) → Type 0
-SpecialClauseLeftIn text wires = IfSome wires (λ w. PartsIn text w)
+SpecialClauseLeftIn text wires = IfSome wires (λ w. StandsIn PartsAt text w)
 
 abbrev pub SpecialPathsIn : List ℕ → SpecialPaths → Type 0
-SpecialPathsIn text p = SpecialClauseLeftIn text p.wires × PartsIn text p.clauses
+SpecialPathsIn text p = SpecialClauseLeftIn text p.wires × (p.clauses.cursor.tokens.text.now ≡ text)

@@ -1,16 +1,19 @@
--- Wiring of the program as that of the definitions, and what it lends from a text.
-use Rattle.std.specs.Prelude.{ℕ, List, Option, IfSome}
+-- Wiring of the program as that of the definitions, and which tokens it is.
+use Rattle.std.specs.Prelude.{List, Option, codes, IfSome}
 use Rattle.std.specs.Option.{option_map}
 use Rattle.form_meanings.specs.Words.{is_plus}
-use Rattle.form_meanings.specs.Meaning.{items}
-use Rattle.statement_model.specs.Form.{read}
+use Rattle.form_meanings.specs.Meaning.{items, spell_all}
+use Rattle.statement_model.specs.Form.{empty, on, opt_on, read, spell}
+use Rattle.statement_model.specs.Tokens.{Token}
 use Rattle.def_grammar.specs.Clauses.{list_of}
-use Rattle.def_grammar.specs.Wiring.{WiringStatus, routed, fixed, cover, Taper, tapered, tapered_by, not_tapered, Wire, WireMark, wire_shape, wire_style, wire_mask, wire_mark, SpecialWire, is_new, new_wire, new_special_wire, WiringKind, noshield, wired, Wiring, SpecialWiringKind, shields, special_wired, SpecialWiring}
-use Rattle.lefdef_tokens.specs.Views.{IsIn, rest_of}
+use Rattle.def_grammar.specs.Parts.{int, name}
+use Rattle.def_grammar.specs.Wiring.{WiringStatus, routed, fixed, cover, Taper, tapered, tapered_by, not_tapered, Wire, WireMark, wire_shape, wire_style, wire_mask, wire_mark, SpecialWire, is_new, new_wire, new_special_wire, WiringKind, noshield, wired, Wiring, SpecialWiringKind, shields, special_wired, SpecialWiring, taper, wire, special_wire, wiring_status}
+use Rattle.lefdef_tokens.specs.Places.{StandsAt, behind, past}
+use Rattle.lefdef_tokens.specs.Views.{rest_of}
 use Rattle.statement_reader.specs.declared.parts.Parts.{Parts}
-use Rattle.def_parts.specs.ClauseViews.{MaskIn, mask_view}
-use Rattle.def_parts.specs.PointViews.{PartsIn}
-use Rattle.wire_parts.specs.PathViews.{PathIn, net_path_view, special_path_view}
+use Rattle.def_parts.specs.ClauseViews.{MaskAt, mask_view}
+use Rattle.statement_reader.specs.PartViews.{PartsAt}
+use Rattle.wire_parts.specs.PathViews.{PathAt, net_path_view, special_path_view}
 use Rattle.wire_parts.specs.declared.wiring.WiringStatus as code_status
 use Rattle.wire_parts.specs.declared.wiring.WiringStatus.TheVariants as statuses
 use Rattle.wire_parts.specs.declared.wiring.Taper as code_taper
@@ -79,31 +82,49 @@ wires_view wires = list_of (option_map first_and_others wires)
 abbrev pub special_wiring_view : code_special_wiring.SpecialWiring → SpecialWiring
 special_wiring_view w = record { kind = special_kind_view w.kind; wires = wires_view w.wires }
 
-abbrev pub TaperIn : List ℕ → code_taper.Taper → Type 0
-TaperIn text tapers.Layer = Unit {0}
-TaperIn text (tapers.Rule rule) = IsIn text rule
-TaperIn text tapers.Net = Unit {0}
+abbrev pub TaperAt : List Token → code_taper.Taper → Type 0
+TaperAt ps tapers.Layer = Unit {0}
+TaperAt ps (tapers.Rule rule) = StandsAt (past 1 ps) rule
+TaperAt ps tapers.Net = Unit {0}
 
-abbrev pub WireIn : List ℕ → code_wire.Wire → Type 0
-WireIn text w = IsIn text w.layer × TaperIn text w.taper × MaskIn text w.style × PathIn text w.path
+-- what stands behind the layer of a wire and its taper, and behind its style
+abbrev pub behind_taper : code_wire.Wire → List Token → List Token
+behind_taper w ps = behind (spell taper (taper_view w.taper)) (past 1 ps)
 
-abbrev pub MarkIn : List ℕ → code_mark.WireMark → Type 0
-MarkIn text (marks.Shape word) = IsIn text word
-MarkIn text (marks.Style number) = IsIn text number
-MarkIn text (marks.Mask word) = IsIn text word
+abbrev pub behind_style : code_wire.Wire → List Token → List Token
+behind_style w ps = behind (spell (opt_on (codes "STYLE") int) (mask_view w.style)) (behind_taper w ps)
 
-abbrev pub SpecialWireIn : List ℕ → code_special.SpecialWire → Type 0
-SpecialWireIn text w = IsIn text w.layer × IsIn text w.width × PartsIn text w.marks × PathIn text w.path
+-- of these tokens, the first is the layer
+abbrev pub WireAt : List Token → code_wire.Wire → Type 0
+WireAt ps w = StandsAt ps w.layer × TaperAt (past 1 ps) w.taper × MaskAt (behind_taper w ps) w.style × PathAt (behind_style w ps) w.path
 
-abbrev pub WiringIn : List ℕ → code_wiring.Wiring → Type 0
-WiringIn text w = WireIn text w.first × PartsIn text w.others
+-- the word or the number behind the mark's word
+abbrev pub MarkAt : List Token → code_mark.WireMark → Type 0
+MarkAt ps (marks.Shape word) = StandsAt (past 1 ps) word
+MarkAt ps (marks.Style number) = StandsAt (past 1 ps) number
+MarkAt ps (marks.Mask word) = StandsAt (past 1 ps) word
 
-abbrev pub SpecialKindIn : List ℕ → code_special_kind.SpecialWiringKind → Type 0
-SpecialKindIn text (special_kinds.Shield net) = IsIn text net
-SpecialKindIn text (special_kinds.Wired status) = Unit {0}
+-- of these tokens, the first is the layer, the second the width, and then come marks and the path
+abbrev pub SpecialWireAt : List Token → code_special.SpecialWire → Type 0
+SpecialWireAt ps w = StandsAt ps w.layer × StandsAt (past 1 ps) w.width × PartsAt (past 2 ps) w.marks × PathAt (behind (spell_all (spell wire_mark) (marks_of w.marks)) (past 2 ps)) w.path
 
-abbrev pub SpecialWiresIn : List ℕ → code_wires.SpecialWires → Type 0
-SpecialWiresIn text w = SpecialWireIn text w.first × PartsIn text w.others
+-- behind the clause's word
+abbrev pub behind_word : code_kind.WiringKind → List Token → List Token
+behind_word kind ps = behind (spell (on (codes "NOSHIELD") empty wiring_status) (kind_view kind)) ps
 
-abbrev pub SpecialWiringIn : List ℕ → code_special_wiring.SpecialWiring → Type 0
-SpecialWiringIn text w = SpecialKindIn text w.kind × IfSome w.wires (λ x. SpecialWiresIn text x)
+abbrev pub WiringAt : List Token → code_wiring.Wiring → Type 0
+WiringAt ps w = WireAt (behind_word w.kind ps) w.first × PartsAt (behind (spell wire (wire_view w.first)) (behind_word w.kind ps)) w.others
+
+abbrev pub SpecialKindAt : List Token → code_special_kind.SpecialWiringKind → Type 0
+SpecialKindAt ps (special_kinds.Shield net) = StandsAt (past 1 ps) net
+SpecialKindAt ps (special_kinds.Wired status) = Unit {0}
+
+abbrev pub SpecialWiresAt : List Token → code_wires.SpecialWires → Type 0
+SpecialWiresAt ps w = SpecialWireAt ps w.first × PartsAt (behind (spell special_wire (special_wire_view w.first)) ps) w.others
+
+-- behind the clause's word, and the net that it shields
+abbrev pub behind_kind : code_special_kind.SpecialWiringKind → List Token → List Token
+behind_kind kind ps = behind (spell (on (codes "SHIELD") name wiring_status) (special_kind_view kind)) ps
+
+abbrev pub SpecialWiringAt : List Token → code_special_wiring.SpecialWiring → Type 0
+SpecialWiringAt ps w = SpecialKindAt ps w.kind × IfSome w.wires (λ x. SpecialWiresAt (behind_kind w.kind ps) x)

@@ -2,11 +2,12 @@
 
 ghost use Rattle.std.specs.Prelude.{◌≡◌, ℕ, List, IfSome};
 ghost use Rattle.def_grammar.specs.NetWires.{net_wires, wires_of};
+ghost use Rattle.statement_model.specs.Tokens.{Token};
 ghost use Rattle.lefdef_tokens.specs.Views.{IsLater};
-ghost use Rattle.wire_parts.specs.NetViews.{NetClauseIn, NetIn, net_clause_view, net_view};
+ghost use Rattle.wire_parts.specs.NetViews.{NetClauseAt, net_clause_view, net_view};
 ghost use Rattle.wire_parts.specs.NetWireViews.{ClauseLeftIn, IsNextWiring, PathsIn, of_clause, of_wiring, paths_left};
-ghost use Rattle.wire_parts.specs.WiresLeft.{GivesFirst};
-ghost use Rattle.wire_parts.specs.WiringViews.{WireIn, WiringIn, wire_view};
+ghost use Rattle.wire_parts.specs.WiresLeft.{GivesFirst, StandsIn};
+ghost use Rattle.wire_parts.specs.WiringViews.{WireAt, WiringAt, wire_view};
 
 use crate::nets::{NetClause, NetParts};
 use crate::wiring::{Wire, Wiring};
@@ -24,7 +25,7 @@ impl<'t> NetParts<'t> {
     /// The wires of all its wiring clauses, in the order of the text.
     pub fn paths(&self) -> NetPaths<'t>
         ensures gives { paths_left result ≡ net_wires (net_view self.now) }
-        ensures lent { (text : List ℕ) → NetIn text self.now → PathsIn text result }
+        ensures text { PathsIn self.now.clauses.cursor.tokens.text.now result }
     {
         NetPaths {
             wires: None,
@@ -36,7 +37,7 @@ impl<'t> NetParts<'t> {
 /// The wiring of a clause, if it is one.
 fn wiring_of<'t>(clause: NetClause<'t>) -> Option<Wiring<'t>>
     ensures gives { of_wiring result ≡ wires_of (net_clause_view clause.entry) }
-    ensures lent { (text : List ℕ) → NetClauseIn text clause.entry → IfSome result (λ w. WiringIn text w) }
+    ensures lent { (ps : List Token) → NetClauseAt ps clause.entry → IfSome result (λ w. WiringAt ps w) }
 {
     match clause {
         NetClause::Wiring(wiring) => Some(wiring),
@@ -48,7 +49,7 @@ fn wiring_of<'t>(clause: NetClause<'t>) -> Option<Wiring<'t>>
 fn next_wiring<'t>(clauses: &mut Parts<'t, NetClause<'t>>) -> Option<Wiring<'t>>
     ensures step { IsNextWiring clauses.old result clauses.new }
     ensures later { IsLater clauses.old.cursor clauses.new.cursor }
-    ensures lent { IfSome result (λ w. WiringIn clauses.old.cursor.tokens.text.now w) }
+    ensures lent { IfSome result (λ w. StandsIn WiringAt clauses.old.cursor.tokens.text.now w) }
 {
     while let Some(clause) = clauses.next() {
         if let Some(wiring) = wiring_of(clause) {
@@ -62,7 +63,7 @@ fn next_wiring<'t>(clauses: &mut Parts<'t, NetClause<'t>>) -> Option<Wiring<'t>>
 fn next_of_clause<'t>(wires: &mut Option<Parts<'t, Wire<'t>>>) -> Option<Wire<'t>>
     ensures step { GivesFirst wire_view (of_clause wires.old) result (of_clause wires.new) }
     ensures text { (text : List ℕ) → ClauseLeftIn text wires.old → ClauseLeftIn text wires.new }
-    ensures lent { (text : List ℕ) → ClauseLeftIn text wires.old → IfSome result (λ w. WireIn text w) }
+    ensures lent { (text : List ℕ) → ClauseLeftIn text wires.old → IfSome result (λ w. StandsIn WireAt text w) }
 {
     match wires {
         Some(left) => left.next(),
@@ -75,7 +76,7 @@ impl<'t> NetPaths<'t> {
     pub fn next(&mut self) -> Option<Wire<'t>>
         ensures step { GivesFirst wire_view (paths_left self.old) result (paths_left self.new) }
         ensures text { (text : List ℕ) → PathsIn text self.old → PathsIn text self.new }
-        ensures lent { (text : List ℕ) → PathsIn text self.old → IfSome result (λ w. WireIn text w) }
+        ensures lent { (text : List ℕ) → PathsIn text self.old → IfSome result (λ w. StandsIn WireAt text w) }
     {
         if let Some(wire) = next_of_clause(&mut self.wires) {
             return Some(wire);

@@ -1,14 +1,15 @@
 //! Entries of NETS (LEF/DEF 5.8 Language Reference, "Nets").
 
-ghost use Rattle.std.specs.Prelude.{◌≡◌, ℕ, List, codes, IfSome};
+ghost use Rattle.std.specs.Prelude.{◌≡◌, List, codes, IfSome};
 ghost use Rattle.form_meanings.specs.Words.{Gives, is_plus, is_semicolon};
 ghost use Rattle.statement_model.specs.Form.{left, on, or_else, read, right, spell, upto};
 ghost use Rattle.def_grammar.specs.Clauses.{kept_clause};
 ghost use Rattle.def_grammar.specs.Nets.{net, net_clause, net_form, net_listed, net_name};
-ghost use Rattle.lefdef_tokens.specs.Views.{IsLater, rest_of};
-ghost use Rattle.def_parts.specs.ClauseViews.{MaskIn, mask_view};
+ghost use Rattle.lefdef_tokens.specs.Places.{behind, past};
+ghost use Rattle.lefdef_tokens.specs.Views.{IsLater, pieces_of, rest_of};
+ghost use Rattle.def_parts.specs.ClauseViews.{OptionAt, mask_view};
 ghost use Rattle.def_parts.specs.PointViews.{with_rest};
-ghost use Rattle.wire_parts.specs.NetViews.{NetClauseIn, NetEntryIn, NetIn, net_by_word, net_clause_view, net_entry_view, net_view};
+ghost use Rattle.wire_parts.specs.NetViews.{NetAt, NetClauseAt, NetEntryAt, net_by_word, net_clause_view, net_entry_view, net_view};
 
 use crate::terminals::Terminal;
 use crate::wiring::{Wiring, wiring_at};
@@ -46,10 +47,12 @@ pub enum NetEntry<'t> {
 }
 
 impl<'t> NetEntry<'t> {
+    ghost use Rattle.statement_model.specs.Tokens as definitions;
+
     /// The name of its net. MUSTJOIN has none.
     pub fn name(&self) -> Option<Token<'t>>
         ensures gives { mask_view result ≡ net_name (net_entry_view self.now) }
-        ensures lent { (text : List ℕ) → NetEntryIn text self.now → MaskIn text result }
+        ensures lent { (ps : List definitions.Token) → NetEntryAt ps self.now → OptionAt ps result }
     {
         match self {
             NetEntry::MustJoin(_) => None,
@@ -62,7 +65,8 @@ impl<'t> NetEntry<'t> {
 fn clause_by_word_at<'t>(cursor: Cursor<'t>) -> Option<(NetClause<'t>, Cursor<'t>)>
     ensures gives { Gives (with_rest net_clause_view) result (read (right (left net_by_word)) (rest_of cursor.entry)) }
     ensures later { IfSome result (λ x. IsLater cursor.entry x.1) }
-    ensures lent { IfSome result (λ x. NetClauseIn cursor.entry.tokens.text.now x.0) }
+    ensures left { IfSome result (λ x. pieces_of x.1.tokens ≡ behind (spell (right (left net_by_word)) (net_clause_view x.0)) (pieces_of cursor.entry.tokens)) }
+    ensures lent { IfSome result (λ x. NetClauseAt (pieces_of cursor.entry.tokens) x.0) }
 {
     if cursor.next_is(b"USE") {
         let (word, cursor) = cursor.plain_word_behind(b"USE")?;
@@ -81,7 +85,8 @@ fn clause_by_word_at<'t>(cursor: Cursor<'t>) -> Option<(NetClause<'t>, Cursor<'t
 fn listed_at<'t>(cursor: Cursor<'t>) -> Option<(NetClause<'t>, Cursor<'t>)>
     ensures gives { Gives (with_rest net_clause_view) result (read (right (left net_listed)) (rest_of cursor.entry)) }
     ensures later { IfSome result (λ x. IsLater cursor.entry x.1) }
-    ensures lent { IfSome result (λ x. NetClauseIn cursor.entry.tokens.text.now x.0) }
+    ensures left { IfSome result (λ x. pieces_of x.1.tokens ≡ behind (spell (right (left net_listed)) (net_clause_view x.0)) (pieces_of cursor.entry.tokens)) }
+    ensures lent { IfSome result (λ x. NetClauseAt (pieces_of cursor.entry.tokens) x.0) }
 {
     let (clause, cursor) = clause_by_word_at(cursor)?;
     if cursor.next_is_stop() {
@@ -95,7 +100,8 @@ fn listed_at<'t>(cursor: Cursor<'t>) -> Option<(NetClause<'t>, Cursor<'t>)>
 fn listed_or_kept_at<'t>(cursor: Cursor<'t>) -> Option<(NetClause<'t>, Cursor<'t>)>
     ensures gives { Gives (with_rest net_clause_view) result (read (right (or_else net_listed kept_clause)) (rest_of cursor.entry)) }
     ensures later { IfSome result (λ x. IsLater cursor.entry x.1) }
-    ensures lent { IfSome result (λ x. NetClauseIn cursor.entry.tokens.text.now x.0) }
+    ensures left { IfSome result (λ x. pieces_of x.1.tokens ≡ behind (spell (right (or_else net_listed kept_clause)) (net_clause_view x.0)) (pieces_of cursor.entry.tokens)) }
+    ensures lent { IfSome result (λ x. NetClauseAt (pieces_of cursor.entry.tokens) x.0) }
 {
     if let Some(listed) = listed_at(cursor) {
         return Some(listed);
@@ -109,7 +115,8 @@ fn listed_or_kept_at<'t>(cursor: Cursor<'t>) -> Option<(NetClause<'t>, Cursor<'t
 fn net_clause_at<'t>(cursor: Cursor<'t>) -> Option<(NetClause<'t>, Cursor<'t>)>
     ensures gives { Gives (with_rest net_clause_view) result (read net_clause (rest_of cursor.entry)) }
     ensures later { IfSome result (λ x. IsLater cursor.entry x.1) }
-    ensures lent { IfSome result (λ x. NetClauseIn cursor.entry.tokens.text.now x.0) }
+    ensures left { IfSome result (λ x. pieces_of x.1.tokens ≡ behind (spell net_clause (net_clause_view x.0)) (pieces_of cursor.entry.tokens)) }
+    ensures lent { IfSome result (λ x. NetClauseAt (past 1 (pieces_of cursor.entry.tokens)) x.0) }
 {
     let cursor = cursor.key(b"+")?;
     if cursor.next_is(b"SUBNET") {
@@ -127,7 +134,7 @@ impl<'t> Part<'t> for NetClause<'t> {
 
     ghost view = { net_clause_view };
 
-    ghost lent = { NetClauseIn };
+    ghost lent = { λ ps clause. NetClauseAt (past 1 ps) clause };
 
     ghost test = { is_plus };
 
@@ -146,18 +153,20 @@ impl<'t> Part<'t> for NetClause<'t> {
     fn read(cursor: Cursor<'t>) -> Option<(NetClause<'t>, Cursor<'t>)>
         ensures gives { Gives (with_rest net_clause_view) result (read net_clause (rest_of cursor.entry)) }
         ensures later { IfSome result (λ x. IsLater cursor.entry x.1) }
-        ensures lent { IfSome result (λ x. NetClauseIn cursor.entry.tokens.text.now x.0) }
+        ensures left { IfSome result (λ x. pieces_of x.1.tokens ≡ behind (spell net_clause (net_clause_view x.0)) (pieces_of cursor.entry.tokens)) }
+        ensures lent { IfSome result (λ x. NetClauseAt (past 1 (pieces_of cursor.entry.tokens)) x.0) }
     {
         net_clause_at(cursor)
     }
 }
 
 /// `name terminal* (+ clause)*`
-#[tactic(auto, unfolding(def_grammar::specs::Nets::net))]
+#[tactic(auto, unfolding(def_grammar::specs::Nets::net), using(lefdef_tokens::proofs::PlaceLemmas::behind_append))]
 fn net_at<'t>(cursor: Cursor<'t>) -> Option<(NetParts<'t>, Cursor<'t>)>
     ensures gives { Gives (with_rest net_view) result (read net (rest_of cursor.entry)) }
     ensures later { IfSome result (λ x. IsLater cursor.entry x.1) }
-    ensures lent { IfSome result (λ x. NetIn cursor.entry.tokens.text.now x.0) }
+    ensures left { IfSome result (λ x. pieces_of x.1.tokens ≡ behind (spell net (net_view x.0)) (pieces_of cursor.entry.tokens)) }
+    ensures lent { IfSome result (λ x. NetAt (pieces_of cursor.entry.tokens) x.0) }
 {
     let (name, cursor) = cursor.name()?;
     let (terminals, cursor) = read_usual_parts::<Terminal<'t>>(cursor)?;
@@ -174,7 +183,8 @@ fn net_at<'t>(cursor: Cursor<'t>) -> Option<(NetParts<'t>, Cursor<'t>)>
 fn must_join_or_net_at<'t>(cursor: Cursor<'t>) -> Option<(NetEntry<'t>, Cursor<'t>)>
     ensures gives { Gives (with_rest net_entry_view) result (read (on (codes "MUSTJOIN") (upto is_semicolon) net) (rest_of cursor.entry)) }
     ensures later { IfSome result (λ x. IsLater cursor.entry x.1) }
-    ensures lent { IfSome result (λ x. NetEntryIn cursor.entry.tokens.text.now x.0) }
+    ensures left { IfSome result (λ x. pieces_of x.1.tokens ≡ behind (spell (on (codes "MUSTJOIN") (upto is_semicolon) net) (net_entry_view x.0)) (pieces_of cursor.entry.tokens)) }
+    ensures lent { IfSome result (λ x. NetEntryAt (pieces_of cursor.entry.tokens) x.0) }
 {
     if cursor.next_is(b"MUSTJOIN") {
         let (tokens, cursor) = cursor.key(b"MUSTJOIN")?.up_to_semicolon();
@@ -186,12 +196,13 @@ fn must_join_or_net_at<'t>(cursor: Cursor<'t>) -> Option<(NetEntry<'t>, Cursor<'
 }
 
 /// `- MUSTJOIN any* ;`, or `- name terminal* (+ clause)* ;`
-#[tactic(auto, unfolding(def_grammar::specs::Nets::net_form))]
+#[tactic(auto, unfolding(def_grammar::specs::Nets::net_form), using(lefdef_tokens::proofs::PlaceLemmas::behind_append))]
 #[inline(never)]
 pub fn net_entry_at<'t>(cursor: Cursor<'t>) -> Option<(NetEntry<'t>, Cursor<'t>)>
     ensures gives { Gives (with_rest net_entry_view) result (read net_form (rest_of cursor.entry)) }
     ensures later { IfSome result (λ x. IsLater cursor.entry x.1) }
-    ensures lent { IfSome result (λ x. NetEntryIn cursor.entry.tokens.text.now x.0) }
+    ensures left { IfSome result (λ x. pieces_of x.1.tokens ≡ behind (spell net_form (net_entry_view x.0)) (pieces_of cursor.entry.tokens)) }
+    ensures lent { IfSome result (λ x. NetEntryAt (past 1 (pieces_of cursor.entry.tokens)) x.0) }
 {
     let (entry, cursor) = must_join_or_net_at(cursor.key(b"-")?)?;
     let cursor = cursor.key(b";")?;

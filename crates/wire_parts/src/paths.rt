@@ -1,18 +1,20 @@
 //! Paths of wires: points, vias and rectangles (LEF/DEF 5.8 Language Reference, "Regular Wiring Statement" and "Special
 //! Wiring Statement").
 
-ghost use Rattle.std.specs.Prelude.{◌≡◌, ℕ, List, codes, true, IfSome};
+ghost use Rattle.std.specs.Prelude.{◌≡◌, List, codes, true, IfSome};
 ghost use Rattle.form_meanings.specs.Words.{Gives, is_place, is_plain, next_passes};
+ghost use Rattle.statement_model.specs.Tokens as definitions;
 ghost use Rattle.statement_model.specs.Form.{Form, ◌▸◌, ◌◂◌, alt, left, opt, read, right, spell, word};
 ghost use Rattle.def_grammar.specs.Parts.{orient};
 ghost use Rattle.def_grammar.specs.Points.{is_open, later_point};
 ghost use Rattle.def_grammar.specs.Wiring.{array_size, extension, goes_on, is_orient, net_path, special_path, path_item, special_via, via_array, wire_point, wire_rectangle, wire_start, wire_via};
 ghost use Rattle.lefdef_tokens.specs.Unseens.{Finds, IsFurther, unseen_rest};
-ghost use Rattle.lefdef_tokens.specs.Views.{IsIn, IsLater, rest_of};
-ghost use Rattle.def_parts.specs.ClauseViews.{MaskIn, mask_view};
-ghost use Rattle.def_parts.specs.PointViews.{CornersIn, corners_view, same, with_rest};
-ghost use Rattle.statement_reader.specs.PartViews.{left_after};
-ghost use Rattle.wire_parts.specs.PathViews.{array_counts, counts_view, net_path_view, special_path_view, ItemIn, PathIn, SpecialViaIn, ViaArrayIn, extension_view, WirePointIn, WireViaIn, item_view, special_via_view, via_array_view, wire_point_view, wire_via_view};
+ghost use Rattle.lefdef_tokens.specs.Places.{StandsAt, behind, past};
+ghost use Rattle.lefdef_tokens.specs.Views.{IsLater, pieces_of, rest_of};
+ghost use Rattle.def_parts.specs.ClauseViews.{OptionAt, mask_view};
+ghost use Rattle.def_parts.specs.PointViews.{corners_view, same, with_rest};
+ghost use Rattle.statement_reader.specs.PartViews.{left_after, tokens_after};
+ghost use Rattle.wire_parts.specs.PathViews.{array_counts, counts_view, net_path_view, special_path_view, ItemAt, PathAt, SpecialViaAt, ViaArrayAt, extension_view, RectangleAt, WirePointAt, WireViaAt, item_view, special_via_view, via_array_view, wire_point_view, wire_via_view};
 
 use def_parts::clauses::mask_at;
 use def_parts::number::{
@@ -80,7 +82,8 @@ pub struct Path<'t, V> {
 fn extension_at<'t>(cursor: Cursor<'t>) -> Option<(Option<Token<'t>>, Cursor<'t>)>
     ensures gives { Gives (with_rest mask_view) result (read extension (rest_of cursor.entry)) }
     ensures later { IfSome result (λ x. IsLater cursor.entry x.1) }
-    ensures lent { IfSome result (λ x. MaskIn cursor.entry.tokens.text.now x.0) }
+    ensures left { IfSome result (λ x. pieces_of x.1.tokens ≡ behind (spell extension (mask_view x.0)) (pieces_of cursor.entry.tokens)) }
+    ensures lent { IfSome result (λ x. OptionAt (pieces_of cursor.entry.tokens) x.0) }
 {
     if next_is_place(cursor) {
         let (number, cursor) = size_at(cursor)?;
@@ -106,7 +109,8 @@ fn next_is_place<'t>(cursor: Cursor<'t>) -> bool
 fn short_end_at<'t>(left: Unseen<'t>) -> Option<(Option<Token<'t>>, Unseen<'t>)>
     ensures gives { Finds extension_view result (read (extension ◂ codes ")") (unseen_rest left.entry)) }
     ensures further { IfSome result (λ x. IsFurther left.entry.tokens x.1.tokens) }
-    ensures lent { IfSome result (λ x. MaskIn left.entry.tokens.text.now x.0) }
+    ensures left { IfSome result (λ x. pieces_of x.1.tokens ≡ past 1 (behind (spell extension (mask_view x.0)) (pieces_of left.entry.tokens))) }
+    ensures lent { IfSome result (λ x. OptionAt (pieces_of left.entry.tokens) x.0) }
 {
     if let Some((_, left)) = left.mark(b')') {
         return Some((None, left));
@@ -122,7 +126,8 @@ fn short_end_at<'t>(left: Unseen<'t>) -> Option<(Option<Token<'t>>, Unseen<'t>)>
 fn short_start_at<'t>(cursor: Cursor<'t>) -> Option<(WirePoint<'t>, Cursor<'t>)>
     ensures gives { Finds (with_rest wire_point_view) result (read wire_start (rest_of cursor.entry)) }
     ensures later { IfSome result (λ x. IsLater cursor.entry x.1) }
-    ensures lent { IfSome result (λ x. WirePointIn cursor.entry.tokens.text.now x.0) }
+    ensures left { IfSome result (λ x. pieces_of x.1.tokens ≡ behind (spell wire_start (wire_point_view x.0)) (pieces_of cursor.entry.tokens)) }
+    ensures lent { IfSome result (λ x. WirePointAt (pieces_of cursor.entry.tokens) x.0) }
 {
     let (x, left) = few_digits_at(cursor.past(b"(")?)?;
     let (y, left) = few_digits_at(left)?;
@@ -138,7 +143,8 @@ fn short_start_at<'t>(cursor: Cursor<'t>) -> Option<(WirePoint<'t>, Cursor<'t>)>
 fn any_start_at<'t>(cursor: Cursor<'t>) -> Option<(WirePoint<'t>, Cursor<'t>)>
     ensures gives { Gives (with_rest wire_point_view) result (read wire_start (rest_of cursor.entry)) }
     ensures later { IfSome result (λ x. IsLater cursor.entry x.1) }
-    ensures lent { IfSome result (λ x. WirePointIn cursor.entry.tokens.text.now x.0) }
+    ensures left { IfSome result (λ x. pieces_of x.1.tokens ≡ behind (spell wire_start (wire_point_view x.0)) (pieces_of cursor.entry.tokens)) }
+    ensures lent { IfSome result (λ x. WirePointAt (pieces_of cursor.entry.tokens) x.0) }
 {
     let (x, cursor) = int_at(cursor.key(b"(")?)?;
     let (y, cursor) = int_at(cursor)?;
@@ -153,7 +159,8 @@ fn any_start_at<'t>(cursor: Cursor<'t>) -> Option<(WirePoint<'t>, Cursor<'t>)>
 fn wire_start_at<'t>(cursor: Cursor<'t>) -> Option<(WirePoint<'t>, Cursor<'t>)>
     ensures gives { Gives (with_rest wire_point_view) result (read wire_start (rest_of cursor.entry)) }
     ensures later { IfSome result (λ x. IsLater cursor.entry x.1) }
-    ensures lent { IfSome result (λ x. WirePointIn cursor.entry.tokens.text.now x.0) }
+    ensures left { IfSome result (λ x. pieces_of x.1.tokens ≡ behind (spell wire_start (wire_point_view x.0)) (pieces_of cursor.entry.tokens)) }
+    ensures lent { IfSome result (λ x. WirePointAt (pieces_of cursor.entry.tokens) x.0) }
 {
     match short_start_at(cursor) {
         Some(found) => Some(found),
@@ -167,7 +174,8 @@ fn wire_start_at<'t>(cursor: Cursor<'t>) -> Option<(WirePoint<'t>, Cursor<'t>)>
 fn short_wire_point_at<'t>(cursor: Cursor<'t>) -> Option<(WirePoint<'t>, Cursor<'t>)>
     ensures gives { Finds (with_rest wire_point_view) result (read wire_point (rest_of cursor.entry)) }
     ensures later { IfSome result (λ x. IsLater cursor.entry x.1) }
-    ensures lent { IfSome result (λ x. WirePointIn cursor.entry.tokens.text.now x.0) }
+    ensures left { IfSome result (λ x. pieces_of x.1.tokens ≡ behind (spell wire_point (wire_point_view x.0)) (pieces_of cursor.entry.tokens)) }
+    ensures lent { IfSome result (λ x. WirePointAt (pieces_of cursor.entry.tokens) x.0) }
 {
     let (x, left) = few_digits_or_star_at(cursor.past(b"(")?)?;
     let (y, left) = few_digits_or_star_at(left)?;
@@ -183,7 +191,8 @@ fn short_wire_point_at<'t>(cursor: Cursor<'t>) -> Option<(WirePoint<'t>, Cursor<
 fn any_wire_point_at<'t>(cursor: Cursor<'t>) -> Option<(WirePoint<'t>, Cursor<'t>)>
     ensures gives { Gives (with_rest wire_point_view) result (read wire_point (rest_of cursor.entry)) }
     ensures later { IfSome result (λ x. IsLater cursor.entry x.1) }
-    ensures lent { IfSome result (λ x. WirePointIn cursor.entry.tokens.text.now x.0) }
+    ensures left { IfSome result (λ x. pieces_of x.1.tokens ≡ behind (spell wire_point (wire_point_view x.0)) (pieces_of cursor.entry.tokens)) }
+    ensures lent { IfSome result (λ x. WirePointAt (pieces_of cursor.entry.tokens) x.0) }
 {
     let (x, cursor) = coordinate_at(cursor.key(b"(")?)?;
     let (y, cursor) = coordinate_at(cursor)?;
@@ -198,7 +207,8 @@ fn any_wire_point_at<'t>(cursor: Cursor<'t>) -> Option<(WirePoint<'t>, Cursor<'t
 fn wire_point_at<'t>(cursor: Cursor<'t>) -> Option<(WirePoint<'t>, Cursor<'t>)>
     ensures gives { Gives (with_rest wire_point_view) result (read wire_point (rest_of cursor.entry)) }
     ensures later { IfSome result (λ x. IsLater cursor.entry x.1) }
-    ensures lent { IfSome result (λ x. WirePointIn cursor.entry.tokens.text.now x.0) }
+    ensures left { IfSome result (λ x. pieces_of x.1.tokens ≡ behind (spell wire_point (wire_point_view x.0)) (pieces_of cursor.entry.tokens)) }
+    ensures lent { IfSome result (λ x. WirePointAt (pieces_of cursor.entry.tokens) x.0) }
 {
     match short_wire_point_at(cursor) {
         Some(found) => Some(found),
@@ -207,11 +217,12 @@ fn wire_point_at<'t>(cursor: Cursor<'t>) -> Option<(WirePoint<'t>, Cursor<'t>)>
 }
 
 /// `( x1 y1 x2 y2 )`
-#[tactic(auto, unfolding(def_grammar::specs::Wiring::wire_rectangle))]
+#[tactic(auto, unfolding(def_grammar::specs::Wiring::wire_rectangle, def_grammar::specs::Points::two_numbers))]
 fn wire_rectangle_at<'t>(cursor: Cursor<'t>) -> Option<(Corners<'t>, Cursor<'t>)>
     ensures gives { Gives (with_rest corners_view) result (read wire_rectangle (rest_of cursor.entry)) }
     ensures later { IfSome result (λ x. IsLater cursor.entry x.1) }
-    ensures lent { IfSome result (λ x. CornersIn cursor.entry.tokens.text.now x.0) }
+    ensures left { IfSome result (λ x. pieces_of x.1.tokens ≡ behind (spell wire_rectangle (corners_view x.0)) (pieces_of cursor.entry.tokens)) }
+    ensures lent { IfSome result (λ x. RectangleAt (pieces_of cursor.entry.tokens) x.0) }
 {
     let (first, cursor) = two_numbers_at(cursor.key(b"(")?)?;
     let (second, cursor) = two_numbers_at(cursor)?;
@@ -225,6 +236,7 @@ fn wire_rectangle_at<'t>(cursor: Cursor<'t>) -> Option<(Corners<'t>, Cursor<'t>)
 fn via_orient_at<'t>(cursor: Cursor<'t>) -> Option<(Option<Orient>, Cursor<'t>)>
     ensures gives { Gives (with_rest same) result (read (opt is_orient orient) (rest_of cursor.entry)) }
     ensures later { IfSome result (λ x. IsLater cursor.entry x.1) }
+    ensures left { IfSome result (λ x. pieces_of x.1.tokens ≡ behind (spell (opt is_orient orient) x.0) (pieces_of cursor.entry.tokens)) }
 {
     let Some((word, later)) = cursor.next() else {
         return Some((None, cursor));
@@ -241,7 +253,8 @@ fn via_orient_at<'t>(cursor: Cursor<'t>) -> Option<(Option<Orient>, Cursor<'t>)>
 pub fn wire_via_at<'t>(cursor: Cursor<'t>) -> Option<(WireVia<'t>, Cursor<'t>)>
     ensures gives { Gives (with_rest wire_via_view) result (read wire_via (rest_of cursor.entry)) }
     ensures later { IfSome result (λ x. IsLater cursor.entry x.1) }
-    ensures lent { IfSome result (λ x. WireViaIn cursor.entry.tokens.text.now x.0) }
+    ensures left { IfSome result (λ x. pieces_of x.1.tokens ≡ behind (spell wire_via (wire_via_view x.0)) (pieces_of cursor.entry.tokens)) }
+    ensures lent { IfSome result (λ x. WireViaAt (pieces_of cursor.entry.tokens) x.0) }
 {
     let (name, cursor) = cursor.name()?;
     let (orient, cursor) = via_orient_at(cursor)?;
@@ -254,7 +267,7 @@ pub trait PathVia<'t>: Sized + Copy + Drop {
 
     ghost view: { Self → Value };
 
-    ghost lent: { List ℕ → Self → Type 0 };
+    ghost lent: { List definitions.Token → Self → Type 0 };
 
     ghost form: { Form Value };
 
@@ -262,7 +275,8 @@ pub trait PathVia<'t>: Sized + Copy + Drop {
     fn read(cursor: Cursor<'t>) -> Option<(Self, Cursor<'t>)>
         ensures gives { Gives (with_rest view) result (read form (rest_of cursor.entry)) }
         ensures later { IfSome result (λ x. IsLater cursor.entry x.1) }
-        ensures lent { IfSome result (λ x. lent cursor.entry.tokens.text.now x.0) };
+        ensures left { IfSome result (λ x. pieces_of x.1.tokens ≡ behind (spell form (view x.0)) (pieces_of cursor.entry.tokens)) }
+        ensures lent { IfSome result (λ x. lent (pieces_of cursor.entry.tokens) x.0) };
 }
 
 impl<'t> PathVia<'t> for WireVia<'t> {
@@ -272,7 +286,7 @@ impl<'t> PathVia<'t> for WireVia<'t> {
 
     ghost view = { wire_via_view };
 
-    ghost lent = { WireViaIn };
+    ghost lent = { WireViaAt };
 
     ghost form = { wire_via };
 
@@ -280,7 +294,8 @@ impl<'t> PathVia<'t> for WireVia<'t> {
     fn read(cursor: Cursor<'t>) -> Option<(WireVia<'t>, Cursor<'t>)>
         ensures gives { Gives (with_rest wire_via_view) result (read wire_via (rest_of cursor.entry)) }
         ensures later { IfSome result (λ x. IsLater cursor.entry x.1) }
-        ensures lent { IfSome result (λ x. WireViaIn cursor.entry.tokens.text.now x.0) }
+        ensures left { IfSome result (λ x. pieces_of x.1.tokens ≡ behind (spell wire_via (wire_via_view x.0)) (pieces_of cursor.entry.tokens)) }
+        ensures lent { IfSome result (λ x. WireViaAt (pieces_of cursor.entry.tokens) x.0) }
     {
         wire_via_at(cursor)
     }
@@ -290,7 +305,8 @@ impl<'t> PathVia<'t> for WireVia<'t> {
 fn array_counts_at<'t>(cursor: Cursor<'t>) -> Option<((Token<'t>, Token<'t>), Cursor<'t>)>
     ensures gives { Gives (with_rest counts_view) result (read array_counts (rest_of cursor.entry)) }
     ensures later { IfSome result (λ x. IsLater cursor.entry x.1) }
-    ensures lent { IfSome result (λ x. IsIn cursor.entry.tokens.text.now x.0.0 × IsIn cursor.entry.tokens.text.now x.0.1) }
+    ensures left { IfSome result (λ x. pieces_of x.1.tokens ≡ behind (spell array_counts (counts_view x.0)) (pieces_of cursor.entry.tokens)) }
+    ensures lent { IfSome result (λ x. StandsAt (pieces_of cursor.entry.tokens) x.0.0 × StandsAt (past 2 (pieces_of cursor.entry.tokens)) x.0.1) }
 {
     let (columns, cursor) = copies_at(cursor)?;
     let (rows, cursor) = copies_at(cursor.key(b"BY")?)?;
@@ -302,7 +318,8 @@ fn array_counts_at<'t>(cursor: Cursor<'t>) -> Option<((Token<'t>, Token<'t>), Cu
 fn array_size_at<'t>(cursor: Cursor<'t>) -> Option<((Token<'t>, Token<'t>), Cursor<'t>)>
     ensures gives { Gives (with_rest counts_view) result (read array_size (rest_of cursor.entry)) }
     ensures later { IfSome result (λ x. IsLater cursor.entry x.1) }
-    ensures lent { IfSome result (λ x. IsIn cursor.entry.tokens.text.now x.0.0 × IsIn cursor.entry.tokens.text.now x.0.1) }
+    ensures left { IfSome result (λ x. pieces_of x.1.tokens ≡ behind (spell array_size (counts_view x.0)) (pieces_of cursor.entry.tokens)) }
+    ensures lent { IfSome result (λ x. StandsAt (pieces_of cursor.entry.tokens) x.0.0 × StandsAt (past 2 (pieces_of cursor.entry.tokens)) x.0.1) }
 {
     let ((columns, rows), later) = array_counts_at(cursor)?;
     let good = is_array(columns.bytes, rows.bytes);
@@ -310,11 +327,12 @@ fn array_size_at<'t>(cursor: Cursor<'t>) -> Option<((Token<'t>, Token<'t>), Curs
 }
 
 /// `columns BY rows STEP x y`, after `DO`
-#[tactic(auto, unfolding(def_grammar::specs::Wiring::via_array))]
+#[tactic(auto, unfolding(def_grammar::specs::Wiring::via_array, def_grammar::specs::Wiring::array_size, def_grammar::specs::Points::two_numbers))]
 fn via_array_at<'t>(cursor: Cursor<'t>) -> Option<(ViaArray<'t>, Cursor<'t>)>
     ensures gives { Gives (with_rest via_array_view) result (read via_array (rest_of cursor.entry)) }
     ensures later { IfSome result (λ x. IsLater cursor.entry x.1) }
-    ensures lent { IfSome result (λ x. ViaArrayIn cursor.entry.tokens.text.now x.0) }
+    ensures left { IfSome result (λ x. pieces_of x.1.tokens ≡ behind (spell via_array (via_array_view x.0)) (pieces_of cursor.entry.tokens)) }
+    ensures lent { IfSome result (λ x. ViaArrayAt (pieces_of cursor.entry.tokens) x.0) }
 {
     let ((columns, rows), cursor) = array_size_at(cursor)?;
     let (step, cursor) = two_numbers_at(cursor.key(b"STEP")?)?;
@@ -327,11 +345,12 @@ fn via_array_at<'t>(cursor: Cursor<'t>) -> Option<(ViaArray<'t>, Cursor<'t>)>
 }
 
 /// `name [orient] [DO columns BY rows STEP x y]`
-#[tactic(auto, unfolding(def_grammar::specs::Wiring::special_via))]
+#[tactic(auto, unfolding(def_grammar::specs::Wiring::special_via), using(lefdef_tokens::proofs::PlaceLemmas::behind_append))]
 pub fn special_via_at<'t>(cursor: Cursor<'t>) -> Option<(SpecialVia<'t>, Cursor<'t>)>
     ensures gives { Gives (with_rest special_via_view) result (read special_via (rest_of cursor.entry)) }
     ensures later { IfSome result (λ x. IsLater cursor.entry x.1) }
-    ensures lent { IfSome result (λ x. SpecialViaIn cursor.entry.tokens.text.now x.0) }
+    ensures left { IfSome result (λ x. pieces_of x.1.tokens ≡ behind (spell special_via (special_via_view x.0)) (pieces_of cursor.entry.tokens)) }
+    ensures lent { IfSome result (λ x. SpecialViaAt (pieces_of cursor.entry.tokens) x.0) }
 {
     let (via, cursor) = wire_via_at(cursor)?;
     if cursor.next_is(b"DO") {
@@ -351,7 +370,7 @@ impl<'t> PathVia<'t> for SpecialVia<'t> {
 
     ghost view = { special_via_view };
 
-    ghost lent = { SpecialViaIn };
+    ghost lent = { SpecialViaAt };
 
     ghost form = { special_via };
 
@@ -359,7 +378,8 @@ impl<'t> PathVia<'t> for SpecialVia<'t> {
     fn read(cursor: Cursor<'t>) -> Option<(SpecialVia<'t>, Cursor<'t>)>
         ensures gives { Gives (with_rest special_via_view) result (read special_via (rest_of cursor.entry)) }
         ensures later { IfSome result (λ x. IsLater cursor.entry x.1) }
-        ensures lent { IfSome result (λ x. SpecialViaIn cursor.entry.tokens.text.now x.0) }
+        ensures left { IfSome result (λ x. pieces_of x.1.tokens ≡ behind (spell special_via (special_via_view x.0)) (pieces_of cursor.entry.tokens)) }
+        ensures lent { IfSome result (λ x. SpecialViaAt (pieces_of cursor.entry.tokens) x.0) }
     {
         special_via_at(cursor)
     }
@@ -378,31 +398,36 @@ fn goes_on(word: &[u8]) -> bool
 fn mask_item_at<'t, V: PathVia<'t>>(cursor: Cursor<'t>) -> Option<(PathItem<'t, V>, Cursor<'t>)>
     ensures gives { Gives (with_rest (item_view V.view)) result (read (left (codes "MASK" ▸ word is_plain)) (rest_of cursor.entry)) }
     ensures later { IfSome result (λ x. IsLater cursor.entry x.1) }
-    ensures lent { IfSome result (λ x. ItemIn V.lent cursor.entry.tokens.text.now x.0) }
+    ensures left { IfSome result (λ x. pieces_of x.1.tokens ≡ behind (spell (left (codes "MASK" ▸ word is_plain)) (item_view V.view x.0)) (pieces_of cursor.entry.tokens)) }
+    ensures lent { IfSome result (λ x. ItemAt V.lent (pieces_of cursor.entry.tokens) x.0) }
 {
     let (word, cursor) = cursor.plain_word_behind(b"MASK")?;
     Some((PathItem::Mask(word), cursor))
 }
 
 /// `VIRTUAL ( x y )`, a point without wire
+#[tactic(auto, unfolding(def_grammar::specs::Points::later_point))]
 #[inline(always)]
 fn virtual_item_at<'t, V: PathVia<'t>>(cursor: Cursor<'t>) -> Option<(PathItem<'t, V>, Cursor<'t>)>
     ensures gives { Gives (with_rest (item_view V.view)) result (read (right (left (codes "VIRTUAL" ▸ later_point))) (rest_of cursor.entry)) }
     ensures later { IfSome result (λ x. IsLater cursor.entry x.1) }
-    ensures lent { IfSome result (λ x. ItemIn V.lent cursor.entry.tokens.text.now x.0) }
+    ensures left { IfSome result (λ x. pieces_of x.1.tokens ≡ behind (spell (right (left (codes "VIRTUAL" ▸ later_point))) (item_view V.view x.0)) (pieces_of cursor.entry.tokens)) }
+    ensures lent { IfSome result (λ x. ItemAt V.lent (pieces_of cursor.entry.tokens) x.0) }
 {
     let (point, cursor) = later_point_at(cursor.key(b"VIRTUAL")?)?;
     Some((PathItem::Virtual(point.at), cursor))
 }
 
 /// `RECT ( x1 y1 x2 y2 )`
+#[tactic(auto, unfolding(def_grammar::specs::Wiring::wire_rectangle))]
 #[inline(always)]
 fn rectangle_item_at<'t, V: PathVia<'t>>(
     cursor: Cursor<'t>,
 ) -> Option<(PathItem<'t, V>, Cursor<'t>)>
     ensures gives { Gives (with_rest (item_view V.view)) result (read (right (right (left (codes "RECT" ▸ wire_rectangle)))) (rest_of cursor.entry)) }
     ensures later { IfSome result (λ x. IsLater cursor.entry x.1) }
-    ensures lent { IfSome result (λ x. ItemIn V.lent cursor.entry.tokens.text.now x.0) }
+    ensures left { IfSome result (λ x. pieces_of x.1.tokens ≡ behind (spell (right (right (left (codes "RECT" ▸ wire_rectangle)))) (item_view V.view x.0)) (pieces_of cursor.entry.tokens)) }
+    ensures lent { IfSome result (λ x. ItemAt V.lent (pieces_of cursor.entry.tokens) x.0) }
 {
     let (corners, cursor) = wire_rectangle_at(cursor.key(b"RECT")?)?;
     Some((PathItem::Rectangle(corners), cursor))
@@ -413,7 +438,8 @@ fn rectangle_item_at<'t, V: PathVia<'t>>(
 fn point_or_via_at<'t, V: PathVia<'t>>(cursor: Cursor<'t>) -> Option<(PathItem<'t, V>, Cursor<'t>)>
     ensures gives { Gives (with_rest (item_view V.view)) result (read (right (right (right (alt is_open wire_point V.form)))) (rest_of cursor.entry)) }
     ensures later { IfSome result (λ x. IsLater cursor.entry x.1) }
-    ensures lent { IfSome result (λ x. ItemIn V.lent cursor.entry.tokens.text.now x.0) }
+    ensures left { IfSome result (λ x. pieces_of x.1.tokens ≡ behind (spell (right (right (right (alt is_open wire_point V.form)))) (item_view V.view x.0)) (pieces_of cursor.entry.tokens)) }
+    ensures lent { IfSome result (λ x. ItemAt V.lent (pieces_of cursor.entry.tokens) x.0) }
 {
     if next_is_open(cursor) {
         let (at, cursor) = wire_point_at(cursor)?;
@@ -429,7 +455,8 @@ fn point_or_via_at<'t, V: PathVia<'t>>(cursor: Cursor<'t>) -> Option<(PathItem<'
 fn path_item_at<'t, V: PathVia<'t>>(cursor: Cursor<'t>) -> Option<(PathItem<'t, V>, Cursor<'t>)>
     ensures gives { Gives (with_rest (item_view V.view)) result (read (path_item V.form) (rest_of cursor.entry)) }
     ensures later { IfSome result (λ x. IsLater cursor.entry x.1) }
-    ensures lent { IfSome result (λ x. ItemIn V.lent cursor.entry.tokens.text.now x.0) }
+    ensures left { IfSome result (λ x. pieces_of x.1.tokens ≡ behind (spell (path_item V.form) (item_view V.view x.0)) (pieces_of cursor.entry.tokens)) }
+    ensures lent { IfSome result (λ x. ItemAt V.lent (pieces_of cursor.entry.tokens) x.0) }
 {
     if cursor.next_is(b"MASK") {
         mask_item_at(cursor)
@@ -459,6 +486,7 @@ fn usual_item_past<'t, V: PathVia<'t>>(cursor: Cursor<'t>) -> Option<Cursor<'t>>
     ensures begins { IfSome result (λ x. next_passes goes_on (rest_of cursor.entry) ≡ true) }
     ensures gives { Finds rest_of result (left_after (read (path_item V.form) (rest_of cursor.entry))) }
     ensures later { IfSome result (λ x. IsLater cursor.entry x) }
+    ensures left { Finds (λ x. pieces_of x.tokens) result (tokens_after (spell (path_item V.form)) (pieces_of cursor.entry.tokens) (read (path_item V.form) (rest_of cursor.entry))) }
 {
     if !next_goes_on(cursor)
         || cursor.next_is(b"MASK")
@@ -483,7 +511,7 @@ impl<'t, V: PathVia<'t>> Part<'t> for PathItem<'t, V> {
 
     ghost view = { item_view V.view };
 
-    ghost lent = { ItemIn V.lent };
+    ghost lent = { ItemAt V.lent };
 
     ghost test = { goes_on };
 
@@ -504,7 +532,8 @@ impl<'t, V: PathVia<'t>> Part<'t> for PathItem<'t, V> {
     fn read(cursor: Cursor<'t>) -> Option<(PathItem<'t, V>, Cursor<'t>)>
         ensures gives { Gives (with_rest (item_view V.view)) result (read (path_item V.form) (rest_of cursor.entry)) }
         ensures later { IfSome result (λ x. IsLater cursor.entry x.1) }
-        ensures lent { IfSome result (λ x. ItemIn V.lent cursor.entry.tokens.text.now x.0) }
+        ensures left { IfSome result (λ x. pieces_of x.1.tokens ≡ behind (spell (path_item V.form) (item_view V.view x.0)) (pieces_of cursor.entry.tokens)) }
+        ensures lent { IfSome result (λ x. ItemAt V.lent (pieces_of cursor.entry.tokens) x.0) }
     {
         path_item_at(cursor)
     }
@@ -516,18 +545,20 @@ impl<'t, V: PathVia<'t>> UsualPart<'t> for PathItem<'t, V> {
         ensures begins { IfSome result (λ x. next_passes goes_on (rest_of cursor.entry) ≡ true) }
         ensures gives { Finds rest_of result (left_after (read (path_item V.form) (rest_of cursor.entry))) }
         ensures later { IfSome result (λ x. IsLater cursor.entry x) }
+        ensures left { Finds (λ x. pieces_of x.tokens) result (tokens_after (spell (path_item V.form)) (pieces_of cursor.entry.tokens) (read (path_item V.form) (rest_of cursor.entry))) }
     {
         usual_item_past::<V>(cursor)
     }
 }
 
 /// `[MASK word]`, the first point, and what the path goes on with
-#[tactic(auto, unfolding(def_grammar::specs::Wiring::net_path, def_grammar::specs::Wiring::net_item))]
+#[tactic(auto, unfolding(def_grammar::specs::Wiring::net_path, def_grammar::specs::Wiring::net_item), using(lefdef_tokens::proofs::PlaceLemmas::behind_append))]
 #[inline(always)]
 pub fn net_path_at<'t>(cursor: Cursor<'t>) -> Option<(Path<'t, WireVia<'t>>, Cursor<'t>)>
     ensures gives { Gives (with_rest net_path_view) result (read net_path (rest_of cursor.entry)) }
     ensures later { IfSome result (λ x. IsLater cursor.entry x.1) }
-    ensures lent { IfSome result (λ x. PathIn cursor.entry.tokens.text.now x.0) }
+    ensures left { IfSome result (λ x. pieces_of x.1.tokens ≡ behind (spell net_path (net_path_view x.0)) (pieces_of cursor.entry.tokens)) }
+    ensures lent { IfSome result (λ x. PathAt (pieces_of cursor.entry.tokens) x.0) }
 {
     let (mask, cursor) = mask_at(cursor)?;
     let (start, cursor) = wire_start_at(cursor)?;
@@ -536,11 +567,12 @@ pub fn net_path_at<'t>(cursor: Cursor<'t>) -> Option<(Path<'t, WireVia<'t>>, Cur
 }
 
 /// What comes after a path whose points have few digits and whose other items are vias; `None` says nothing.
-#[tactic(auto, unfolding(def_grammar::specs::Wiring::net_path, def_grammar::specs::Wiring::net_item))]
+#[tactic(auto, unfolding(def_grammar::specs::Wiring::net_path, def_grammar::specs::Wiring::net_item), using(lefdef_tokens::proofs::PlaceLemmas::behind_append))]
 #[inline(always)]
 pub(crate) fn usual_net_path_past<'t>(cursor: Cursor<'t>) -> Option<Cursor<'t>>
     ensures gives { Finds rest_of result (left_after (read net_path (rest_of cursor.entry))) }
     ensures later { IfSome result (λ x. IsLater cursor.entry x) }
+    ensures left { Finds (λ x. pieces_of x.tokens) result (tokens_after (spell net_path) (pieces_of cursor.entry.tokens) (read net_path (rest_of cursor.entry))) }
 {
     let (_, cursor) = mask_at(cursor)?;
     let (_, cursor) = short_start_at(cursor)?;
@@ -548,11 +580,12 @@ pub(crate) fn usual_net_path_past<'t>(cursor: Cursor<'t>) -> Option<Cursor<'t>>
 }
 
 /// `[MASK word]`, the first point, and what the path of a special net goes on with
-#[tactic(auto, unfolding(def_grammar::specs::Wiring::special_path, def_grammar::specs::Wiring::special_item))]
+#[tactic(auto, unfolding(def_grammar::specs::Wiring::special_path, def_grammar::specs::Wiring::special_item), using(lefdef_tokens::proofs::PlaceLemmas::behind_append))]
 pub fn special_path_at<'t>(cursor: Cursor<'t>) -> Option<(Path<'t, SpecialVia<'t>>, Cursor<'t>)>
     ensures gives { Gives (with_rest special_path_view) result (read special_path (rest_of cursor.entry)) }
     ensures later { IfSome result (λ x. IsLater cursor.entry x.1) }
-    ensures lent { IfSome result (λ x. PathIn cursor.entry.tokens.text.now x.0) }
+    ensures left { IfSome result (λ x. pieces_of x.1.tokens ≡ behind (spell special_path (special_path_view x.0)) (pieces_of cursor.entry.tokens)) }
+    ensures lent { IfSome result (λ x. PathAt (pieces_of cursor.entry.tokens) x.0) }
 {
     let (mask, cursor) = mask_at(cursor)?;
     let (start, cursor) = wire_start_at(cursor)?;

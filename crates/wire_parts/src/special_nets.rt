@@ -8,9 +8,10 @@ ghost use Rattle.def_grammar.specs.Parts.{name};
 ghost use Rattle.def_grammar.specs.Points.{corners, polygon};
 ghost use Rattle.def_grammar.specs.SpecialNets.{placed_via, special_clause, special_listed, special_net_form, special_shape};
 ghost use Rattle.def_grammar.specs.Wiring.{special_wiring};
-ghost use Rattle.lefdef_tokens.specs.Views.{IsLater, rest_of};
+ghost use Rattle.lefdef_tokens.specs.Places.{behind, past};
+ghost use Rattle.lefdef_tokens.specs.Views.{IsLater, pieces_of, rest_of};
 ghost use Rattle.def_parts.specs.PointViews.{with_rest};
-ghost use Rattle.wire_parts.specs.SpecialNetViews.{PlacedViaIn, SpecialClauseIn, SpecialNetIn, of_listed, of_shape, placed_via_view, special_by_word, special_clause_view, special_net_view};
+ghost use Rattle.wire_parts.specs.SpecialNetViews.{PlacedViaAt, SpecialClauseAt, SpecialNetAt, of_listed, of_shape, placed_via_view, special_by_word, special_clause_view, special_net_view};
 
 use crate::paths::{WireVia, wire_via_at};
 use crate::terminals::Terminal;
@@ -56,11 +57,12 @@ pub struct SpecialNetParts<'t> {
 }
 
 /// `name [orient] point+`, after `VIA`
-#[tactic(auto, unfolding(def_grammar::specs::SpecialNets::placed_via))]
+#[tactic(auto, unfolding(def_grammar::specs::SpecialNets::placed_via, def_grammar::specs::Parts::point), using(lefdef_tokens::proofs::PlaceLemmas::behind_append))]
 fn placed_via_at<'t>(cursor: Cursor<'t>) -> Option<(PlacedVia<'t>, Cursor<'t>)>
     ensures gives { Gives (with_rest placed_via_view) result (read placed_via (rest_of cursor.entry)) }
     ensures later { IfSome result (λ x. IsLater cursor.entry x.1) }
-    ensures lent { IfSome result (λ x. PlacedViaIn cursor.entry.tokens.text.now x.0) }
+    ensures left { IfSome result (λ x. pieces_of x.1.tokens ≡ behind (spell placed_via (placed_via_view x.0)) (pieces_of cursor.entry.tokens)) }
+    ensures lent { IfSome result (λ x. PlacedViaAt (pieces_of cursor.entry.tokens) x.0) }
 {
     let (via, cursor) = wire_via_at(cursor)?;
     let (first, cursor) = point_at(cursor)?;
@@ -69,10 +71,12 @@ fn placed_via_at<'t>(cursor: Cursor<'t>) -> Option<(PlacedVia<'t>, Cursor<'t>)>
 }
 
 /// `RECT layer ..`
+#[tactic(auto, unfolding(def_grammar::specs::Points::corners, def_grammar::specs::Points::later_point, def_grammar::specs::Parts::point))]
 fn rectangle_clause_at<'t>(cursor: Cursor<'t>) -> Option<(SpecialClause<'t>, Cursor<'t>)>
     ensures gives { Gives (with_rest special_clause_view) result (read (of_shape (left (codes "RECT" ▸ name ⨟ corners))) (rest_of cursor.entry)) }
     ensures later { IfSome result (λ x. IsLater cursor.entry x.1) }
-    ensures lent { IfSome result (λ x. SpecialClauseIn cursor.entry.tokens.text.now x.0) }
+    ensures left { IfSome result (λ x. pieces_of x.1.tokens ≡ behind (spell (of_shape (left (codes "RECT" ▸ name ⨟ corners))) (special_clause_view x.0)) (pieces_of cursor.entry.tokens)) }
+    ensures lent { IfSome result (λ x. SpecialClauseAt (pieces_of cursor.entry.tokens) x.0) }
 {
     let (layer, cursor) = cursor.name_behind(b"RECT")?;
     let (corners, cursor) = corners_at(cursor)?;
@@ -83,7 +87,8 @@ fn rectangle_clause_at<'t>(cursor: Cursor<'t>) -> Option<(SpecialClause<'t>, Cur
 fn vias_clause_at<'t>(cursor: Cursor<'t>) -> Option<(SpecialClause<'t>, Cursor<'t>)>
     ensures gives { Gives (with_rest special_clause_view) result (read (of_shape (right (left (codes "VIA" ▸ placed_via)))) (rest_of cursor.entry)) }
     ensures later { IfSome result (λ x. IsLater cursor.entry x.1) }
-    ensures lent { IfSome result (λ x. SpecialClauseIn cursor.entry.tokens.text.now x.0) }
+    ensures left { IfSome result (λ x. pieces_of x.1.tokens ≡ behind (spell (of_shape (right (left (codes "VIA" ▸ placed_via)))) (special_clause_view x.0)) (pieces_of cursor.entry.tokens)) }
+    ensures lent { IfSome result (λ x. SpecialClauseAt (pieces_of cursor.entry.tokens) x.0) }
 {
     let (via, cursor) = placed_via_at(cursor.key(b"VIA")?)?;
     Some((SpecialClause::Vias(via), cursor))
@@ -93,7 +98,8 @@ fn vias_clause_at<'t>(cursor: Cursor<'t>) -> Option<(SpecialClause<'t>, Cursor<'
 fn polygon_clause_at<'t>(cursor: Cursor<'t>) -> Option<(SpecialClause<'t>, Cursor<'t>)>
     ensures gives { Gives (with_rest special_clause_view) result (read (of_shape (right (right (left (codes "POLYGON" ▸ name ⨟ polygon))))) (rest_of cursor.entry)) }
     ensures later { IfSome result (λ x. IsLater cursor.entry x.1) }
-    ensures lent { IfSome result (λ x. SpecialClauseIn cursor.entry.tokens.text.now x.0) }
+    ensures left { IfSome result (λ x. pieces_of x.1.tokens ≡ behind (spell (of_shape (right (right (left (codes "POLYGON" ▸ name ⨟ polygon))))) (special_clause_view x.0)) (pieces_of cursor.entry.tokens)) }
+    ensures lent { IfSome result (λ x. SpecialClauseAt (pieces_of cursor.entry.tokens) x.0) }
 {
     let (layer, cursor) = cursor.name_behind(b"POLYGON")?;
     let (polygon, cursor) = polygon_at(cursor)?;
@@ -104,7 +110,8 @@ fn polygon_clause_at<'t>(cursor: Cursor<'t>) -> Option<(SpecialClause<'t>, Curso
 fn wiring_clause_at<'t>(cursor: Cursor<'t>) -> Option<(SpecialClause<'t>, Cursor<'t>)>
     ensures gives { Gives (with_rest special_clause_view) result (read (of_shape (right (right (right special_wiring)))) (rest_of cursor.entry)) }
     ensures later { IfSome result (λ x. IsLater cursor.entry x.1) }
-    ensures lent { IfSome result (λ x. SpecialClauseIn cursor.entry.tokens.text.now x.0) }
+    ensures left { IfSome result (λ x. pieces_of x.1.tokens ≡ behind (spell (of_shape (right (right (right special_wiring)))) (special_clause_view x.0)) (pieces_of cursor.entry.tokens)) }
+    ensures lent { IfSome result (λ x. SpecialClauseAt (pieces_of cursor.entry.tokens) x.0) }
 {
     let (wiring, cursor) = special_wiring_at(cursor)?;
     Some((SpecialClause::Wiring(wiring), cursor))
@@ -115,7 +122,8 @@ fn wiring_clause_at<'t>(cursor: Cursor<'t>) -> Option<(SpecialClause<'t>, Cursor
 fn shape_at<'t>(cursor: Cursor<'t>) -> Option<(SpecialClause<'t>, Cursor<'t>)>
     ensures gives { Gives (with_rest special_clause_view) result (read (of_shape special_shape) (rest_of cursor.entry)) }
     ensures later { IfSome result (λ x. IsLater cursor.entry x.1) }
-    ensures lent { IfSome result (λ x. SpecialClauseIn cursor.entry.tokens.text.now x.0) }
+    ensures left { IfSome result (λ x. pieces_of x.1.tokens ≡ behind (spell (of_shape special_shape) (special_clause_view x.0)) (pieces_of cursor.entry.tokens)) }
+    ensures lent { IfSome result (λ x. SpecialClauseAt (pieces_of cursor.entry.tokens) x.0) }
 {
     if cursor.next_is(b"RECT") {
         rectangle_clause_at(cursor)
@@ -132,7 +140,8 @@ fn shape_at<'t>(cursor: Cursor<'t>) -> Option<(SpecialClause<'t>, Cursor<'t>)>
 fn use_clause_at<'t>(cursor: Cursor<'t>) -> Option<(SpecialClause<'t>, Cursor<'t>)>
     ensures gives { Gives (with_rest special_clause_view) result (read (of_listed (left (codes "USE" ▸ word is_plain))) (rest_of cursor.entry)) }
     ensures later { IfSome result (λ x. IsLater cursor.entry x.1) }
-    ensures lent { IfSome result (λ x. SpecialClauseIn cursor.entry.tokens.text.now x.0) }
+    ensures left { IfSome result (λ x. pieces_of x.1.tokens ≡ behind (spell (of_listed (left (codes "USE" ▸ word is_plain))) (special_clause_view x.0)) (pieces_of cursor.entry.tokens)) }
+    ensures lent { IfSome result (λ x. SpecialClauseAt (pieces_of cursor.entry.tokens) x.0) }
 {
     let (word, cursor) = cursor.plain_word_behind(b"USE")?;
     Some((SpecialClause::Use(word), cursor))
@@ -142,7 +151,8 @@ fn use_clause_at<'t>(cursor: Cursor<'t>) -> Option<(SpecialClause<'t>, Cursor<'t
 fn shape_clause_at<'t>(cursor: Cursor<'t>) -> Option<(SpecialClause<'t>, Cursor<'t>)>
     ensures gives { Gives (with_rest special_clause_view) result (read (of_listed (right (left (codes "SHAPE" ▸ word is_plain)))) (rest_of cursor.entry)) }
     ensures later { IfSome result (λ x. IsLater cursor.entry x.1) }
-    ensures lent { IfSome result (λ x. SpecialClauseIn cursor.entry.tokens.text.now x.0) }
+    ensures left { IfSome result (λ x. pieces_of x.1.tokens ≡ behind (spell (of_listed (right (left (codes "SHAPE" ▸ word is_plain)))) (special_clause_view x.0)) (pieces_of cursor.entry.tokens)) }
+    ensures lent { IfSome result (λ x. SpecialClauseAt (pieces_of cursor.entry.tokens) x.0) }
 {
     let (word, cursor) = cursor.plain_word_behind(b"SHAPE")?;
     Some((SpecialClause::Shape(word), cursor))
@@ -152,7 +162,8 @@ fn shape_clause_at<'t>(cursor: Cursor<'t>) -> Option<(SpecialClause<'t>, Cursor<
 fn mask_clause_at<'t>(cursor: Cursor<'t>) -> Option<(SpecialClause<'t>, Cursor<'t>)>
     ensures gives { Gives (with_rest special_clause_view) result (read (of_listed (right (right (left (codes "MASK" ▸ word is_plain))))) (rest_of cursor.entry)) }
     ensures later { IfSome result (λ x. IsLater cursor.entry x.1) }
-    ensures lent { IfSome result (λ x. SpecialClauseIn cursor.entry.tokens.text.now x.0) }
+    ensures left { IfSome result (λ x. pieces_of x.1.tokens ≡ behind (spell (of_listed (right (right (left (codes "MASK" ▸ word is_plain))))) (special_clause_view x.0)) (pieces_of cursor.entry.tokens)) }
+    ensures lent { IfSome result (λ x. SpecialClauseAt (pieces_of cursor.entry.tokens) x.0) }
 {
     let (word, cursor) = cursor.plain_word_behind(b"MASK")?;
     Some((SpecialClause::Mask(word), cursor))
@@ -162,7 +173,8 @@ fn mask_clause_at<'t>(cursor: Cursor<'t>) -> Option<(SpecialClause<'t>, Cursor<'
 fn clause_by_word_at<'t>(cursor: Cursor<'t>) -> Option<(SpecialClause<'t>, Cursor<'t>)>
     ensures gives { Gives (with_rest special_clause_view) result (read (of_listed special_by_word) (rest_of cursor.entry)) }
     ensures later { IfSome result (λ x. IsLater cursor.entry x.1) }
-    ensures lent { IfSome result (λ x. SpecialClauseIn cursor.entry.tokens.text.now x.0) }
+    ensures left { IfSome result (λ x. pieces_of x.1.tokens ≡ behind (spell (of_listed special_by_word) (special_clause_view x.0)) (pieces_of cursor.entry.tokens)) }
+    ensures lent { IfSome result (λ x. SpecialClauseAt (pieces_of cursor.entry.tokens) x.0) }
 {
     if cursor.next_is(b"USE") {
         use_clause_at(cursor)
@@ -180,7 +192,8 @@ fn clause_by_word_at<'t>(cursor: Cursor<'t>) -> Option<(SpecialClause<'t>, Curso
 fn listed_at<'t>(cursor: Cursor<'t>) -> Option<(SpecialClause<'t>, Cursor<'t>)>
     ensures gives { Gives (with_rest special_clause_view) result (read (of_listed special_listed) (rest_of cursor.entry)) }
     ensures later { IfSome result (λ x. IsLater cursor.entry x.1) }
-    ensures lent { IfSome result (λ x. SpecialClauseIn cursor.entry.tokens.text.now x.0) }
+    ensures left { IfSome result (λ x. pieces_of x.1.tokens ≡ behind (spell (of_listed special_listed) (special_clause_view x.0)) (pieces_of cursor.entry.tokens)) }
+    ensures lent { IfSome result (λ x. SpecialClauseAt (pieces_of cursor.entry.tokens) x.0) }
 {
     let (clause, cursor) = clause_by_word_at(cursor)?;
     if cursor.next_is_stop() {
@@ -194,7 +207,8 @@ fn listed_at<'t>(cursor: Cursor<'t>) -> Option<(SpecialClause<'t>, Cursor<'t>)>
 fn listed_or_kept_at<'t>(cursor: Cursor<'t>) -> Option<(SpecialClause<'t>, Cursor<'t>)>
     ensures gives { Gives (with_rest special_clause_view) result (read (right (or_else special_listed kept_clause)) (rest_of cursor.entry)) }
     ensures later { IfSome result (λ x. IsLater cursor.entry x.1) }
-    ensures lent { IfSome result (λ x. SpecialClauseIn cursor.entry.tokens.text.now x.0) }
+    ensures left { IfSome result (λ x. pieces_of x.1.tokens ≡ behind (spell (right (or_else special_listed kept_clause)) (special_clause_view x.0)) (pieces_of cursor.entry.tokens)) }
+    ensures lent { IfSome result (λ x. SpecialClauseAt (pieces_of cursor.entry.tokens) x.0) }
 {
     if let Some(listed) = listed_at(cursor) {
         return Some(listed);
@@ -208,7 +222,8 @@ fn listed_or_kept_at<'t>(cursor: Cursor<'t>) -> Option<(SpecialClause<'t>, Curso
 fn special_clause_at<'t>(cursor: Cursor<'t>) -> Option<(SpecialClause<'t>, Cursor<'t>)>
     ensures gives { Gives (with_rest special_clause_view) result (read special_clause (rest_of cursor.entry)) }
     ensures later { IfSome result (λ x. IsLater cursor.entry x.1) }
-    ensures lent { IfSome result (λ x. SpecialClauseIn cursor.entry.tokens.text.now x.0) }
+    ensures left { IfSome result (λ x. pieces_of x.1.tokens ≡ behind (spell special_clause (special_clause_view x.0)) (pieces_of cursor.entry.tokens)) }
+    ensures lent { IfSome result (λ x. SpecialClauseAt (past 1 (pieces_of cursor.entry.tokens)) x.0) }
 {
     let cursor = cursor.key(b"+")?;
     if cursor.next_is(b"SUBNET") {
@@ -226,7 +241,7 @@ impl<'t> Part<'t> for SpecialClause<'t> {
 
     ghost view = { special_clause_view };
 
-    ghost lent = { SpecialClauseIn };
+    ghost lent = { λ ps clause. SpecialClauseAt (past 1 ps) clause };
 
     ghost test = { is_plus };
 
@@ -245,19 +260,21 @@ impl<'t> Part<'t> for SpecialClause<'t> {
     fn read(cursor: Cursor<'t>) -> Option<(SpecialClause<'t>, Cursor<'t>)>
         ensures gives { Gives (with_rest special_clause_view) result (read special_clause (rest_of cursor.entry)) }
         ensures later { IfSome result (λ x. IsLater cursor.entry x.1) }
-        ensures lent { IfSome result (λ x. SpecialClauseIn cursor.entry.tokens.text.now x.0) }
+        ensures left { IfSome result (λ x. pieces_of x.1.tokens ≡ behind (spell special_clause (special_clause_view x.0)) (pieces_of cursor.entry.tokens)) }
+        ensures lent { IfSome result (λ x. SpecialClauseAt (past 1 (pieces_of cursor.entry.tokens)) x.0) }
     {
         special_clause_at(cursor)
     }
 }
 
 /// `- name terminal* (+ clause)* ;`
-#[tactic(auto, unfolding(def_grammar::specs::SpecialNets::special_net_form))]
+#[tactic(auto, unfolding(def_grammar::specs::SpecialNets::special_net_form), using(lefdef_tokens::proofs::PlaceLemmas::behind_append))]
 #[inline(never)]
 pub fn special_net_at<'t>(cursor: Cursor<'t>) -> Option<(SpecialNetParts<'t>, Cursor<'t>)>
     ensures gives { Gives (with_rest special_net_view) result (read special_net_form (rest_of cursor.entry)) }
     ensures later { IfSome result (λ x. IsLater cursor.entry x.1) }
-    ensures lent { IfSome result (λ x. SpecialNetIn cursor.entry.tokens.text.now x.0) }
+    ensures left { IfSome result (λ x. pieces_of x.1.tokens ≡ behind (spell special_net_form (special_net_view x.0)) (pieces_of cursor.entry.tokens)) }
+    ensures lent { IfSome result (λ x. SpecialNetAt (pieces_of cursor.entry.tokens) x.0) }
 {
     let (name, cursor) = cursor.name_behind(b"-")?;
     let (terminals, cursor) = read_usual_parts::<Terminal<'t>>(cursor)?;

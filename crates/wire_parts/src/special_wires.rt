@@ -2,11 +2,13 @@
 
 ghost use Rattle.std.specs.Prelude.{◌≡◌, ℕ, List, IfSome};
 ghost use Rattle.def_grammar.specs.SpecialWires.{special_net_wires, special_wires_of};
+ghost use Rattle.statement_model.specs.Tokens.{Token};
+ghost use Rattle.lefdef_tokens.specs.Places.{behind};
 ghost use Rattle.lefdef_tokens.specs.Views.{IsLater};
-ghost use Rattle.wire_parts.specs.SpecialNetViews.{SpecialClauseIn, SpecialNetIn, special_clause_view, special_net_view};
+ghost use Rattle.wire_parts.specs.SpecialNetViews.{SpecialClauseAt, special_clause_view, special_net_view};
 ghost use Rattle.wire_parts.specs.SpecialWireViews.{IsNextWires, SpecialClauseLeftIn, SpecialPathsIn, of_special_clause, special_paths_left};
-ghost use Rattle.wire_parts.specs.WiresLeft.{GivesFirst};
-ghost use Rattle.wire_parts.specs.WiringViews.{SpecialWireIn, SpecialWiresIn, special_wire_view, wires_view};
+ghost use Rattle.wire_parts.specs.WiresLeft.{GivesFirst, StandsIn};
+ghost use Rattle.wire_parts.specs.WiringViews.{SpecialWireAt, SpecialWiresAt, special_wire_view, wires_view};
 
 use crate::special_nets::{SpecialClause, SpecialNetParts};
 use crate::wiring::{SpecialWire, SpecialWires};
@@ -24,7 +26,7 @@ impl<'t> SpecialNetParts<'t> {
     /// The wires of all its wiring clauses, in the order of the text. Its other shapes are no wires.
     pub fn paths(&self) -> SpecialPaths<'t>
         ensures gives { special_paths_left result ≡ special_net_wires (special_net_view self.now) }
-        ensures lent { (text : List ℕ) → SpecialNetIn text self.now → SpecialPathsIn text result }
+        ensures text { SpecialPathsIn self.now.clauses.cursor.tokens.text.now result }
     {
         SpecialPaths {
             wires: None,
@@ -36,7 +38,7 @@ impl<'t> SpecialNetParts<'t> {
 /// The wires of a clause, if it is a wiring clause that has some.
 fn wires_of<'t>(clause: SpecialClause<'t>) -> Option<SpecialWires<'t>>
     ensures gives { wires_view result ≡ special_wires_of (special_clause_view clause.entry) }
-    ensures lent { (text : List ℕ) → SpecialClauseIn text clause.entry → IfSome result (λ w. SpecialWiresIn text w) }
+    ensures lent { (ps : List Token) → SpecialClauseAt ps clause.entry → IfSome result (λ w. (others : List (List ℕ)) × SpecialWiresAt (behind others ps) w) }
 {
     match clause {
         SpecialClause::Wiring(wiring) => wiring.wires,
@@ -48,7 +50,7 @@ fn wires_of<'t>(clause: SpecialClause<'t>) -> Option<SpecialWires<'t>>
 fn next_wires<'t>(clauses: &mut Parts<'t, SpecialClause<'t>>) -> Option<SpecialWires<'t>>
     ensures step { IsNextWires clauses.old result clauses.new }
     ensures later { IsLater clauses.old.cursor clauses.new.cursor }
-    ensures lent { IfSome result (λ w. SpecialWiresIn clauses.old.cursor.tokens.text.now w) }
+    ensures lent { IfSome result (λ w. StandsIn SpecialWiresAt clauses.old.cursor.tokens.text.now w) }
 {
     while let Some(clause) = clauses.next() {
         if let Some(wires) = wires_of(clause) {
@@ -62,7 +64,7 @@ fn next_wires<'t>(clauses: &mut Parts<'t, SpecialClause<'t>>) -> Option<SpecialW
 fn next_of_clause<'t>(wires: &mut Option<Parts<'t, SpecialWire<'t>>>) -> Option<SpecialWire<'t>>
     ensures step { GivesFirst special_wire_view (of_special_clause wires.old) result (of_special_clause wires.new) }
     ensures text { (text : List ℕ) → SpecialClauseLeftIn text wires.old → SpecialClauseLeftIn text wires.new }
-    ensures lent { (text : List ℕ) → SpecialClauseLeftIn text wires.old → IfSome result (λ w. SpecialWireIn text w) }
+    ensures lent { (text : List ℕ) → SpecialClauseLeftIn text wires.old → IfSome result (λ w. StandsIn SpecialWireAt text w) }
 {
     match wires {
         Some(left) => left.next(),
@@ -75,7 +77,7 @@ impl<'t> SpecialPaths<'t> {
     pub fn next(&mut self) -> Option<SpecialWire<'t>>
         ensures step { GivesFirst special_wire_view (special_paths_left self.old) result (special_paths_left self.new) }
         ensures text { (text : List ℕ) → SpecialPathsIn text self.old → SpecialPathsIn text self.new }
-        ensures lent { (text : List ℕ) → SpecialPathsIn text self.old → IfSome result (λ w. SpecialWireIn text w) }
+        ensures lent { (text : List ℕ) → SpecialPathsIn text self.old → IfSome result (λ w. StandsIn SpecialWireAt text w) }
     {
         if let Some(wire) = next_of_clause(&mut self.wires) {
             return Some(wire);

@@ -6,10 +6,11 @@ ghost use Rattle.statement_model.specs.Form.{read, spell};
 ghost use Rattle.def_grammar.specs.Points.{is_open};
 ghost use Rattle.def_grammar.specs.Terminals.{is_of_all, is_of_design, is_virtual, synthesized, terminal};
 ghost use Rattle.lefdef_tokens.specs.Unseens.{Finds};
-ghost use Rattle.lefdef_tokens.specs.Views.{IsLater, rest_of};
+ghost use Rattle.lefdef_tokens.specs.Places.{behind};
+ghost use Rattle.lefdef_tokens.specs.Views.{IsLater, pieces_of, rest_of};
 ghost use Rattle.def_parts.specs.PointViews.{same, with_rest};
-ghost use Rattle.statement_reader.specs.PartViews.{left_after};
-ghost use Rattle.wire_parts.specs.TerminalViews.{TerminalIn, terminal_view};
+ghost use Rattle.statement_reader.specs.PartViews.{left_after, tokens_after};
+ghost use Rattle.wire_parts.specs.TerminalViews.{TerminalAt, terminal_view};
 
 use def_parts::points::{is_open, next_is_open};
 use lefdef_tokens::{Cursor, Token, is_word};
@@ -53,6 +54,7 @@ impl<'t> Terminal<'t> {
 fn synthesized_at<'t>(cursor: Cursor<'t>) -> Option<(bool, Cursor<'t>)>
     ensures gives { Gives (with_rest same) result (read synthesized (rest_of cursor.entry)) }
     ensures later { IfSome result (λ x. IsLater cursor.entry x.1) }
+    ensures left { IfSome result (λ x. pieces_of x.1.tokens ≡ behind (spell synthesized (same x.0)) (pieces_of cursor.entry.tokens)) }
 {
     if cursor.next_is_plus() {
         let cursor = cursor.key(b"+")?.key(b"SYNTHESIZED")?;
@@ -63,12 +65,13 @@ fn synthesized_at<'t>(cursor: Cursor<'t>) -> Option<(bool, Cursor<'t>)>
 }
 
 /// `( owner pin [+ SYNTHESIZED] )`
-#[tactic(auto, unfolding(def_grammar::specs::Terminals::terminal))]
+#[tactic(auto, unfolding(def_grammar::specs::Terminals::terminal), using(lefdef_tokens::proofs::PlaceLemmas::behind_append))]
 #[inline(always)]
 pub fn terminal_at<'t>(cursor: Cursor<'t>) -> Option<(Terminal<'t>, Cursor<'t>)>
     ensures gives { Gives (with_rest terminal_view) result (read terminal (rest_of cursor.entry)) }
     ensures later { IfSome result (λ x. IsLater cursor.entry x.1) }
-    ensures lent { IfSome result (λ x. TerminalIn cursor.entry.tokens.text.now x.0) }
+    ensures left { IfSome result (λ x. pieces_of x.1.tokens ≡ behind (spell terminal (terminal_view x.0)) (pieces_of cursor.entry.tokens)) }
+    ensures lent { IfSome result (λ x. TerminalAt (pieces_of cursor.entry.tokens) x.0) }
 {
     let (owner, cursor) = cursor.key(b"(")?.place()?;
     let (pin, cursor) = cursor.name()?;
@@ -89,7 +92,7 @@ impl<'t> Part<'t> for Terminal<'t> {
 
     ghost view = { terminal_view };
 
-    ghost lent = { TerminalIn };
+    ghost lent = { TerminalAt };
 
     ghost test = { is_open };
 
@@ -110,7 +113,8 @@ impl<'t> Part<'t> for Terminal<'t> {
     fn read(cursor: Cursor<'t>) -> Option<(Terminal<'t>, Cursor<'t>)>
         ensures gives { Gives (with_rest terminal_view) result (read terminal (rest_of cursor.entry)) }
         ensures later { IfSome result (λ x. IsLater cursor.entry x.1) }
-        ensures lent { IfSome result (λ x. TerminalIn cursor.entry.tokens.text.now x.0) }
+        ensures left { IfSome result (λ x. pieces_of x.1.tokens ≡ behind (spell terminal (terminal_view x.0)) (pieces_of cursor.entry.tokens)) }
+        ensures lent { IfSome result (λ x. TerminalAt (pieces_of cursor.entry.tokens) x.0) }
     {
         terminal_at(cursor)
     }
@@ -122,6 +126,7 @@ impl<'t> UsualPart<'t> for Terminal<'t> {
         ensures begins { IfSome result (λ x. next_passes is_open (rest_of cursor.entry) ≡ true) }
         ensures gives { Finds rest_of result (left_after (read terminal (rest_of cursor.entry))) }
         ensures later { IfSome result (λ x. IsLater cursor.entry x) }
+        ensures left { Finds (λ x. pieces_of x.tokens) result (tokens_after (spell terminal) (pieces_of cursor.entry.tokens) (read terminal (rest_of cursor.entry))) }
     {
         if !next_is_open(cursor) {
             return None;

@@ -9,11 +9,12 @@ ghost use Rattle.statement_model.specs.Form.{◌▸◌, ◌⨟◌, empty, left, 
 ghost use Rattle.def_grammar.specs.Parts.{int, name};
 ghost use Rattle.def_grammar.specs.Wiring.{is_new, new_special_wire, new_wire, special_wire, special_wires, special_wiring, taper, wire, wire_mark, wiring, wiring_status, wiring_statuses, wiring_word};
 ghost use Rattle.lefdef_tokens.specs.Unseens.{Finds};
-ghost use Rattle.lefdef_tokens.specs.Views.{IsLater, rest_of};
-ghost use Rattle.def_parts.specs.ClauseViews.{MaskIn, mask_view};
+ghost use Rattle.lefdef_tokens.specs.Places.{behind, past};
+ghost use Rattle.lefdef_tokens.specs.Views.{IsLater, pieces_of, rest_of};
+ghost use Rattle.def_parts.specs.ClauseViews.{MaskAt, mask_view};
 ghost use Rattle.def_parts.specs.PointViews.{with_rest};
-ghost use Rattle.statement_reader.specs.PartViews.{left_after};
-ghost use Rattle.wire_parts.specs.WiringViews.{MarkIn, SpecialKindIn, SpecialWireIn, SpecialWiresIn, SpecialWiringIn, TaperIn, WireIn, WiringIn, first_and_others, kind_view, mark_view, special_kind_view, special_wire_view, special_wiring_view, status_view, taper_view, wire_view, wires_view, wiring_view};
+ghost use Rattle.statement_reader.specs.PartViews.{left_after, tokens_after};
+ghost use Rattle.wire_parts.specs.WiringViews.{MarkAt, SpecialKindAt, SpecialWireAt, SpecialWiresAt, SpecialWiringAt, TaperAt, WireAt, WiringAt, first_and_others, kind_view, mark_view, special_kind_view, special_wire_view, special_wiring_view, status_view, taper_view, wire_view, wires_view, wiring_view};
 
 use crate::paths::{Path, SpecialVia, WireVia, net_path_at, special_path_at, usual_net_path_past};
 use def_parts::number::{int_at, size_at};
@@ -129,6 +130,7 @@ impl WiringStatus {
 fn wiring_status_at<'t>(cursor: Cursor<'t>) -> Option<(WiringStatus, Cursor<'t>)>
     ensures gives { Gives (with_rest status_view) result (read wiring_status (rest_of cursor.entry)) }
     ensures later { IfSome result (λ x. IsLater cursor.entry x.1) }
+    ensures left { IfSome result (λ x. pieces_of x.1.tokens ≡ past 1 (pieces_of cursor.entry.tokens)) }
 {
     let (word, cursor) = cursor.next()?;
     let status = WiringStatus::of_word(word.bytes)?;
@@ -141,7 +143,8 @@ fn wiring_status_at<'t>(cursor: Cursor<'t>) -> Option<(WiringStatus, Cursor<'t>)
 pub fn taper_at<'t>(cursor: Cursor<'t>) -> Option<(Taper<'t>, Cursor<'t>)>
     ensures gives { Gives (with_rest taper_view) result (read taper (rest_of cursor.entry)) }
     ensures later { IfSome result (λ x. IsLater cursor.entry x.1) }
-    ensures lent { IfSome result (λ x. TaperIn cursor.entry.tokens.text.now x.0) }
+    ensures left { IfSome result (λ x. pieces_of x.1.tokens ≡ behind (spell taper (taper_view x.0)) (pieces_of cursor.entry.tokens)) }
+    ensures lent { IfSome result (λ x. TaperAt (pieces_of cursor.entry.tokens) x.0) }
 {
     if cursor.next_is(b"TAPER") {
         let cursor = cursor.key(b"TAPER")?;
@@ -159,7 +162,8 @@ pub fn taper_at<'t>(cursor: Cursor<'t>) -> Option<(Taper<'t>, Cursor<'t>)>
 fn style_at<'t>(cursor: Cursor<'t>) -> Option<(Option<Token<'t>>, Cursor<'t>)>
     ensures gives { Gives (with_rest mask_view) result (read (opt_on (codes "STYLE") int) (rest_of cursor.entry)) }
     ensures later { IfSome result (λ x. IsLater cursor.entry x.1) }
-    ensures lent { IfSome result (λ x. MaskIn cursor.entry.tokens.text.now x.0) }
+    ensures left { IfSome result (λ x. pieces_of x.1.tokens ≡ behind (spell (opt_on (codes "STYLE") int) (mask_view x.0)) (pieces_of cursor.entry.tokens)) }
+    ensures lent { IfSome result (λ x. MaskAt (pieces_of cursor.entry.tokens) x.0) }
 {
     if cursor.next_is(b"STYLE") {
         let (number, cursor) = int_at(cursor.key(b"STYLE")?)?;
@@ -170,12 +174,13 @@ fn style_at<'t>(cursor: Cursor<'t>) -> Option<(Option<Token<'t>>, Cursor<'t>)>
 }
 
 /// `layer [TAPER | TAPERRULE rule] [STYLE number] path`
-#[tactic(auto, unfolding(def_grammar::specs::Wiring::wire))]
+#[tactic(auto, unfolding(def_grammar::specs::Wiring::wire), using(lefdef_tokens::proofs::PlaceLemmas::behind_append))]
 #[inline(always)]
 pub fn wire_at<'t>(cursor: Cursor<'t>) -> Option<(Wire<'t>, Cursor<'t>)>
     ensures gives { Gives (with_rest wire_view) result (read wire (rest_of cursor.entry)) }
     ensures later { IfSome result (λ x. IsLater cursor.entry x.1) }
-    ensures lent { IfSome result (λ x. WireIn cursor.entry.tokens.text.now x.0) }
+    ensures left { IfSome result (λ x. pieces_of x.1.tokens ≡ behind (spell wire (wire_view x.0)) (pieces_of cursor.entry.tokens)) }
+    ensures lent { IfSome result (λ x. WireAt (pieces_of cursor.entry.tokens) x.0) }
 {
     let (layer, cursor) = cursor.name()?;
     let (taper, cursor) = taper_at(cursor)?;
@@ -196,7 +201,8 @@ pub fn wire_at<'t>(cursor: Cursor<'t>) -> Option<(Wire<'t>, Cursor<'t>)>
 fn new_wire_at<'t>(cursor: Cursor<'t>) -> Option<(Wire<'t>, Cursor<'t>)>
     ensures gives { Gives (with_rest wire_view) result (read new_wire (rest_of cursor.entry)) }
     ensures later { IfSome result (λ x. IsLater cursor.entry x.1) }
-    ensures lent { IfSome result (λ x. WireIn cursor.entry.tokens.text.now x.0) }
+    ensures left { IfSome result (λ x. pieces_of x.1.tokens ≡ behind (spell new_wire (wire_view x.0)) (pieces_of cursor.entry.tokens)) }
+    ensures lent { IfSome result (λ x. WireAt (past 1 (pieces_of cursor.entry.tokens)) x.0) }
 {
     wire_at(cursor.key(b"NEW")?)
 }
@@ -209,7 +215,7 @@ impl<'t> Part<'t> for Wire<'t> {
 
     ghost view = { wire_view };
 
-    ghost lent = { WireIn };
+    ghost lent = { λ ps wire. WireAt (past 1 ps) wire };
 
     ghost test = { is_new };
 
@@ -230,19 +236,21 @@ impl<'t> Part<'t> for Wire<'t> {
     fn read(cursor: Cursor<'t>) -> Option<(Wire<'t>, Cursor<'t>)>
         ensures gives { Gives (with_rest wire_view) result (read new_wire (rest_of cursor.entry)) }
         ensures later { IfSome result (λ x. IsLater cursor.entry x.1) }
-        ensures lent { IfSome result (λ x. WireIn cursor.entry.tokens.text.now x.0) }
+        ensures left { IfSome result (λ x. pieces_of x.1.tokens ≡ behind (spell new_wire (wire_view x.0)) (pieces_of cursor.entry.tokens)) }
+        ensures lent { IfSome result (λ x. WireAt (past 1 (pieces_of cursor.entry.tokens)) x.0) }
     {
         new_wire_at(cursor)
     }
 }
 
 /// What comes after `NEW` and a wire with a usual path; `None` says nothing.
-#[tactic(auto, unfolding(def_grammar::specs::Wiring::new_wire, def_grammar::specs::Wiring::wire))]
+#[tactic(auto, unfolding(def_grammar::specs::Wiring::new_wire, def_grammar::specs::Wiring::wire), using(lefdef_tokens::proofs::PlaceLemmas::behind_append))]
 #[inline(always)]
 fn usual_wire_past<'t>(cursor: Cursor<'t>) -> Option<Cursor<'t>>
     ensures begins { IfSome result (λ x. next_passes is_new (rest_of cursor.entry) ≡ true) }
     ensures gives { Finds rest_of result (left_after (read new_wire (rest_of cursor.entry))) }
     ensures later { IfSome result (λ x. IsLater cursor.entry x) }
+    ensures left { Finds (λ x. pieces_of x.tokens) result (tokens_after (spell new_wire) (pieces_of cursor.entry.tokens) (read new_wire (rest_of cursor.entry))) }
 {
     if !cursor.next_is(b"NEW") {
         return None;
@@ -259,15 +267,18 @@ impl<'t> UsualPart<'t> for Wire<'t> {
         ensures begins { IfSome result (λ x. next_passes is_new (rest_of cursor.entry) ≡ true) }
         ensures gives { Finds rest_of result (left_after (read new_wire (rest_of cursor.entry))) }
         ensures later { IfSome result (λ x. IsLater cursor.entry x) }
+        ensures left { Finds (λ x. pieces_of x.tokens) result (tokens_after (spell new_wire) (pieces_of cursor.entry.tokens) (read new_wire (rest_of cursor.entry))) }
     {
         usual_wire_past(cursor)
     }
 }
 
 /// `NOSHIELD`, or a status
+#[tactic(auto, unfolding(def_grammar::specs::Wiring::wiring_status))]
 fn wiring_kind_at<'t>(cursor: Cursor<'t>) -> Option<(WiringKind, Cursor<'t>)>
     ensures gives { Gives (with_rest kind_view) result (read (on (codes "NOSHIELD") empty wiring_status) (rest_of cursor.entry)) }
     ensures later { IfSome result (λ x. IsLater cursor.entry x.1) }
+    ensures left { IfSome result (λ x. pieces_of x.1.tokens ≡ behind (spell (on (codes "NOSHIELD") empty wiring_status) (kind_view x.0)) (pieces_of cursor.entry.tokens)) }
 {
     if cursor.next_is(b"NOSHIELD") {
         let cursor = cursor.key(b"NOSHIELD")?;
@@ -279,12 +290,13 @@ fn wiring_kind_at<'t>(cursor: Cursor<'t>) -> Option<(WiringKind, Cursor<'t>)>
 }
 
 /// `(ROUTED | FIXED | COVER | NOSHIELD) wire (NEW wire)*`
-#[tactic(auto, unfolding(def_grammar::specs::Wiring::wiring))]
+#[tactic(auto, unfolding(def_grammar::specs::Wiring::wiring), using(lefdef_tokens::proofs::PlaceLemmas::behind_append))]
 #[inline(always)]
 pub fn wiring_at<'t>(cursor: Cursor<'t>) -> Option<(Wiring<'t>, Cursor<'t>)>
     ensures gives { Gives (with_rest wiring_view) result (read wiring (rest_of cursor.entry)) }
     ensures later { IfSome result (λ x. IsLater cursor.entry x.1) }
-    ensures lent { IfSome result (λ x. WiringIn cursor.entry.tokens.text.now x.0) }
+    ensures left { IfSome result (λ x. pieces_of x.1.tokens ≡ behind (spell wiring (wiring_view x.0)) (pieces_of cursor.entry.tokens)) }
+    ensures lent { IfSome result (λ x. WiringAt (pieces_of cursor.entry.tokens) x.0) }
 {
     let (kind, cursor) = wiring_kind_at(cursor)?;
     let (first, cursor) = wire_at(cursor)?;
@@ -301,7 +313,8 @@ pub fn wiring_at<'t>(cursor: Cursor<'t>) -> Option<(Wiring<'t>, Cursor<'t>)>
 fn shape_mark_at<'t>(cursor: Cursor<'t>) -> Option<(WireMark<'t>, Cursor<'t>)>
     ensures gives { Gives (with_rest mark_view) result (read (left (codes "SHAPE" ▸ word is_plain)) (rest_of cursor.entry)) }
     ensures later { IfSome result (λ x. IsLater cursor.entry x.1) }
-    ensures lent { IfSome result (λ x. MarkIn cursor.entry.tokens.text.now x.0) }
+    ensures left { IfSome result (λ x. pieces_of x.1.tokens ≡ behind (spell (left (codes "SHAPE" ▸ word is_plain)) (mark_view x.0)) (pieces_of cursor.entry.tokens)) }
+    ensures lent { IfSome result (λ x. MarkAt (pieces_of cursor.entry.tokens) x.0) }
 {
     let (word, cursor) = cursor.plain_word_behind(b"SHAPE")?;
     Some((WireMark::Shape(word), cursor))
@@ -311,7 +324,8 @@ fn shape_mark_at<'t>(cursor: Cursor<'t>) -> Option<(WireMark<'t>, Cursor<'t>)>
 fn style_mark_at<'t>(cursor: Cursor<'t>) -> Option<(WireMark<'t>, Cursor<'t>)>
     ensures gives { Gives (with_rest mark_view) result (read (right (left (codes "STYLE" ▸ int))) (rest_of cursor.entry)) }
     ensures later { IfSome result (λ x. IsLater cursor.entry x.1) }
-    ensures lent { IfSome result (λ x. MarkIn cursor.entry.tokens.text.now x.0) }
+    ensures left { IfSome result (λ x. pieces_of x.1.tokens ≡ behind (spell (right (left (codes "STYLE" ▸ int))) (mark_view x.0)) (pieces_of cursor.entry.tokens)) }
+    ensures lent { IfSome result (λ x. MarkAt (pieces_of cursor.entry.tokens) x.0) }
 {
     let (number, cursor) = int_at(cursor.key(b"STYLE")?)?;
     Some((WireMark::Style(number), cursor))
@@ -321,7 +335,8 @@ fn style_mark_at<'t>(cursor: Cursor<'t>) -> Option<(WireMark<'t>, Cursor<'t>)>
 fn mask_mark_at<'t>(cursor: Cursor<'t>) -> Option<(WireMark<'t>, Cursor<'t>)>
     ensures gives { Gives (with_rest mark_view) result (read (right (right (codes "MASK" ▸ word is_plain))) (rest_of cursor.entry)) }
     ensures later { IfSome result (λ x. IsLater cursor.entry x.1) }
-    ensures lent { IfSome result (λ x. MarkIn cursor.entry.tokens.text.now x.0) }
+    ensures left { IfSome result (λ x. pieces_of x.1.tokens ≡ behind (spell (right (right (codes "MASK" ▸ word is_plain))) (mark_view x.0)) (pieces_of cursor.entry.tokens)) }
+    ensures lent { IfSome result (λ x. MarkAt (pieces_of cursor.entry.tokens) x.0) }
 {
     let (word, cursor) = cursor.plain_word_behind(b"MASK")?;
     Some((WireMark::Mask(word), cursor))
@@ -332,7 +347,8 @@ fn mask_mark_at<'t>(cursor: Cursor<'t>) -> Option<(WireMark<'t>, Cursor<'t>)>
 fn wire_mark_at<'t>(cursor: Cursor<'t>) -> Option<(WireMark<'t>, Cursor<'t>)>
     ensures gives { Gives (with_rest mark_view) result (read wire_mark (rest_of cursor.entry)) }
     ensures later { IfSome result (λ x. IsLater cursor.entry x.1) }
-    ensures lent { IfSome result (λ x. MarkIn cursor.entry.tokens.text.now x.0) }
+    ensures left { IfSome result (λ x. pieces_of x.1.tokens ≡ behind (spell wire_mark (mark_view x.0)) (pieces_of cursor.entry.tokens)) }
+    ensures lent { IfSome result (λ x. MarkAt (past 1 (pieces_of cursor.entry.tokens)) x.0) }
 {
     let cursor = cursor.key(b"+")?;
     if cursor.next_is(b"SHAPE") {
@@ -351,7 +367,7 @@ impl<'t> Part<'t> for WireMark<'t> {
 
     ghost view = { mark_view };
 
-    ghost lent = { MarkIn };
+    ghost lent = { λ ps mark. MarkAt (past 1 ps) mark };
 
     ghost test = { is_plus };
 
@@ -372,18 +388,20 @@ impl<'t> Part<'t> for WireMark<'t> {
     fn read(cursor: Cursor<'t>) -> Option<(WireMark<'t>, Cursor<'t>)>
         ensures gives { Gives (with_rest mark_view) result (read wire_mark (rest_of cursor.entry)) }
         ensures later { IfSome result (λ x. IsLater cursor.entry x.1) }
-        ensures lent { IfSome result (λ x. MarkIn cursor.entry.tokens.text.now x.0) }
+        ensures left { IfSome result (λ x. pieces_of x.1.tokens ≡ behind (spell wire_mark (mark_view x.0)) (pieces_of cursor.entry.tokens)) }
+        ensures lent { IfSome result (λ x. MarkAt (past 1 (pieces_of cursor.entry.tokens)) x.0) }
     {
         wire_mark_at(cursor)
     }
 }
 
 /// `layer width mark* path`
-#[tactic(auto, unfolding(def_grammar::specs::Wiring::special_wire))]
+#[tactic(auto, unfolding(def_grammar::specs::Wiring::special_wire), using(lefdef_tokens::proofs::PlaceLemmas::behind_append))]
 pub fn special_wire_at<'t>(cursor: Cursor<'t>) -> Option<(SpecialWire<'t>, Cursor<'t>)>
     ensures gives { Gives (with_rest special_wire_view) result (read special_wire (rest_of cursor.entry)) }
     ensures later { IfSome result (λ x. IsLater cursor.entry x.1) }
-    ensures lent { IfSome result (λ x. SpecialWireIn cursor.entry.tokens.text.now x.0) }
+    ensures left { IfSome result (λ x. pieces_of x.1.tokens ≡ behind (spell special_wire (special_wire_view x.0)) (pieces_of cursor.entry.tokens)) }
+    ensures lent { IfSome result (λ x. SpecialWireAt (pieces_of cursor.entry.tokens) x.0) }
 {
     let (layer, cursor) = cursor.name()?;
     let (width, cursor) = size_at(cursor)?;
@@ -403,7 +421,8 @@ pub fn special_wire_at<'t>(cursor: Cursor<'t>) -> Option<(SpecialWire<'t>, Curso
 fn new_special_wire_at<'t>(cursor: Cursor<'t>) -> Option<(SpecialWire<'t>, Cursor<'t>)>
     ensures gives { Gives (with_rest special_wire_view) result (read new_special_wire (rest_of cursor.entry)) }
     ensures later { IfSome result (λ x. IsLater cursor.entry x.1) }
-    ensures lent { IfSome result (λ x. SpecialWireIn cursor.entry.tokens.text.now x.0) }
+    ensures left { IfSome result (λ x. pieces_of x.1.tokens ≡ behind (spell new_special_wire (special_wire_view x.0)) (pieces_of cursor.entry.tokens)) }
+    ensures lent { IfSome result (λ x. SpecialWireAt (past 1 (pieces_of cursor.entry.tokens)) x.0) }
 {
     special_wire_at(cursor.key(b"NEW")?)
 }
@@ -416,7 +435,7 @@ impl<'t> Part<'t> for SpecialWire<'t> {
 
     ghost view = { special_wire_view };
 
-    ghost lent = { SpecialWireIn };
+    ghost lent = { λ ps wire. SpecialWireAt (past 1 ps) wire };
 
     ghost test = { is_new };
 
@@ -437,17 +456,20 @@ impl<'t> Part<'t> for SpecialWire<'t> {
     fn read(cursor: Cursor<'t>) -> Option<(SpecialWire<'t>, Cursor<'t>)>
         ensures gives { Gives (with_rest special_wire_view) result (read new_special_wire (rest_of cursor.entry)) }
         ensures later { IfSome result (λ x. IsLater cursor.entry x.1) }
-        ensures lent { IfSome result (λ x. SpecialWireIn cursor.entry.tokens.text.now x.0) }
+        ensures left { IfSome result (λ x. pieces_of x.1.tokens ≡ behind (spell new_special_wire (special_wire_view x.0)) (pieces_of cursor.entry.tokens)) }
+        ensures lent { IfSome result (λ x. SpecialWireAt (past 1 (pieces_of cursor.entry.tokens)) x.0) }
     {
         new_special_wire_at(cursor)
     }
 }
 
 /// `swire (NEW swire)*`
+#[tactic(auto, using(lefdef_tokens::proofs::PlaceLemmas::behind_append))]
 fn wires_of_clause_at<'t>(cursor: Cursor<'t>) -> Option<(SpecialWires<'t>, Cursor<'t>)>
     ensures gives { Gives (with_rest first_and_others) result (read (special_wire ⨟ many is_new new_special_wire) (rest_of cursor.entry)) }
     ensures later { IfSome result (λ x. IsLater cursor.entry x.1) }
-    ensures lent { IfSome result (λ x. SpecialWiresIn cursor.entry.tokens.text.now x.0) }
+    ensures left { IfSome result (λ x. pieces_of x.1.tokens ≡ behind (spell (special_wire ⨟ many is_new new_special_wire) (first_and_others x.0)) (pieces_of cursor.entry.tokens)) }
+    ensures lent { IfSome result (λ x. SpecialWiresAt (pieces_of cursor.entry.tokens) x.0) }
 {
     let (first, cursor) = special_wire_at(cursor)?;
     let (others, cursor) = read_parts::<SpecialWire<'t>>(cursor)?;
@@ -469,7 +491,8 @@ fn next_is_in_clause<'t>(cursor: Cursor<'t>) -> bool
 fn special_wires_at<'t>(cursor: Cursor<'t>) -> Option<(Option<SpecialWires<'t>>, Cursor<'t>)>
     ensures gives { Gives (with_rest wires_view) result (read special_wires (rest_of cursor.entry)) }
     ensures later { IfSome result (λ x. IsLater cursor.entry x.1) }
-    ensures lent { IfSome result (λ x. IfSome x.0 (λ w. SpecialWiresIn cursor.entry.tokens.text.now w)) }
+    ensures left { IfSome result (λ x. pieces_of x.1.tokens ≡ behind (spell special_wires (wires_view x.0)) (pieces_of cursor.entry.tokens)) }
+    ensures lent { IfSome result (λ x. IfSome x.0 (λ w. SpecialWiresAt (pieces_of cursor.entry.tokens) w)) }
 {
     if next_is_in_clause(cursor) {
         let (wires, cursor) = wires_of_clause_at(cursor)?;
@@ -480,10 +503,12 @@ fn special_wires_at<'t>(cursor: Cursor<'t>) -> Option<(Option<SpecialWires<'t>>,
 }
 
 /// `SHIELD net`, or a status
+#[tactic(auto, unfolding(def_grammar::specs::Wiring::wiring_status))]
 fn special_kind_at<'t>(cursor: Cursor<'t>) -> Option<(SpecialWiringKind<'t>, Cursor<'t>)>
     ensures gives { Gives (with_rest special_kind_view) result (read (on (codes "SHIELD") name wiring_status) (rest_of cursor.entry)) }
     ensures later { IfSome result (λ x. IsLater cursor.entry x.1) }
-    ensures lent { IfSome result (λ x. SpecialKindIn cursor.entry.tokens.text.now x.0) }
+    ensures left { IfSome result (λ x. pieces_of x.1.tokens ≡ behind (spell (on (codes "SHIELD") name wiring_status) (special_kind_view x.0)) (pieces_of cursor.entry.tokens)) }
+    ensures lent { IfSome result (λ x. SpecialKindAt (pieces_of cursor.entry.tokens) x.0) }
 {
     if cursor.next_is(b"SHIELD") {
         let (net, cursor) = cursor.name_behind(b"SHIELD")?;
@@ -495,11 +520,12 @@ fn special_kind_at<'t>(cursor: Cursor<'t>) -> Option<(SpecialWiringKind<'t>, Cur
 }
 
 /// `(ROUTED | FIXED | COVER | SHIELD net) [swire (NEW swire)*]`
-#[tactic(auto, unfolding(def_grammar::specs::Wiring::special_wiring))]
+#[tactic(auto, unfolding(def_grammar::specs::Wiring::special_wiring), using(lefdef_tokens::proofs::PlaceLemmas::behind_append))]
 pub fn special_wiring_at<'t>(cursor: Cursor<'t>) -> Option<(SpecialWiring<'t>, Cursor<'t>)>
     ensures gives { Gives (with_rest special_wiring_view) result (read special_wiring (rest_of cursor.entry)) }
     ensures later { IfSome result (λ x. IsLater cursor.entry x.1) }
-    ensures lent { IfSome result (λ x. SpecialWiringIn cursor.entry.tokens.text.now x.0) }
+    ensures left { IfSome result (λ x. pieces_of x.1.tokens ≡ behind (spell special_wiring (special_wiring_view x.0)) (pieces_of cursor.entry.tokens)) }
+    ensures lent { IfSome result (λ x. SpecialWiringAt (pieces_of cursor.entry.tokens) x.0) }
 {
     let (kind, cursor) = special_kind_at(cursor)?;
     let (wires, cursor) = special_wires_at(cursor)?;

@@ -11,7 +11,7 @@ loop-read-preserved g c =
     record {
       text = e.same ∙ i.text;
       records = one_more _ _ l.found.items c.push.new.self.items c.in-Some.read c.next.new.self.place l.statements.text.now c.next.new.self.text.now c.next.new.self.pos items e.same i.records e.gives;
-      lent = one_more_lent l.found.items c.push.new.self.items c.in-Some.read.statement l.statements.text.now c.args.text.now items i.text i.lent e.lent;
+      lent = one_more_lent l.found.items c.push.new.self.items c.in-Some.read.statement c.in-Some.read.tokens l.statements.text.now c.args.text.now items i.text i.lent e.tokens e.lent;
     }
 
 pub returns-clause-records : goal.returns-clause-records

@@ -1,14 +1,13 @@
 use Rattle.std.proofs.Common.{◌≡◌, length}
-use Rattle.lefdef_tokens.specs.Views.{rest_of}
+use Rattle.lefdef_tokens.specs.Views.{pieces_of, rest_of}
 use Rattle.place_parts.specs.ClauseViews.{clauses_of}
 use Rattle.place_parts.proofs.PlacingSteps.{Passing}
 use Rattle.place_parts.proofs.placing.placing_clause.Given as goal
 
 abbrev pub invariant-loop-clause : goal.invariant-loop-clause
 invariant-loop-clause l = record {
-  passing : Passing (clauses_of l.fn.clauses) (rest_of l.fn.clauses.cursor) (clauses_of l.left) (rest_of l.left.cursor);
+  passing : Passing (clauses_of l.fn.clauses) (rest_of l.fn.clauses.cursor) (pieces_of l.fn.clauses.cursor.tokens) (clauses_of l.left) (rest_of l.left.cursor) (pieces_of l.left.cursor.tokens);
   at : l.at ≡ length (rest_of l.left.cursor).words;
-  text : l.left.cursor.tokens.text.now ≡ l.fn.clauses.cursor.tokens.text.now;
 }
 
 abbrev pub decreases-loop-clause : goal.decreases-loop-clause

@@ -1,10 +1,11 @@
-use Rattle.std.proofs.Common.{◌≡◌, ℕ, length, sym, ap, ◌∙◌, Some, None}
+use Rattle.std.proofs.Common.{ℕ, length, sym, ap, ◌∙◌}
 use Rattle.form_meanings.specs.Words.{is_plus}
-use Rattle.form_meanings.specs.Meaning.{repeat}
-use Rattle.statement_model.specs.Form.{read}
+use Rattle.form_meanings.specs.Meaning.{items, repeat}
+use Rattle.statement_model.specs.Form.{read, spell}
 use Rattle.def_grammar.specs.Components.{clause}
-use Rattle.lefdef_tokens.specs.Views.{rest_of}
+use Rattle.lefdef_tokens.specs.Views.{pieces_of, rest_of}
 use Rattle.statement_reader.proofs.PartLoops.{items_are}
+use Rattle.statement_reader.proofs.PastLoops.{after_items}
 use Rattle.place_parts.proofs.StandingSteps.{none_next}
 use Rattle.place_parts.proofs.standing.noted_clauses_at.Goals as goal
 
@@ -19,3 +20,10 @@ pub returns-clause-gives : goal.returns-clause-gives
 returns-clause-gives c =
     ap (λ (n : ℕ). repeat n is_plus (read clause) (rest_of c.args.cursor)) (sym c.len-most.ensures)
     ∙ items_are is_plus (read clause) c.len-most.result (rest_of c.args.cursor) (rest_of c.in_ok-noted.later) c.in_ok-noted.ensures.gives
+
+pub returns-clause-left : goal.returns-clause-left
+returns-clause-left c =
+    let n = c.len-most.result in
+    let here = rest_of c.args.cursor in
+    let later = rest_of c.in_ok-noted.later in
+    after_items (spell clause) (items n is_plus (read clause) here) (repeat n is_plus (read clause) here) later (pieces_of c.args.cursor.tokens) (pieces_of c.in_ok-noted.later.tokens) (items_are is_plus (read clause) n here later c.in_ok-noted.ensures.gives) c.in_ok-noted.ensures.left

@@ -1,10 +1,11 @@
 use Rattle.std.proofs.Common.{◌-◌}
-use Rattle.lefdef_tokens.specs.Views.{rest_of, IsLater}
-use Rattle.statement_reader.specs.PartViews.{Going}
+use Rattle.lefdef_tokens.specs.Views.{pieces_of, rest_of, IsLater}
+use Rattle.statement_reader.specs.PartViews.{Going, GoingPast}
 use Rattle.statement_reader.proofs.parts.skip_usual.Given as goal
 
 abbrev pub invariant-loop-passed : goal.invariant-loop-passed
 invariant-loop-passed g l = record {
   going : Going g.P.Part.test g.P.Part.reads l.most (rest_of l.cursor) (l.most - l.passed) (rest_of l.left);
+  past : GoingPast g.P.Part.spells g.P.Part.test g.P.Part.reads l.most (rest_of l.cursor) (pieces_of l.cursor.tokens) (l.most - l.passed) (rest_of l.left) (pieces_of l.left.tokens);
   later : IsLater l.cursor l.left;
 }
