@@ -1,5 +1,5 @@
 -- The fault of a text is the first fault of the statement that has one.
-use Rattle.std.proofs.Common.{◌≡◌, ℕ, ◌<◌, Bool, true, false, List, [], ◌∷◌, ◌++◌, length, nat_lt, refl, sym, ap, ◌∙◌, append_assoc, inl, inr, Option, Some, None, unwrap_or, Result, Ok, Err, arith}
+use Rattle.std.proofs.Common.{◌≡◌, ℕ, ◌<◌, true, false, List, [], ◌∷◌, ◌++◌, length, nat_lt, refl, sym, ap, ◌∙◌, append_assoc, inl, inr, Option, Some, None, unwrap_or, Result, Ok, Err, arith}
 use Rattle.std.proofs.lemmas.Bool.{cases_Bool}
 use Rattle.std.proofs.lemmas.Bool.Decides.{nat_tests}
 use Rattle.design_model.specs.declared.TheConstants.{MAX_TEXT}
@@ -7,9 +7,9 @@ use Rattle.design_model.specs.declared.fault.Fault.{Fault}
 use Rattle.design_model.specs.declared.fault.FaultCode.TheVariants.{TooLong}
 use Rattle.statement_model.specs.Tokens.{Token, Lexed, tokens}
 use Rattle.statement_model.specs.Boundaries.{is_whole, cut, statement_at, statement_from, unfinished}
-use Rattle.statement_model.specs.Reading.{fault_at, read_at, read_found, read_form, read_from, read_text, nothing_left, with_left}
+use Rattle.statement_model.specs.Reading.{fault_at, read_at, read_found, read_form, read_text, nothing_left, with_left}
 use Rattle.lef_grammar.specs.HeaderWords.{HeaderWords, header_goes_on, after_header_word, fault_behind, header_fault}
-use Rattle.lef_grammar.specs.LefRecords.{Block, outermost, LefRecord, lef_ending, lef, header_words, first_fault, with_first_fault, read_lef_at, fault_where, fault_on, with_fault, read_lef}
+use Rattle.lef_grammar.specs.LefRecords.{Block, outermost, LefRecord, lef_ending, lef, header_words, first_fault, with_first_fault, fault_where, fault_on, read_lef}
 
 -- behind a header no fault stands where the tokens have none, and no other than theirs
 none_behind : (words : HeaderWords) (ps : List Token) (n : ℕ) → fault_behind words ps (Ok n) ≡ None
@@ -46,6 +46,9 @@ first_of_tokens : (b : Block) (ps : List Token) (f : Fault) → first_fault b ps
 first_of_tokens b [] f = refl
 first_of_tokens b (p ∷ ps) f = own_of (header_words b p.bytes) ps f
 
+found_same : {A F : Type 0} (x y : A) → ◌≡◌ {A = Result (Option A) F} (Ok (Some x)) (Ok (Some y)) → x ≡ y
+found_same x y h = cc
+
 module _ (b : Block) where
   -- by the first statement, and by what a form says of it
   abbrev on_cut : Result ℕ Fault → Fault → List Token → Option (List Token × List Token) → Fault
@@ -77,8 +80,9 @@ module _ (b : Block) where
     on_form : (l : Lexed) (all : List Token) (r : Result (LefRecord × Block) Fault) → with_left lef l r ≡ Ok (Some (rec, after, left))
         → fault_where l.end f b all r (λ after. fault_on l.end f after [] l.pieces) ≡ fault_on left.end f after [] left.pieces
     on_form l all (Ok x) h =
-        let block : x.1 ≡ after = cc in
-        let rest : l ≡ left = cc in
+        let same = found_same (x.0, x.1, l) (rec, after, left) h in
+        let block : x.1 ≡ after = ap (λ (z : LefRecord × Block × Lexed). z.1) same in
+        let rest : l ≡ left = ap (λ (z : LefRecord × Block × Lexed). z.2) same in
         rw (← block, ← rest) refl
     on_form l all (Err g) h = absurd (cc)
 
