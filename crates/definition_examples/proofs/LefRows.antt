@@ -84,7 +84,7 @@ generating_header = refl
 
 -- a header without a name, and one that a ; follows
 via_without_name : IsRefused (codes "VIA ; DEFAULT") NoForm 0 × IsRefused (codes "VIA v DEFAULT ;") NoForm 14 × IsRefused (codes "LAYER met1 ;\nEND met1") NoForm 11
-unfolding read_text read_on fault_on lex last_of repeat split_at number_at is_extent is_distance is_array_count kept_statement distance whole to_end size_statement point two_points corners outermost_statement named_header bare_header layer_statement type_statement width_statement spacing_statement site_statement via_statement via_shape via_corners via_cuts via_metals four_distances rule_statement rule_layer_statement macro_statement class_statement origin_statement macro_site_statement inner_header pin_statement port_statement port_rect_where port_rect_statement kept_block_statement closed_by closed_alone extension_token generating_statement lef_statement
+unfolding read_text read_on fault_on fault_behind lex last_of repeat split_at number_at is_extent is_distance is_array_count kept_statement distance whole to_end size_statement point two_points corners outermost_statement named_header bare_header layer_statement type_statement width_statement spacing_statement site_statement via_statement via_shape via_corners via_cuts via_metals four_distances rule_statement rule_layer_statement macro_statement class_statement origin_statement macro_site_statement inner_header pin_statement port_statement port_rect_where port_rect_statement kept_block_statement closed_by closed_alone extension_token generating_statement lef_statement
 via_without_name = (refl, refl, refl)
 
 -- a fault of the tokens where the header of a VIA or a VIARULE goes on, and one where it has ended or is none
