@@ -53,14 +53,14 @@ module _ (text : List ℕ) (old now : Library) (group : List LefRecord) (b : Blo
       let left = left_from text pos in
       let read = own_record b left (Some (rec, after, left_from text end)) (read_at lef b left) h in
       record {
-    front = a.front ++ rec ∷ [];
-    so_far = so_far_on lef outermost text a.front b [] pos a.so_far after end rec read refl;
-    fits = a.fits;
-    fault = λ f. a.fault f ∙ fault_later b left f after (left_from text end) rec read;
-    same = λ recs.
-        ap (with_text old) (append_assoc a.front (rec ∷ []) recs) ∙ a.same (rec ∷ recs) ∙ step rec now group recs
-        ∙ ap (λ (s : Library × List LefRecord). all_of s recs) (sym e);
-  }
+        front = a.front ++ rec ∷ [];
+        so_far = so_far_on lef outermost text a.front b [] pos a.so_far after end rec read refl;
+        fits = a.fits;
+        fault = λ f. a.fault f ∙ fault_later b left f after (left_from text end) rec read;
+        same = λ recs.
+            ap (with_text old) (append_assoc a.front (rec ∷ []) recs) ∙ a.same (rec ∷ recs) ∙ step rec now group recs
+            ∙ ap (λ (s : Library × List LefRecord). all_of s recs) (sym e);
+      }
 
   pub adding_fault : (f : Fault) → read_lef_at b (left_from text pos) ≡ Err f → read_lef text ≡ Err f
   adding_fault f h =

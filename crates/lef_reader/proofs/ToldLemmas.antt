@@ -79,11 +79,10 @@ module _ (faults : FaultsStop lef) (goes_on : ReadingGoesOn lef) (ends : Reading
         let s = step_of (read_lef_at b l) rec (sym (next_is b l).0 ∙ h.0) in
         let own = own_record b l (Some (rec, s.after, s.left)) (read_at lef b l) s.is in
         let later : Give rs (Err f) (left_at s.after s.left) = subst (Give rs (Err f)) ((next_is b l).1 ∙ ap (left_after (left_at b l)) s.is) h.1 in
-        let told = told_fault rs s.after s.left f later in
-        (
+        let told = told_fault rs s.after s.left f later in (
           told.0,
           goes_on b s.after [] l s.left rec own refl ∙ ap (λ (x : Result (List LefRecord) Fault). x >> λ recs. Ok (rec ∷ recs)) told.1,
-          fault_later b l told.0 s.after s.left rec own ∙ told.2
+          fault_later b l told.0 s.after s.left rec own ∙ told.2,
         )
 
   long_end : (text : List ℕ) (recs : List LefRecord) → nat_lt MAX_TEXT (length text) ≡ true → Give recs (Ok None) (record { text = text; block = outermost; left = tokens text }) → ⊥

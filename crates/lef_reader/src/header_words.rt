@@ -51,9 +51,9 @@ impl HeaderWords {
     {
         match self {
             HeaderWords::Via => HeaderWords::Via,
-            HeaderWords::GeneratingRule(header) => HeaderWords::GeneratingRule(
-                header.after_word(word),
-            ),
+            HeaderWords::GeneratingRule(header) => HeaderWords::GeneratingRule(header.after_word(
+                word,
+            )),
         }
     }
 
