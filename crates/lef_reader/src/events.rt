@@ -6,6 +6,7 @@ ghost use Rattle.lef_reader.specs.Events.{after_next, events_of, found_view, nex
 ghost use Rattle.lef_reader.specs.StatementViews.{StatementIn};
 
 use crate::block::Block;
+use crate::header_words::first_fault;
 use crate::statement::LefStatement;
 use design_model::MAX_TEXT;
 use design_model::fault::{Fault, FaultCode};
@@ -25,12 +26,6 @@ fn step<'t, S: Statement<'t>>(
     ensures gives { Steps S.grammar S.place_view S.view text.now place.old pos.old result place.new pos.new }
     ensures lent { IfOk result (λ found. IfSome found (λ s. S.lent text.now s)) }
 {
-    if text.len() > MAX_TEXT {
-        return Err(Fault {
-            code: FaultCode::TooLong,
-            pos: 0,
-        });
-    }
     let Some(read) = read_statement::<S>(*place, text, *pos)? else {
         return Ok(None);
     };
@@ -76,6 +71,15 @@ impl<'l> LefEvents<'l> {
         ensures left { self.new ≡ after_next self.old }
         ensures lent { IfOk result (λ found. IfSome found (λ s. StatementIn self.old.text s)) }
     {
-        step::<LefStatement<'l>>(&mut self.block, self.text, &mut self.pos)
+        if self.text.len() > MAX_TEXT {
+            return Err(Fault {
+                code: FaultCode::TooLong,
+                pos: 0,
+            });
+        }
+        match step::<LefStatement<'l>>(&mut self.block, self.text, &mut self.pos) {
+            Err(fault) => Err(first_fault(self.block, self.text, self.pos, fault)),
+            found => found,
+        }
     }
 }

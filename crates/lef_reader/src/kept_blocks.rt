@@ -59,7 +59,7 @@ impl<'l> KeptStatement<'l> {
 
 impl RuleHeader {
     /// Whether a word is one of the header that may still come.
-    fn continues(self, word: &[u8]) -> bool
+    pub(crate) fn continues(self, word: &[u8]) -> bool
         ensures { result ≡ continues_rule (header_view self) word.now }
     {
         match self {
@@ -71,7 +71,7 @@ impl RuleHeader {
     }
 
     /// What may still come after a word of the header.
-    fn after_word(self, word: &[u8]) -> RuleHeader
+    pub(crate) fn after_word(self, word: &[u8]) -> RuleHeader
         ensures { header_view result ≡ after_word (header_view self) word.now }
     {
         match self {

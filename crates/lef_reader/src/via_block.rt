@@ -111,7 +111,7 @@ impl ViaStage {
 }
 
 /// Whether a word can stand in the header.
-fn is_via_word(word: &[u8]) -> bool
+pub(crate) fn is_via_word(word: &[u8]) -> bool
     ensures { result ≡ is_via_word word.now }
 {
     is_word(word, b"DEFAULT") || is_word(word, b"GENERATED") || is_word(word, b"TOPOFSTACKONLY")
