@@ -5,7 +5,7 @@ ghost use Rattle.lef_grammar.specs.LefRecords.{lef};
 ghost use Rattle.statement_reader.specs.StatementViews.{CutsStatement};
 ghost use Rattle.lefdef_tokens.specs.Views.{pieces_of, span_of};
 ghost use Rattle.lef_reader.specs.LefReading.{ReadsLef};
-ghost use Rattle.lef_reader.specs.StatementViews.{StatementIn, block_view};
+ghost use Rattle.lef_reader.specs.StatementViews.{StatementAt, block_view};
 
 use crate::block::Block;
 use crate::header_words::first_fault;
@@ -26,7 +26,7 @@ pub fn read_lef_statement<'l>(
     requires { pos ≤ length text.now }
     ensures reads { ReadsLef block.entry text.now pos result }
     ensures cuts { CutsStatement lef block_view block.entry text.now pos result }
-    ensures lent { IfOk result (λ found. IfSome found (λ x. StatementIn text.now x.statement)) }
+    ensures lent { IfOk result (λ found. IfSome found (λ x. StatementAt (pieces_of x.tokens) x.statement)) }
     ensures text { IfOk result (λ found. IfSome found (λ x. x.tokens.text.now ≡ text.now)) }
     ensures span { IfOk result (λ found. IfSome found (λ x. span_of (pieces_of x.tokens) ≡ record { lo = x.start; hi = x.end })) }
 {
