@@ -22,7 +22,7 @@ fn at(code: FaultCode, pos: usize) -> Result<usize, Fault> {
 
 #[test]
 fn texts(rt: HostRuntime) {
-    let rows: [(&[u8], Result<usize, Fault>); 12] = [
+    let rows: [(&[u8], Result<usize, Fault>); 17] = [
         (b"", Ok(0)),
         (
             b"UNITS DATABASE MICRONS 1000 ; END UNITS LAYER met1 TYPE ROUTING ; WIDTH 0.14 ; END met1 END LIBRARY",
@@ -43,6 +43,11 @@ fn texts(rt: HostRuntime) {
         (b"VIA v RECT 0 0 1 1 ; END v", at(FaultCode::NoForm, 6)),
         (b"VIA ; DEFAULT", at(FaultCode::NoForm, 0)),
         (b"VIA v \x7f", at(FaultCode::RefusedByte, 6)),
+        (b"VIA ; DEFAULT # \x7f", at(FaultCode::RefusedByte, 16)),
+        (b"VIA ; LAYER \x7f", at(FaultCode::NoForm, 0)),
+        (b"VIARULE ( GENERATE \"x", at(FaultCode::OpenString, 19)),
+        (b"VIARULE ( GENERATE GENERATE \x7f", at(FaultCode::NoForm, 0)),
+        (b"VIA v VIARULE ; \x7f", at(FaultCode::NoForm, 6)),
         (b"VIA v \"x", at(FaultCode::OpenString, 6)),
     ];
     for (text, want) in rows {

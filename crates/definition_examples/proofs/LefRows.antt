@@ -1,7 +1,7 @@
 -- Worked rows of reading LEF, by computing.
-use Rattle.std.proofs.Common.{◌≡◌, List, ℕ, [], ◌∷◌, None, Ok, Err, refl, codes, true}
+use Rattle.std.proofs.Common.{◌≡◌, List, ℕ, [], ◌∷◌, ◌++◌, None, Ok, Err, refl, codes, true}
 use Rattle.design_model.specs.declared.fault.FaultCode.{FaultCode}
-use Rattle.design_model.specs.declared.fault.FaultCode.TheVariants.{NoForm, Unfinished, Number}
+use Rattle.design_model.specs.declared.fault.FaultCode.TheVariants.{RefusedByte, NoForm, Unfinished, Number}
 use Rattle.design_model.specs.Units.{distance, whole}
 use Rattle.form_meanings.specs.Meaning.{repeat}
 use Rattle.form_meanings.specs.Words.{number_at, split_at}
@@ -10,6 +10,7 @@ use Rattle.statement_model.specs.Boundaries.{alone, with_next, up_to, last_of}
 use Rattle.statement_model.specs.Reading.{fault_at, read_on, read_text}
 use Rattle.lef_grammar.specs.Extents.{is_extent, is_distance, is_array_count, enclosed, bare, masked, unmasked, kept_statement, to_end, size_statement, point, two_points, corners}
 use Rattle.lef_grammar.specs.Outermost.{end_library, opens_layer, opens_site, opens_macro, opens_rule, opens_via, opens_generating_rule, opens_units, opens_spacing, opens_properties, opens_extension, kept_outside, outermost_statement, named_header, bare_header}
+use Rattle.lef_grammar.specs.HeaderWords.{fault_behind}
 use Rattle.lef_grammar.specs.LayerBlock.{end_layer, layer_type, layer_width, layer_spacing, kept_in_layer, layer_statement, type_statement, width_statement, spacing_statement}
 use Rattle.lef_grammar.specs.SiteBlock.{end_site, site_size, kept_in_site, site_statement}
 use Rattle.lef_grammar.specs.ViaBlock.{in_header, end_via, via_word, via_layer, via_rect, kept_in_via, via_statement, via_shape, via_corners, via_cuts, via_metals, four_distances}
@@ -18,7 +19,7 @@ use Rattle.lef_grammar.specs.MacroBlock.{end_macro, class, size, opens_pin, open
 use Rattle.lef_grammar.specs.PinBlock.{end_pin, opens_port, kept_in_pin, pin_statement}
 use Rattle.lef_grammar.specs.PortBlock.{end_port, port_layer, port_array, masked_port_array, port_rect, port_shape, port_rect_statement, port_rect_where, port_statement}
 use Rattle.lef_grammar.specs.KeptBlocks.{units, extension, obstruction, density, end_kept, lone_word, kept_in_kept, closed_by, closed_alone, extension_token, generating_statement, kept_block_statement}
-use Rattle.lef_grammar.specs.LefRecords.{LefRecord, outermost, via, rule, macro, pin, port, kept, outside, in_layer, in_site, in_via, in_rule, in_rule_layer, in_macro, in_pin, in_port, in_kept, lef_ending, lef_statement, read_lef}
+use Rattle.lef_grammar.specs.LefRecords.{LefRecord, outermost, via, rule, macro, pin, port, kept, outside, in_layer, in_site, in_via, in_rule, in_rule_layer, in_macro, in_pin, in_port, in_kept, lef_ending, lef_statement, fault_on, read_lef}
 
 -- the text has this fault
 abbrev IsRefused : List ℕ → FaultCode → ℕ → Type 0
@@ -32,7 +33,7 @@ Says text recs = read_lef text ≡ Ok recs
 lef_read : Says [] []
     × Says (codes "MACRO INV CLASS CORE ; SIZE 0.92 BY 2.72 ; END INV")
     (outside (opens_macro (codes "INV")) ∷ in_macro (class (codes "CORE") []) ∷ in_macro (size (codes "0.92") (codes "2.72")) ∷ in_macro end_macro ∷ [])
-unfolding read_text read_on lex last_of repeat split_at number_at is_extent is_distance is_array_count kept_statement distance whole to_end size_statement point two_points corners outermost_statement named_header bare_header layer_statement type_statement width_statement spacing_statement site_statement via_statement via_shape via_corners via_cuts via_metals four_distances rule_statement rule_layer_statement macro_statement class_statement origin_statement macro_site_statement inner_header pin_statement port_statement port_rect_where port_rect_statement kept_block_statement closed_by closed_alone extension_token generating_statement lef_statement
+unfolding read_text read_on fault_on lex last_of repeat split_at number_at is_extent is_distance is_array_count kept_statement distance whole to_end size_statement point two_points corners outermost_statement named_header bare_header layer_statement type_statement width_statement spacing_statement site_statement via_statement via_shape via_corners via_cuts via_metals four_distances rule_statement rule_layer_statement macro_statement class_statement origin_statement macro_site_statement inner_header pin_statement port_statement port_rect_where port_rect_statement kept_block_statement closed_by closed_alone extension_token generating_statement lef_statement
 lef_read = (refl, refl)
 
 -- a layer, and a site whose CLASS is kept
@@ -48,7 +49,7 @@ layer_and_site : Says (codes "LAYER m TYPE ROUTING ; WIDTH 0.14 x ; SPACING -0.1
     ∷ in_site (site_size (codes "1") (codes "2"))
     ∷ in_site end_site
     ∷ [])
-unfolding read_text read_on lex last_of repeat split_at number_at is_extent is_distance is_array_count kept_statement distance whole to_end size_statement point two_points corners outermost_statement named_header bare_header layer_statement type_statement width_statement spacing_statement site_statement via_statement via_shape via_corners via_cuts via_metals four_distances rule_statement rule_layer_statement macro_statement class_statement origin_statement macro_site_statement inner_header pin_statement port_statement port_rect_where port_rect_statement kept_block_statement closed_by closed_alone extension_token generating_statement lef_statement
+unfolding read_text read_on fault_on lex last_of repeat split_at number_at is_extent is_distance is_array_count kept_statement distance whole to_end size_statement point two_points corners outermost_statement named_header bare_header layer_statement type_statement width_statement spacing_statement site_statement via_statement via_shape via_corners via_cuts via_metals four_distances rule_statement rule_layer_statement macro_statement class_statement origin_statement macro_site_statement inner_header pin_statement port_statement port_rect_where port_rect_statement kept_block_statement closed_by closed_alone extension_token generating_statement lef_statement
 layer_and_site = refl
 
 -- words of the header of a VIA, in any order and number; later such a word begins a statement
@@ -62,7 +63,7 @@ via_header : Says (codes "VIA v DEFAULT TOPOFSTACKONLY DEFAULT LAYER m ; DEFAULT
     ∷ in_via (via_rect (unmasked (bare (codes "0") (codes "0")) (bare (codes "1") (codes "1"))))
     ∷ in_via end_via
     ∷ [])
-unfolding read_text read_on lex last_of repeat split_at number_at is_extent is_distance is_array_count kept_statement distance whole to_end size_statement point two_points corners outermost_statement named_header bare_header layer_statement type_statement width_statement spacing_statement site_statement via_statement via_shape via_corners via_cuts via_metals four_distances rule_statement rule_layer_statement macro_statement class_statement origin_statement macro_site_statement inner_header pin_statement port_statement port_rect_where port_rect_statement kept_block_statement closed_by closed_alone extension_token generating_statement lef_statement
+unfolding read_text read_on fault_on lex last_of repeat split_at number_at is_extent is_distance is_array_count kept_statement distance whole to_end size_statement point two_points corners outermost_statement named_header bare_header layer_statement type_statement width_statement spacing_statement site_statement via_statement via_shape via_corners via_cuts via_metals four_distances rule_statement rule_layer_statement macro_statement class_statement origin_statement macro_site_statement inner_header pin_statement port_statement port_rect_where port_rect_statement kept_block_statement closed_by closed_alone extension_token generating_statement lef_statement
 via_header = refl
 
 -- GENERATE and then DEFAULT in the header of a VIARULE, and no other; its VIA is a statement
@@ -78,13 +79,26 @@ generating_header : Says (codes "VIARULE r GENERATE DEFAULT LAYER m ; END r VIAR
     ∷ in_kept (kept_in_kept (codes "VIA") (codes "v" ∷ codes ";" ∷ []))
     ∷ in_kept end_kept
     ∷ [])
-unfolding read_text read_on lex last_of repeat split_at number_at is_extent is_distance is_array_count kept_statement distance whole to_end size_statement point two_points corners outermost_statement named_header bare_header layer_statement type_statement width_statement spacing_statement site_statement via_statement via_shape via_corners via_cuts via_metals four_distances rule_statement rule_layer_statement macro_statement class_statement origin_statement macro_site_statement inner_header pin_statement port_statement port_rect_where port_rect_statement kept_block_statement closed_by closed_alone extension_token generating_statement lef_statement
+unfolding read_text read_on fault_on lex last_of repeat split_at number_at is_extent is_distance is_array_count kept_statement distance whole to_end size_statement point two_points corners outermost_statement named_header bare_header layer_statement type_statement width_statement spacing_statement site_statement via_statement via_shape via_corners via_cuts via_metals four_distances rule_statement rule_layer_statement macro_statement class_statement origin_statement macro_site_statement inner_header pin_statement port_statement port_rect_where port_rect_statement kept_block_statement closed_by closed_alone extension_token generating_statement lef_statement
 generating_header = refl
 
 -- a header without a name, and one that a ; follows
 via_without_name : IsRefused (codes "VIA ; DEFAULT") NoForm 0 × IsRefused (codes "VIA v DEFAULT ;") NoForm 14 × IsRefused (codes "LAYER met1 ;\nEND met1") NoForm 11
-unfolding read_text read_on lex last_of repeat split_at number_at is_extent is_distance is_array_count kept_statement distance whole to_end size_statement point two_points corners outermost_statement named_header bare_header layer_statement type_statement width_statement spacing_statement site_statement via_statement via_shape via_corners via_cuts via_metals four_distances rule_statement rule_layer_statement macro_statement class_statement origin_statement macro_site_statement inner_header pin_statement port_statement port_rect_where port_rect_statement kept_block_statement closed_by closed_alone extension_token generating_statement lef_statement
+unfolding read_text read_on fault_on fault_behind lex last_of repeat split_at number_at is_extent is_distance is_array_count kept_statement distance whole to_end size_statement point two_points corners outermost_statement named_header bare_header layer_statement type_statement width_statement spacing_statement site_statement via_statement via_shape via_corners via_cuts via_metals four_distances rule_statement rule_layer_statement macro_statement class_statement origin_statement macro_site_statement inner_header pin_statement port_statement port_rect_where port_rect_statement kept_block_statement closed_by closed_alone extension_token generating_statement lef_statement
 via_without_name = (refl, refl, refl)
+
+-- a fault of the tokens where the header of a VIA or a VIARULE goes on, and one where it has ended or is none
+abbrev with_refused_byte : List ℕ → List ℕ
+with_refused_byte text = text ++ 127 ∷ []
+
+fault_behind_header : IsRefused (with_refused_byte (codes "VIA ; # ")) RefusedByte 8
+    × IsRefused (with_refused_byte (codes "VIARULE ( GENERATE DEFAULT ")) RefusedByte 27
+    × IsRefused (with_refused_byte (codes "NONDEFAULTRULE w VIA ; DEFAULT DEFAULT ")) RefusedByte 39
+    × IsRefused (with_refused_byte (codes "VIARULE ( GENERATE GENERATE ")) NoForm 0
+    × IsRefused (with_refused_byte (codes "VIA ; LAYER ")) NoForm 0
+    × IsRefused (with_refused_byte (codes "VIA v VIARULE ; ")) NoForm 6
+unfolding read_text read_on fault_on fault_behind lex last_of repeat split_at number_at is_extent is_distance is_array_count kept_statement distance whole to_end size_statement point two_points corners outermost_statement named_header bare_header layer_statement type_statement width_statement spacing_statement site_statement via_statement via_shape via_corners via_cuts via_metals four_distances rule_statement rule_layer_statement macro_statement class_statement origin_statement macro_site_statement inner_header pin_statement port_statement port_rect_where port_rect_statement kept_block_statement closed_by closed_alone extension_token generating_statement lef_statement
+fault_behind_header = (refl, refl, refl, refl, refl, refl)
 
 -- blocks within a rule
 rule_blocks : Says (codes "NONDEFAULTRULE w LAYER m WIDTH 2 ; END m VIA v DEFAULT END v SPACING x ; END SPACING END w")
@@ -100,7 +114,7 @@ rule_blocks : Says (codes "NONDEFAULTRULE w LAYER m WIDTH 2 ; END m VIA v DEFAUL
     ∷ in_kept end_kept
     ∷ in_rule end_rule
     ∷ [])
-unfolding read_text read_on lex last_of repeat split_at number_at is_extent is_distance is_array_count kept_statement distance whole to_end size_statement point two_points corners outermost_statement named_header bare_header layer_statement type_statement width_statement spacing_statement site_statement via_statement via_shape via_corners via_cuts via_metals four_distances rule_statement rule_layer_statement macro_statement class_statement origin_statement macro_site_statement inner_header pin_statement port_statement port_rect_where port_rect_statement kept_block_statement closed_by closed_alone extension_token generating_statement lef_statement
+unfolding read_text read_on fault_on lex last_of repeat split_at number_at is_extent is_distance is_array_count kept_statement distance whole to_end size_statement point two_points corners outermost_statement named_header bare_header layer_statement type_statement width_statement spacing_statement site_statement via_statement via_shape via_corners via_cuts via_metals four_distances rule_statement rule_layer_statement macro_statement class_statement origin_statement macro_site_statement inner_header pin_statement port_statement port_rect_where port_rect_statement kept_block_statement closed_by closed_alone extension_token generating_statement lef_statement
 rule_blocks = refl
 
 -- OBS, DENSITY and PORT end by END alone, and what follows it begins a statement
@@ -119,7 +133,7 @@ bare_ends : Says (codes "MACRO m OBS RECT x ; END x ; DENSITY END PIN p PORT END
     ∷ in_pin end_pin
     ∷ in_macro end_macro
     ∷ [])
-unfolding read_text read_on lex last_of repeat split_at number_at is_extent is_distance is_array_count kept_statement distance whole to_end size_statement point two_points corners outermost_statement named_header bare_header layer_statement type_statement width_statement spacing_statement site_statement via_statement via_shape via_corners via_cuts via_metals four_distances rule_statement rule_layer_statement macro_statement class_statement origin_statement macro_site_statement inner_header pin_statement port_statement port_rect_where port_rect_statement kept_block_statement closed_by closed_alone extension_token generating_statement lef_statement
+unfolding read_text read_on fault_on lex last_of repeat split_at number_at is_extent is_distance is_array_count kept_statement distance whole to_end size_statement point two_points corners outermost_statement named_header bare_header layer_statement type_statement width_statement spacing_statement site_statement via_statement via_shape via_corners via_cuts via_metals four_distances rule_statement rule_layer_statement macro_statement class_statement origin_statement macro_site_statement inner_header pin_statement port_statement port_rect_where port_rect_statement kept_block_statement closed_by closed_alone extension_token generating_statement lef_statement
 bare_ends = refl
 
 -- blocks that are named by their header, and END LIBRARY, which may come anywhere outside of blocks and again
@@ -137,7 +151,7 @@ kept_blocks : Says (codes "UNITS DATABASE MICRONS 1000 ; END UNITS END LIBRARY S
     ∷ outside end_library
     ∷ outside (kept_outside (codes "x") (codes ";" ∷ []))
     ∷ [])
-unfolding read_text read_on lex last_of repeat split_at number_at is_extent is_distance is_array_count kept_statement distance whole to_end size_statement point two_points corners outermost_statement named_header bare_header layer_statement type_statement width_statement spacing_statement site_statement via_statement via_shape via_corners via_cuts via_metals four_distances rule_statement rule_layer_statement macro_statement class_statement origin_statement macro_site_statement inner_header pin_statement port_statement port_rect_where port_rect_statement kept_block_statement closed_by closed_alone extension_token generating_statement lef_statement
+unfolding read_text read_on fault_on lex last_of repeat split_at number_at is_extent is_distance is_array_count kept_statement distance whole to_end size_statement point two_points corners outermost_statement named_header bare_header layer_statement type_statement width_statement spacing_statement site_statement via_statement via_shape via_corners via_cuts via_metals four_distances rule_statement rule_layer_statement macro_statement class_statement origin_statement macro_site_statement inner_header pin_statement port_statement port_rect_where port_rect_statement kept_block_statement closed_by closed_alone extension_token generating_statement lef_statement
 kept_blocks = refl
 
 -- what stands in an extension isn't looked into, and one without ENDEXT is a block that is open
@@ -150,7 +164,7 @@ extension_read : Says (codes "BEGINEXT \"tag\" END x ENDEXT VERSION 5.8 ;")
     ∷ outside (kept_outside (codes "VERSION") (codes "5.8" ∷ codes ";" ∷ []))
     ∷ [])
     × IsRefused (codes "BEGINEXT x ; ") Unfinished 13
-unfolding read_text read_on lex last_of repeat split_at number_at is_extent is_distance is_array_count kept_statement distance whole to_end size_statement point two_points corners outermost_statement named_header bare_header layer_statement type_statement width_statement spacing_statement site_statement via_statement via_shape via_corners via_cuts via_metals four_distances rule_statement rule_layer_statement macro_statement class_statement origin_statement macro_site_statement inner_header pin_statement port_statement port_rect_where port_rect_statement kept_block_statement closed_by closed_alone extension_token generating_statement lef_statement
+unfolding read_text read_on fault_on lex last_of repeat split_at number_at is_extent is_distance is_array_count kept_statement distance whole to_end size_statement point two_points corners outermost_statement named_header bare_header layer_statement type_statement width_statement spacing_statement site_statement via_statement via_shape via_corners via_cuts via_metals four_distances rule_statement rule_layer_statement macro_statement class_statement origin_statement macro_site_statement inner_header pin_statement port_statement port_rect_where port_rect_statement kept_block_statement closed_by closed_alone extension_token generating_statement lef_statement
 extension_read = (refl, refl)
 
 -- RECT of a port: MASK and ITERATE as words of the statement
@@ -166,14 +180,14 @@ port_rects : Says (codes "MACRO m PIN p PORT LAYER a 1 ; RECT ITERATE 1 2 3 ; RE
     ∷ in_pin end_pin
     ∷ in_macro end_macro
     ∷ [])
-unfolding read_text read_on lex last_of repeat split_at number_at is_extent is_distance is_array_count kept_statement distance whole to_end size_statement point two_points corners outermost_statement named_header bare_header layer_statement type_statement width_statement spacing_statement site_statement via_statement via_shape via_corners via_cuts via_metals four_distances rule_statement rule_layer_statement macro_statement class_statement origin_statement macro_site_statement inner_header pin_statement port_statement port_rect_where port_rect_statement kept_block_statement closed_by closed_alone extension_token generating_statement lef_statement
+unfolding read_text read_on fault_on lex last_of repeat split_at number_at is_extent is_distance is_array_count kept_statement distance whole to_end size_statement point two_points corners outermost_statement named_header bare_header layer_statement type_statement width_statement spacing_statement site_statement via_statement via_shape via_corners via_cuts via_metals four_distances rule_statement rule_layer_statement macro_statement class_statement origin_statement macro_site_statement inner_header pin_statement port_statement port_rect_where port_rect_statement kept_block_statement closed_by closed_alone extension_token generating_statement lef_statement
 port_rects = refl
 
 -- MASK in the place of a number, of four and of six words, and ITERATE in a VIA
 mask_as_number : IsRefused (codes "MACRO m PIN p PORT LAYER a ; RECT MASK 1 0 0 ;") Number 34
     × IsRefused (codes "MACRO m PIN p PORT LAYER a ; RECT MASK 1 ( 0 0 ) ;") Number 34
     × IsRefused (codes "VIA v LAYER a ; RECT ITERATE 1 2 3 ;") Number 21
-unfolding read_text read_on lex last_of repeat split_at number_at is_extent is_distance is_array_count kept_statement distance whole to_end size_statement point two_points corners outermost_statement named_header bare_header layer_statement type_statement width_statement spacing_statement site_statement via_statement via_shape via_corners via_cuts via_metals four_distances rule_statement rule_layer_statement macro_statement class_statement origin_statement macro_site_statement inner_header pin_statement port_statement port_rect_where port_rect_statement kept_block_statement closed_by closed_alone extension_token generating_statement lef_statement
+unfolding read_text read_on fault_on lex last_of repeat split_at number_at is_extent is_distance is_array_count kept_statement distance whole to_end size_statement point two_points corners outermost_statement named_header bare_header layer_statement type_statement width_statement spacing_statement site_statement via_statement via_shape via_corners via_cuts via_metals four_distances rule_statement rule_layer_statement macro_statement class_statement origin_statement macro_site_statement inner_header pin_statement port_statement port_rect_where port_rect_statement kept_block_statement closed_by closed_alone extension_token generating_statement lef_statement
 mask_as_number = (refl, refl, refl)
 
 -- RECT before any LAYER of its VIA or PORT, whatever it says; POLYGON and PATH may stand there
@@ -191,7 +205,7 @@ rect_first : IsRefused (codes "VIA v RECT 0 0 1 1 ; END v") NoForm 6
     ∷ in_pin end_pin
     ∷ in_macro end_macro
     ∷ [])
-unfolding read_text read_on lex last_of repeat split_at number_at is_extent is_distance is_array_count kept_statement distance whole to_end size_statement point two_points corners outermost_statement named_header bare_header layer_statement type_statement width_statement spacing_statement site_statement via_statement via_shape via_corners via_cuts via_metals four_distances rule_statement rule_layer_statement macro_statement class_statement origin_statement macro_site_statement inner_header pin_statement port_statement port_rect_where port_rect_statement kept_block_statement closed_by closed_alone extension_token generating_statement lef_statement
+unfolding read_text read_on fault_on lex last_of repeat split_at number_at is_extent is_distance is_array_count kept_statement distance whole to_end size_statement point two_points corners outermost_statement named_header bare_header layer_statement type_statement width_statement spacing_statement site_statement via_statement via_shape via_corners via_cuts via_metals four_distances rule_statement rule_layer_statement macro_statement class_statement origin_statement macro_site_statement inner_header pin_statement port_statement port_rect_where port_rect_statement kept_block_statement closed_by closed_alone extension_token generating_statement lef_statement
 rect_first = (refl, refl, refl, refl, refl)
 
 -- numbers out of their range
@@ -204,7 +218,7 @@ numbers_refused : IsRefused (codes "MACRO m SIZE 1 BY -1 ; END m") Number 18
     × IsRefused (codes "VIA v ROWCOL 0 1 ;") Number 13
     × IsRefused (codes "VIA v ROWCOL 1 1000001 ;") Number 15
     × IsRefused (codes "VIA v ENCLOSURE -1 0 0 x ;") Number 23
-unfolding read_text read_on lex last_of repeat split_at number_at is_extent is_distance is_array_count kept_statement distance whole to_end size_statement point two_points corners outermost_statement named_header bare_header layer_statement type_statement width_statement spacing_statement site_statement via_statement via_shape via_corners via_cuts via_metals four_distances rule_statement rule_layer_statement macro_statement class_statement origin_statement macro_site_statement inner_header pin_statement port_statement port_rect_where port_rect_statement kept_block_statement closed_by closed_alone extension_token generating_statement lef_statement
+unfolding read_text read_on fault_on lex last_of repeat split_at number_at is_extent is_distance is_array_count kept_statement distance whole to_end size_statement point two_points corners outermost_statement named_header bare_header layer_statement type_statement width_statement spacing_statement site_statement via_statement via_shape via_corners via_cuts via_metals four_distances rule_statement rule_layer_statement macro_statement class_statement origin_statement macro_site_statement inner_header pin_statement port_statement port_rect_where port_rect_statement kept_block_statement closed_by closed_alone extension_token generating_statement lef_statement
 numbers_refused = (refl, refl, refl, refl, refl, refl, refl, refl, refl)
 
 -- a statement that is listed for its block and has no form, and one that is listed for another block
@@ -213,22 +227,22 @@ forms_refused : IsRefused (codes "LAYER m TYPE ;") NoForm 8
     × IsRefused (codes "MACRO m SIZE 1 BY 2 3 ;") NoForm 8
     × Says (codes "LAYER m SIZE x ; ORIGIN ; END m")
     (outside (opens_layer (codes "m")) ∷ in_layer (kept_in_layer (codes "SIZE") (codes "x" ∷ codes ";" ∷ [])) ∷ in_layer (kept_in_layer (codes "ORIGIN") (codes ";" ∷ [])) ∷ in_layer end_layer ∷ [])
-unfolding read_text read_on lex last_of repeat split_at number_at is_extent is_distance is_array_count kept_statement distance whole to_end size_statement point two_points corners outermost_statement named_header bare_header layer_statement type_statement width_statement spacing_statement site_statement via_statement via_shape via_corners via_cuts via_metals four_distances rule_statement rule_layer_statement macro_statement class_statement origin_statement macro_site_statement inner_header pin_statement port_statement port_rect_where port_rect_statement kept_block_statement closed_by closed_alone extension_token generating_statement lef_statement
+unfolding read_text read_on fault_on lex last_of repeat split_at number_at is_extent is_distance is_array_count kept_statement distance whole to_end size_statement point two_points corners outermost_statement named_header bare_header layer_statement type_statement width_statement spacing_statement site_statement via_statement via_shape via_corners via_cuts via_metals four_distances rule_statement rule_layer_statement macro_statement class_statement origin_statement macro_site_statement inner_header pin_statement port_statement port_rect_where port_rect_statement kept_block_statement closed_by closed_alone extension_token generating_statement lef_statement
 forms_refused = (refl, refl, refl, refl)
 
 -- a ; and a string begin no statement
 no_first_word : IsRefused (codes ";") NoForm 0 × IsRefused (codes "\"x\" ;") NoForm 0 × IsRefused (codes "MACRO m OBS ;") NoForm 12
-unfolding read_text read_on lex last_of repeat split_at number_at is_extent is_distance is_array_count kept_statement distance whole to_end size_statement point two_points corners outermost_statement named_header bare_header layer_statement type_statement width_statement spacing_statement site_statement via_statement via_shape via_corners via_cuts via_metals four_distances rule_statement rule_layer_statement macro_statement class_statement origin_statement macro_site_statement inner_header pin_statement port_statement port_rect_where port_rect_statement kept_block_statement closed_by closed_alone extension_token generating_statement lef_statement
+unfolding read_text read_on fault_on lex last_of repeat split_at number_at is_extent is_distance is_array_count kept_statement distance whole to_end size_statement point two_points corners outermost_statement named_header bare_header layer_statement type_statement width_statement spacing_statement site_statement via_statement via_shape via_corners via_cuts via_metals four_distances rule_statement rule_layer_statement macro_statement class_statement origin_statement macro_site_statement inner_header pin_statement port_statement port_rect_where port_rect_statement kept_block_statement closed_by closed_alone extension_token generating_statement lef_statement
 no_first_word = (refl, refl, refl)
 
 -- blocks that are not closed
 lef_unfinished : IsRefused (codes "LAYER m\n") Unfinished 8 × IsRefused (codes "MACRO m PIN p PORT END") Unfinished 22 × IsRefused (codes "VIA v DEFAULT") Unfinished 13
-unfolding read_text read_on lex last_of repeat split_at number_at is_extent is_distance is_array_count kept_statement distance whole to_end size_statement point two_points corners outermost_statement named_header bare_header layer_statement type_statement width_statement spacing_statement site_statement via_statement via_shape via_corners via_cuts via_metals four_distances rule_statement rule_layer_statement macro_statement class_statement origin_statement macro_site_statement inner_header pin_statement port_statement port_rect_where port_rect_statement kept_block_statement closed_by closed_alone extension_token generating_statement lef_statement
+unfolding read_text read_on fault_on lex last_of repeat split_at number_at is_extent is_distance is_array_count kept_statement distance whole to_end size_statement point two_points corners outermost_statement named_header bare_header layer_statement type_statement width_statement spacing_statement site_statement via_statement via_shape via_corners via_cuts via_metals four_distances rule_statement rule_layer_statement macro_statement class_statement origin_statement macro_site_statement inner_header pin_statement port_statement port_rect_where port_rect_statement kept_block_statement closed_by closed_alone extension_token generating_statement lef_statement
 lef_unfinished = (refl, refl, refl)
 
 -- the END of a block with another name
 another_end : IsRefused (codes "MACRO m END n") NoForm 8 × IsRefused (codes "SITE m END LIBRARY") NoForm 7 × IsRefused (codes "UNITS END SPACING") NoForm 6 × IsRefused (codes "MACRO m PIN p END m") NoForm 14
-unfolding read_text read_on lex last_of repeat split_at number_at is_extent is_distance is_array_count kept_statement distance whole to_end size_statement point two_points corners outermost_statement named_header bare_header layer_statement type_statement width_statement spacing_statement site_statement via_statement via_shape via_corners via_cuts via_metals four_distances rule_statement rule_layer_statement macro_statement class_statement origin_statement macro_site_statement inner_header pin_statement port_statement port_rect_where port_rect_statement kept_block_statement closed_by closed_alone extension_token generating_statement lef_statement
+unfolding read_text read_on fault_on lex last_of repeat split_at number_at is_extent is_distance is_array_count kept_statement distance whole to_end size_statement point two_points corners outermost_statement named_header bare_header layer_statement type_statement width_statement spacing_statement site_statement via_statement via_shape via_corners via_cuts via_metals four_distances rule_statement rule_layer_statement macro_statement class_statement origin_statement macro_site_statement inner_header pin_statement port_statement port_rect_where port_rect_statement kept_block_statement closed_by closed_alone extension_token generating_statement lef_statement
 another_end = (refl, refl, refl, refl)
 
 -- header words count by their block
@@ -242,7 +256,7 @@ headers_by_block : Says (codes "PIN a ; MACRO m PORT x ; LAYER c ; PIN p PIN q ;
     ∷ in_pin end_pin
     ∷ in_macro end_macro
     ∷ [])
-unfolding read_text read_on lex last_of repeat split_at number_at is_extent is_distance is_array_count kept_statement distance whole to_end size_statement point two_points corners outermost_statement named_header bare_header layer_statement type_statement width_statement spacing_statement site_statement via_statement via_shape via_corners via_cuts via_metals four_distances rule_statement rule_layer_statement macro_statement class_statement origin_statement macro_site_statement inner_header pin_statement port_statement port_rect_where port_rect_statement kept_block_statement closed_by closed_alone extension_token generating_statement lef_statement
+unfolding read_text read_on fault_on lex last_of repeat split_at number_at is_extent is_distance is_array_count kept_statement distance whole to_end size_statement point two_points corners outermost_statement named_header bare_header layer_statement type_statement width_statement spacing_statement site_statement via_statement via_shape via_corners via_cuts via_metals four_distances rule_statement rule_layer_statement macro_statement class_statement origin_statement macro_site_statement inner_header pin_statement port_statement port_rect_where port_rect_statement kept_block_statement closed_by closed_alone extension_token generating_statement lef_statement
 headers_by_block = refl
 
 -- LAYER takes its name outside of all blocks and in a rule, and runs to the ; elsewhere

@@ -17,7 +17,7 @@ use Rattle.lef_grammar.specs.MacroBlock.{class_statement, origin_statement, macr
 use Rattle.lef_grammar.specs.PinBlock.{pin_statement}
 use Rattle.lef_grammar.specs.PortBlock.{port_rect_statement, port_rect_where, port_statement}
 use Rattle.lef_grammar.specs.KeptBlocks.{closed_by, closed_alone, extension_token, generating_statement, kept_block_statement}
-use Rattle.lef_grammar.specs.LefRecords.{lef_statement}
+use Rattle.lef_grammar.specs.LefRecords.{lef_statement, fault_on}
 use Rattle.std.specs.Prelude.{ℤ, pos, neg_ℤ}
 use Rattle.form_meanings.specs.Firsts.{front, headed, with_all}
 use Rattle.lef_grammar.specs.Definitions.{Distances, Layer, Macro, Pin, LayerShapes, Via, routing, cut, other, listed, generated}
@@ -199,5 +199,5 @@ pins_read = refl
 
 -- the fault of the second text, before that of the third
 second_text : library_of (macro_text ∷ codes "MACRO m LAYER" ∷ codes ";" ∷ []) ≡ Err (record { file = 2; fault = fault_at Unfinished 8 })
-unfolding read_text read_on lex last_of repeat split_at number_at is_extent is_distance is_array_count kept_statement distance whole to_end size_statement point two_points corners outermost_statement named_header bare_header layer_statement type_statement width_statement spacing_statement site_statement via_statement via_shape via_corners via_cuts via_metals four_distances rule_statement rule_layer_statement macro_statement class_statement origin_statement macro_site_statement inner_header pin_statement port_statement port_rect_where port_rect_statement kept_block_statement closed_by closed_alone extension_token generating_statement lef_statement front headed with_all
+unfolding read_text read_on fault_on lex last_of repeat split_at number_at is_extent is_distance is_array_count kept_statement distance whole to_end size_statement point two_points corners outermost_statement named_header bare_header layer_statement type_statement width_statement spacing_statement site_statement via_statement via_shape via_corners via_cuts via_metals four_distances rule_statement rule_layer_statement macro_statement class_statement origin_statement macro_site_statement inner_header pin_statement port_statement port_rect_where port_rect_statement kept_block_statement closed_by closed_alone extension_token generating_statement lef_statement front headed with_all
 second_text = refl

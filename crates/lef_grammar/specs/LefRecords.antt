@@ -1,13 +1,18 @@
 -- What the statements of a LEF text say, and the grammar of a text (LEF/DEF 5.8 Language Reference, "LEF Syntax").
-use Rattle.std.specs.Prelude.{◌⊎◌, ℕ, Bool, true, false, List, [], Option, Some, None, Result, if◌then◌else◌}
+use Rattle.std.specs.Prelude.{◌⊎◌, ℕ, Bool, true, false, List, [], ◌∷◌, ◌++◌, length, nat_lt, Option, Some, None, unwrap_or, Result, Ok, Err, codes, if◌then◌else◌}
 use Rattle.std.proofs.Common.{inl, inr}
+use Rattle.design_model.specs.declared.TheConstants.{MAX_TEXT}
 use Rattle.design_model.specs.declared.fault.Fault.{Fault}
-use Rattle.statement_model.specs.Boundaries.{Ending}
+use Rattle.design_model.specs.declared.fault.FaultCode.TheVariants.{TooLong}
+use Rattle.form_meanings.specs.Words.{is_word}
+use Rattle.statement_model.specs.Tokens.{Token, Lexed, tokens}
+use Rattle.statement_model.specs.Boundaries.{Ending, is_whole}
 use Rattle.statement_model.specs.Form.{Form, left, right}
 use Rattle.statement_model.specs.Grammar.{Grammar}
-use Rattle.statement_model.specs.Reading.{read_text}
+use Rattle.statement_model.specs.Reading.{fault_at, read_at, read_form, read_text}
 use Rattle.lef_grammar.specs.Extents.{bare_block_ending, block_ending}
 use Rattle.lef_grammar.specs.Outermost.{OutermostRecord, opens_layer, opens_site, opens_macro, opens_rule, opens_via, opens_generating_rule, opens_units, opens_spacing, opens_properties, opens_extension, outermost_ending, outermost_statement}
+use Rattle.lef_grammar.specs.HeaderWords.{HeaderWords, of_via, of_rule, header_fault}
 use Rattle.lef_grammar.specs.LayerBlock.{LayerRecord, ends_layer, layer_statement}
 use Rattle.lef_grammar.specs.SiteBlock.{SiteRecord, ends_site, site_statement}
 use Rattle.lef_grammar.specs.ViaBlock.{ViaStage, in_header, ViaRecord, ends_via, stage_after, via_ending, via_statement}
@@ -177,6 +182,41 @@ is_outermost _ = false
 abbrev pub lef : Grammar Block LefRecord
 lef = record { ending = lef_ending; form = lef_statement; after = block_after; may_end = is_outermost; key = λ rec. []; lacks = λ seen. None }
 
+-- the words behind the second token of a header, by its first: of a VIA outside of all blocks or in a rule, and of a VIARULE
+abbrev pub header_words : Block → List ℕ → Option HeaderWords
+header_words outermost w = if is_word (codes "VIA") w then Some of_via else (if is_word (codes "VIARULE") w then Some (of_rule generate_or_default) else None)
+header_words (rule name) w = if is_word (codes "VIA") w then Some of_via else None
+header_words _ w = None
+
+-- the fault of a statement, by the tokens from it on: where a header goes on, that of the tokens comes first
+abbrev pub first_fault : Block → List Token → Result ℕ Fault → Fault → Fault
+first_fault b [] end f = f
+first_fault b (p ∷ ps) end f = unwrap_or (header_fault (header_words b p.bytes) ps end) f
+
+abbrev pub with_first_fault : Block → Lexed → Result (Option (LefRecord × Block × Lexed)) Fault → Result (Option (LefRecord × Block × Lexed)) Fault
+with_first_fault b l (Ok x) = Ok x
+with_first_fault b l (Err f) = Err (first_fault b l.pieces l.end f)
+
+-- the next record, the block of the one after it, and what is left; or the fault
+abbrev pub read_lef_at : Block → Lexed → Result (Option (LefRecord × Block × Lexed)) Fault
+read_lef_at b l = with_first_fault b l (read_at lef b l)
+
+-- of the statement that these tokens are, with those after it
+abbrev pub fault_where : Result ℕ Fault → Fault → Block → List Token → Result (LefRecord × Block) Fault → (Block → Fault) → Fault
+fault_where end f b ps (Ok x) later = later x.1
+fault_where end f b ps (Err g) later = first_fault b ps end f
+
+-- the fault of tokens that have this one as a text of `lef`, where some tokens of the first statement were read before
+unfoldable pub fault_on : Result ℕ Fault → Fault → Block → List Token → List Token → Fault
+fault_on end f b before [] = f
+fault_on end f b before (p ∷ ps) =
+    if is_whole (lef_ending b) (before ++ p ∷ []) then fault_where end f b (before ++ p ∷ ps) (read_form lef b (before ++ p ∷ [])) (λ after. fault_on end f after [] ps)
+    else fault_on end f b (before ++ p ∷ []) ps
+
+abbrev pub with_fault : Lexed → Result (List LefRecord) Fault → Result (List LefRecord) Fault
+with_fault l (Ok recs) = Ok recs
+with_fault l (Err f) = Err (fault_on l.end f outermost [] l.pieces)
+
 -- the records of a LEF text, or its fault
 abbrev pub read_lef : List ℕ → Result (List LefRecord) Fault
-read_lef text = read_text lef outermost text
+read_lef text = if nat_lt MAX_TEXT (length text) then Err (fault_at TooLong 0) else with_fault (tokens text) (read_text lef outermost text)

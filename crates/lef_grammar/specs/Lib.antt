@@ -1,5 +1,6 @@
 pub mod Definitions
 pub mod Extents
+pub mod HeaderWords
 pub mod KeptBlocks
 pub mod LayerBlock
 pub mod LefRecords

@@ -9,5 +9,6 @@
 //!
 //! A record holds the bytes of its tokens, numbers in microns as they are written. A LEF text lacks nothing and has nothing
 //! once, so its faults are those of `statement_model` but for repeats. The words behind the name of a VIA or a VIARULE are
-//! statements of their own, where the block's header goes on.
+//! statements of their own, where the block's header goes on. A fault of the tokens up to where it ends comes before its own
+//! (`first_fault`, by `specs/HeaderWords`).
 #![tactic(auto)]

@@ -6,7 +6,7 @@ use Rattle.design_model.specs.declared.fault.Fault.{Fault}
 use Rattle.statement_model.specs.Tokens.{Lexed, tokens}
 use Rattle.statement_model.specs.Reading.{read_at, read_from, read_text}
 use Rattle.statement_reader.specs.ReadingLaws.{BeginsWith, RecordsAreRead}
-use Rattle.lef_grammar.specs.LefRecords.{Block, outermost, LefRecord, lef}
+use Rattle.lef_grammar.specs.LefRecords.{Block, outermost, LefRecord, lef, with_first_fault, with_fault}
 use Rattle.lef_reader.specs.Events.{Events, Give, RecordsAreGiven, after_next, next_record, left_after, record_of}
 
 head_same : (a b : LefRecord) (rs ss : List LefRecord) → a ∷ rs ≡ b ∷ ss → a ≡ b
@@ -20,7 +20,7 @@ module _ (law : RecordsAreRead lef) (text : List ℕ) (fits : nat_lt MAX_TEXT (l
   left_at b l = record { text = text; block = b; left = l }
 
   next_is : (b : Block) (l : Lexed) (r : Result (Option (LefRecord × Block × Lexed)) Fault) → read_at lef b l ≡ r
-      → (next_record (left_at b l) ≡ record_of r) × (after_next (left_at b l) ≡ left_after (left_at b l) r)
+      → (next_record (left_at b l) ≡ record_of (with_first_fault b l r)) × (after_next (left_at b l) ≡ left_after (left_at b l) (with_first_fault b l r))
   next_is b l r is = (rw (fits, is) refl, rw (fits, is) refl)
 
   ends : (b : Block) (l : Lexed) (r : Result (Option (LefRecord × Block × Lexed)) Fault) → read_at lef b l ≡ r → BeginsWith lef [] [] r → Give [] (Ok None) (left_at b l)
@@ -44,9 +44,15 @@ module _ (law : RecordsAreRead lef) (text : List ℕ) (fits : nat_lt MAX_TEXT (l
   pub all_given : (recs : List LefRecord) → read_from lef (outermost, []) (tokens text) ≡ Ok recs → Give recs (Ok None) (record { text = text; block = outermost; left = tokens text })
   all_given recs h = given recs outermost (tokens text) h
 
+records_of : (l : Lexed) (recs : List LefRecord) (r : Result (List LefRecord) Fault) → with_fault l r ≡ Ok recs → r ≡ Ok recs
+records_of l recs (Ok rs) h = h
+records_of l recs (Err f) h = absurd (cc)
+
 pub records_are_given : RecordsAreRead lef → RecordsAreGiven
 unfolding read_text
 records_are_given law text recs h = elim (cases_Bool (nat_lt MAX_TEXT (length text))) [
   | inl long ↦ let k = rw long at h in absurd (cc)
-  | inr fits ↦ let k = rw fits at h in all_given law text fits recs k
+  | inr fits ↦
+      let k = rw fits at h in
+      all_given law text fits recs (records_of (tokens text) recs (read_from lef (outermost, []) (tokens text)) k)
 ]

@@ -1,2 +1,3 @@
 mod EventLemmas
+pub mod FaultLemmas
 mod ToldLemmas

@@ -9,7 +9,8 @@ use Rattle.statement_model.specs.Boundaries.{cut, statement_at, statement_from}
 use Rattle.statement_model.specs.Folds.{◌>>◌}
 use Rattle.statement_model.specs.Reading.{fault_at, read_at, read_found, read_form, read_from, read_text, with_left}
 use Rattle.statement_reader.specs.ReadingLaws.{FaultsStop, ReadingGoesOn, ReadingEnds}
-use Rattle.lef_grammar.specs.LefRecords.{Block, outermost, LefRecord, lef}
+use Rattle.lef_grammar.specs.LefRecords.{Block, outermost, LefRecord, lef, read_lef, read_lef_at, fault_on}
+use Rattle.lef_reader.proofs.FaultLemmas.{fault_here, fault_later, lef_fault, lef_reads, own_fault, own_record}
 use Rattle.lef_reader.specs.Events.{Events, Give, EndIsOfText, FaultIsOfText, after_next, next_record, left_after, record_of}
 
 -- no end comes where the tokens have a fault
@@ -58,44 +59,57 @@ module _ (faults : FaultsStop lef) (goes_on : ReadingGoesOn lef) (ends : Reading
     abbrev left_at : Block → Lexed → Events
     left_at b l = record { text = text; block = b; left = l }
 
-    next_is : (b : Block) (l : Lexed) → (next_record (left_at b l) ≡ record_of (read_at lef b l)) × (after_next (left_at b l) ≡ left_after (left_at b l) (read_at lef b l))
+    next_is : (b : Block) (l : Lexed) → (next_record (left_at b l) ≡ record_of (read_lef_at b l)) × (after_next (left_at b l) ≡ left_after (left_at b l) (read_lef_at b l))
     next_is b l = (rw fits refl, rw fits refl)
 
     told_end : (recs : List LefRecord) (b : Block) (l : Lexed) → Give recs (Ok None) (left_at b l) → read_from lef (b, []) l ≡ Ok recs
-    told_end [] b l h = at_end b l l.end refl (end_of (read_at lef b l) (sym (next_is b l).0 ∙ h))
+    told_end [] b l h = at_end b l l.end refl (own_record b l None (read_at lef b l) (end_of (read_lef_at b l) (sym (next_is b l).0 ∙ h)))
     told_end (rec ∷ rs) b l h =
-        let s = step_of (read_at lef b l) rec (sym (next_is b l).0 ∙ h.0) in
+        let s = step_of (read_lef_at b l) rec (sym (next_is b l).0 ∙ h.0) in
+        let own = own_record b l (Some (rec, s.after, s.left)) (read_at lef b l) s.is in
         let later : Give rs (Ok None) (left_at s.after s.left) = subst (Give rs (Ok None)) ((next_is b l).1 ∙ ap (left_after (left_at b l)) s.is) h.1 in
-        goes_on b s.after [] l s.left rec s.is refl ∙ ap (λ (x : Result (List LefRecord) Fault). x >> λ recs. Ok (rec ∷ recs)) (told_end rs s.after s.left later)
+        goes_on b s.after [] l s.left rec own refl ∙ ap (λ (x : Result (List LefRecord) Fault). x >> λ recs. Ok (rec ∷ recs)) (told_end rs s.after s.left later)
 
-    told_fault : (recs : List LefRecord) (b : Block) (l : Lexed) (f : Fault) → Give recs (Err f) (left_at b l) → read_from lef (b, []) l ≡ Err f
-    told_fault [] b l f h = faults b [] l f (fault_of (read_at lef b l) f (sym (next_is b l).0 ∙ h))
+    told_fault : (recs : List LefRecord) (b : Block) (l : Lexed) (f : Fault) → Give recs (Err f) (left_at b l)
+        → (g : Fault) × (read_from lef (b, []) l ≡ Err g) × (fault_on l.end g b [] l.pieces ≡ f)
+    told_fault [] b l f h =
+        let own = own_fault b l f (read_at lef b l) (fault_of (read_lef_at b l) f (sym (next_is b l).0 ∙ h)) in
+        (own.own, faults b [] l own.own own.is, fault_here b l own.own own.is ∙ own.first)
     told_fault (rec ∷ rs) b l f h =
-        let s = step_of (read_at lef b l) rec (sym (next_is b l).0 ∙ h.0) in
+        let s = step_of (read_lef_at b l) rec (sym (next_is b l).0 ∙ h.0) in
+        let own = own_record b l (Some (rec, s.after, s.left)) (read_at lef b l) s.is in
         let later : Give rs (Err f) (left_at s.after s.left) = subst (Give rs (Err f)) ((next_is b l).1 ∙ ap (left_after (left_at b l)) s.is) h.1 in
-        goes_on b s.after [] l s.left rec s.is refl ∙ ap (λ (x : Result (List LefRecord) Fault). x >> λ recs. Ok (rec ∷ recs)) (told_fault rs s.after s.left f later)
+        let told = told_fault rs s.after s.left f later in (
+          told.0,
+          goes_on b s.after [] l s.left rec own refl ∙ ap (λ (x : Result (List LefRecord) Fault). x >> λ recs. Ok (rec ∷ recs)) told.1,
+          fault_later b l told.0 s.after s.left rec own ∙ told.2,
+        )
 
   long_end : (text : List ℕ) (recs : List LefRecord) → nat_lt MAX_TEXT (length text) ≡ true → Give recs (Ok None) (record { text = text; block = outermost; left = tokens text }) → ⊥
   long_end text [] long h = let k = rw long at h in absurd (cc)
   long_end text (rec ∷ rs) long h = let k = rw long at h.0 in absurd (cc)
 
-  long_fault : (text : List ℕ) (recs : List LefRecord) (f : Fault) → nat_lt MAX_TEXT (length text) ≡ true → Give recs (Err f) (record { text = text; block = outermost; left = tokens text }) → read_text lef outermost text ≡ Err f
-  unfolding read_text
+  long_fault : (text : List ℕ) (recs : List LefRecord) (f : Fault) → nat_lt MAX_TEXT (length text) ≡ true → Give recs (Err f) (record { text = text; block = outermost; left = tokens text }) → read_lef text ≡ Err f
   long_fault text [] f long h =
       let k = rw long at h in
       rw long (ap (λ (x : Fault). Err x) (same_fault (Err (fault_at TooLong 0)) (fault_at TooLong 0) f refl k))
   long_fault text (rec ∷ rs) f long h = let k = rw long at h.0 in absurd (cc)
 
-  pub end_is_of_text : EndIsOfText
+  -- a text that is short enough, by its tokens
+  read_short : (text : List ℕ) (r : Result (List LefRecord) Fault) → nat_lt MAX_TEXT (length text) ≡ false → read_from lef (outermost, []) (tokens text) ≡ r → read_text lef outermost text ≡ r
   unfolding read_text
+  read_short text r fits h = rw fits h
+
+  pub end_is_of_text : EndIsOfText
   end_is_of_text text recs h = elim (cases_Bool (nat_lt MAX_TEXT (length text))) [
     | inl long ↦ absurd (long_end text recs long h)
-    | inr fits ↦ rw fits (told_end text fits recs outermost (tokens text) h)
+    | inr fits ↦ lef_reads text fits recs (read_short text (Ok recs) fits (told_end text fits recs outermost (tokens text) h))
   ]
 
   pub fault_is_of_text : FaultIsOfText
-  unfolding read_text
   fault_is_of_text text recs f h = elim (cases_Bool (nat_lt MAX_TEXT (length text))) [
     | inl long ↦ long_fault text recs f long h
-    | inr fits ↦ rw fits (told_fault text fits recs outermost (tokens text) f h)
+    | inr fits ↦
+        let told = told_fault text fits recs outermost (tokens text) f h in
+        lef_fault text fits told.0 f (read_short text (Err told.0) fits told.1) told.2
   ]

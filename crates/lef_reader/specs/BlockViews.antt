@@ -1,5 +1,4 @@
 -- Blocks of a LEF text: the program's as those of the definitions.
-use Rattle.std.specs.Prelude.{ℕ, List}
 use Rattle.std.specs.Option.{option_map}
 use Rattle.lef_grammar.specs.LefRecords.{Block, outermost, layer, site, via, rule, rule_layer, macro, pin, port, kept}
 use Rattle.lef_reader.specs.declared.block.Block as code

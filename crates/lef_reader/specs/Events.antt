@@ -4,9 +4,11 @@ use Rattle.std.specs.Option.{option_map}
 use Rattle.design_model.specs.declared.TheConstants.{MAX_TEXT}
 use Rattle.design_model.specs.declared.fault.Fault.{Fault}
 use Rattle.design_model.specs.declared.fault.FaultCode.TheVariants.{TooLong}
-use Rattle.statement_model.specs.Tokens.{Lexed, tokens}
-use Rattle.statement_model.specs.Reading.{fault_at, read_at}
-use Rattle.lef_grammar.specs.LefRecords.{Block, outermost, LefRecord, lef, read_lef}
+use Rattle.statement_model.specs.Tokens.{Lexed, Token, tokens}
+use Rattle.statement_model.specs.Boundaries.{statement_at}
+use Rattle.statement_model.specs.Reading.{fault_at}
+use Rattle.lef_grammar.specs.LefRecords.{Block, outermost, LefRecord, lef_ending, read_lef, read_lef_at}
+use Rattle.lef_reader.specs.Stepping.{first_tokens}
 use Rattle.lef_reader.specs.StatementViews.{lef_view}
 use Rattle.lef_reader.specs.declared.statement.LefStatement.{LefStatement}
 
@@ -21,7 +23,11 @@ events_of text = record { text = text; block = outermost; left = tokens text }
 
 -- the next record, the block of the one after it, and what is left
 abbrev pub read_next : Events → Result (Option (LefRecord × Block × Lexed)) Fault
-read_next e = if nat_lt MAX_TEXT (length e.text) then Err (fault_at TooLong 0) else read_at lef e.block e.left
+read_next e = if nat_lt MAX_TEXT (length e.text) then Err (fault_at TooLong 0) else read_lef_at e.block e.left
+
+-- the tokens of the next statement
+abbrev pub next_tokens : Events → List Token
+next_tokens e = first_tokens (statement_at (lef_ending e.block) e.left)
 
 abbrev pub record_of : Result (Option (LefRecord × Block × Lexed)) Fault → Result (Option LefRecord) Fault
 record_of (Ok None) = Ok None

@@ -1,7 +1,10 @@
--- Statements of blocks that are only kept: the program's as those of the definitions, and what they lend from a text.
-use Rattle.std.specs.Prelude.{◌≡◌, ℕ, List}
+-- Statements of blocks that are only kept: the program's as those of the definitions, and which tokens they are.
+use Rattle.std.specs.Prelude.{List}
 use Rattle.lef_grammar.specs.KeptBlocks.{RuleHeader, generate_or_default, default_alone, complete, KeptBlock, units, spacing, properties, extension, generating_rule, rule_spacing, obstruction, density, KeptRecord, end_kept, lone_word, kept_in_kept}
-use Rattle.lefdef_tokens.specs.Views.{IsIn, words_of}
+use Rattle.statement_model.specs.Tokens.{Token}
+use Rattle.lefdef_tokens.specs.Places.{StandsAt}
+use Rattle.lefdef_tokens.specs.Views.{words_of}
+use Rattle.lef_reader.specs.Parts.{WordsAt}
 use Rattle.lef_reader.specs.declared.kept_blocks.RuleHeader as code_header
 use Rattle.lef_reader.specs.declared.kept_blocks.RuleHeader.TheVariants as headers
 use Rattle.lef_reader.specs.declared.kept_blocks.KeptBlock as code_block
@@ -29,7 +32,8 @@ kept_view End = end_kept
 kept_view (Lone w) = lone_word w.bytes.now
 kept_view (Kept w others) = kept_in_kept w.bytes.now (words_of others)
 
-abbrev pub KeptIn : List ℕ → KeptStatement → Type 0
-KeptIn text End = Unit {0}
-KeptIn text (Lone w) = IsIn text w
-KeptIn text (Kept w others) = IsIn text w × (others.text.now ≡ text)
+-- a statement has its word first, and then the others
+abbrev pub KeptAt : List Token → KeptStatement → Type 0
+KeptAt ps End = Unit {0}
+KeptAt ps (Lone w) = StandsAt ps w
+KeptAt ps (Kept w others) = WordsAt ps (w, others)

@@ -1,7 +1,10 @@
--- Statements of a block LAYER: the program's as those of the definitions, and what they lend from a text.
-use Rattle.std.specs.Prelude.{◌≡◌, ℕ, List}
+-- Statements of a block LAYER: the program's as those of the definitions, and which tokens they are.
+use Rattle.std.specs.Prelude.{List}
 use Rattle.lef_grammar.specs.LayerBlock.{LayerRecord, end_layer, layer_type, layer_width, layer_spacing, kept_in_layer}
-use Rattle.lefdef_tokens.specs.Views.{IsIn, words_of}
+use Rattle.statement_model.specs.Tokens.{Token}
+use Rattle.lefdef_tokens.specs.Places.{StandsAt, past}
+use Rattle.lefdef_tokens.specs.Views.{words_of}
+use Rattle.lef_reader.specs.Parts.{WordsAt}
 use Rattle.lef_reader.specs.declared.layer_block.LayerStatement.{LayerStatement}
 use Rattle.lef_reader.specs.declared.layer_block.LayerStatement.TheVariants.{End, Kind, Width, Spacing, Kept}
 
@@ -12,9 +15,10 @@ layer_view (Width width others) = layer_width width.bytes.now (words_of others)
 layer_view (Spacing gap others) = layer_spacing gap.bytes.now (words_of others)
 layer_view (Kept w others) = kept_in_layer w.bytes.now (words_of others)
 
-abbrev pub LayerIn : List ℕ → LayerStatement → Type 0
-LayerIn text End = Unit {0}
-LayerIn text (Kind w) = IsIn text w
-LayerIn text (Width width others) = IsIn text width × (others.text.now ≡ text)
-LayerIn text (Spacing gap others) = IsIn text gap × (others.text.now ≡ text)
-LayerIn text (Kept w others) = IsIn text w × (others.text.now ≡ text)
+-- behind the statement's word, or from it on where it means nothing
+abbrev pub LayerAt : List Token → LayerStatement → Type 0
+LayerAt ps End = Unit {0}
+LayerAt ps (Kind w) = StandsAt (past 1 ps) w
+LayerAt ps (Width width others) = WordsAt (past 1 ps) (width, others)
+LayerAt ps (Spacing gap others) = WordsAt (past 1 ps) (gap, others)
+LayerAt ps (Kept w others) = WordsAt ps (w, others)

@@ -1,7 +1,9 @@
 pub mod BlockViews
 pub mod Events
+pub mod HeaderViews
 pub mod KeptViews
 pub mod LayerViews
+pub mod LefReading
 pub mod MacroViews
 pub mod OutermostViews
 pub mod Parts

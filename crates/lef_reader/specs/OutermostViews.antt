@@ -1,8 +1,11 @@
--- Statements outside of all blocks: the program's as those of the definitions, and what they lend from a text.
-use Rattle.std.specs.Prelude.{◌≡◌, ℕ, List}
+-- Statements outside of all blocks: the program's as those of the definitions, and which tokens they are.
+use Rattle.std.specs.Prelude.{List}
 use Rattle.std.proofs.Common.{inl, inr}
 use Rattle.lef_grammar.specs.Outermost.{NamedHeader, BareHeader, OutermostRecord, end_library, opens_named, opens_bare, kept_outside}
-use Rattle.lefdef_tokens.specs.Views.{IsIn, words_of}
+use Rattle.statement_model.specs.Tokens.{Token}
+use Rattle.lefdef_tokens.specs.Places.{StandsAt, past}
+use Rattle.lefdef_tokens.specs.Views.{words_of}
+use Rattle.lef_reader.specs.Parts.{WordsAt}
 use Rattle.lef_reader.specs.declared.outermost.NamedHeader as code_named
 use Rattle.lef_reader.specs.declared.outermost.NamedHeader.TheVariants as named
 use Rattle.lef_reader.specs.declared.outermost.BareHeader as code_bare
@@ -18,13 +21,14 @@ named_view (named.Rule name) = inr (inr (inr (inl name.bytes.now)))
 named_view (named.Via name) = inr (inr (inr (inr (inl name.bytes.now))))
 named_view (named.GeneratingRule name) = inr (inr (inr (inr (inr name.bytes.now))))
 
-abbrev pub NamedIn : List ℕ → code_named.NamedHeader → Type 0
-NamedIn text (named.Layer name) = IsIn text name
-NamedIn text (named.Site name) = IsIn text name
-NamedIn text (named.Macro name) = IsIn text name
-NamedIn text (named.Rule name) = IsIn text name
-NamedIn text (named.Via name) = IsIn text name
-NamedIn text (named.GeneratingRule name) = IsIn text name
+-- the second of these tokens is the name
+abbrev pub NamedAt : List Token → code_named.NamedHeader → Type 0
+NamedAt ps (named.Layer name) = StandsAt (past 1 ps) name
+NamedAt ps (named.Site name) = StandsAt (past 1 ps) name
+NamedAt ps (named.Macro name) = StandsAt (past 1 ps) name
+NamedAt ps (named.Rule name) = StandsAt (past 1 ps) name
+NamedAt ps (named.Via name) = StandsAt (past 1 ps) name
+NamedAt ps (named.GeneratingRule name) = StandsAt (past 1 ps) name
 
 abbrev pub bare_view : code_bare.BareHeader → BareHeader
 bare_view bare.Units = inl tt
@@ -38,8 +42,8 @@ outermost_view (Named header) = opens_named (named_view header)
 outermost_view (Bare header) = opens_bare (bare_view header)
 outermost_view (Kept w others) = kept_outside w.bytes.now (words_of others)
 
-abbrev pub OutermostIn : List ℕ → OutermostStatement → Type 0
-OutermostIn text EndLibrary = Unit {0}
-OutermostIn text (Named header) = NamedIn text header
-OutermostIn text (Bare header) = Unit {0}
-OutermostIn text (Kept w others) = IsIn text w × (others.text.now ≡ text)
+abbrev pub OutermostAt : List Token → OutermostStatement → Type 0
+OutermostAt ps EndLibrary = Unit {0}
+OutermostAt ps (Named header) = NamedAt ps header
+OutermostAt ps (Bare header) = Unit {0}
+OutermostAt ps (Kept w others) = WordsAt ps (w, others)

@@ -1,9 +1,12 @@
--- Parts of statements of the program as those of the definitions, and what they lend from a text.
-use Rattle.std.specs.Prelude.{◌≡◌, ℕ, List, Option, Some, None, IfSome, if◌then◌else◌}
+-- Parts of statements of the program as those of the definitions, and which tokens they are.
+use Rattle.std.specs.Prelude.{ℕ, Bool, true, false, List, Option, Some, None, IfSome, if◌then◌else◌}
 use Rattle.std.specs.Option.{option_map}
 use Rattle.form_meanings.specs.Words.{Rest}
-use Rattle.lef_grammar.specs.Extents.{Point, enclosed, bare, Corners, masked, unmasked}
-use Rattle.lefdef_tokens.specs.Views.{IsIn, rest_of, words_of}
+use Rattle.statement_model.specs.Form.{spell}
+use Rattle.statement_model.specs.Tokens as definitions
+use Rattle.lef_grammar.specs.Extents.{Point, enclosed, bare, point, Corners, masked, unmasked}
+use Rattle.lefdef_tokens.specs.Places.{RunAt, StandsAt, behind, past}
+use Rattle.lefdef_tokens.specs.Views.{rest_of, words_of}
 use Rattle.lefdef_tokens.specs.declared.cursor.Cursor.{Cursor}
 use Rattle.lefdef_tokens.specs.declared.token.Token.{Token}
 use Rattle.lefdef_tokens.specs.declared.token_run.TokenRun.{TokenRun}
@@ -18,34 +21,47 @@ with_rest view x = (view x.0, rest_of x.1)
 abbrev pub words_view : Token × TokenRun → List ℕ × List (List ℕ)
 words_view x = (x.0.bytes.now, words_of x.1)
 
-abbrev pub WordsIn : List ℕ → Token × TokenRun → Type 0
-WordsIn text x = IsIn text x.0 × (x.1.text.now ≡ text)
+-- the first of these tokens, and a run behind it
+abbrev pub WordsAt : List definitions.Token → Token × TokenRun → Type 0
+WordsAt ps x = StandsAt ps x.0 × RunAt (past 1 ps) x.1
 
 -- two words
 abbrev pub pair_view : Token × Token → List ℕ × List ℕ
 pair_view x = (x.0.bytes.now, x.1.bytes.now)
 
-abbrev pub PairIn : List ℕ → Token × Token → Type 0
-PairIn text x = IsIn text x.0 × IsIn text x.1
+-- the first two of these tokens
+abbrev pub PairAt : List definitions.Token → Token × Token → Type 0
+PairAt ps x = StandsAt ps x.0 × StandsAt (past 1 ps) x.1
+
+-- the first and the third of these tokens, with BY between them
+abbrev pub SizeAt : List definitions.Token → Token × Token → Type 0
+SizeAt ps x = StandsAt ps x.0 × StandsAt (past 2 ps) x.1
 
 abbrev pub point_view : code_point.Point → Point
 point_view p = if p.enclosed then enclosed p.x.bytes.now p.y.bytes.now else bare p.x.bytes.now p.y.bytes.now
 
-abbrev pub PointIn : List ℕ → code_point.Point → Type 0
-PointIn text p = IsIn text p.x × IsIn text p.y
+-- the coordinates come first, or behind a parenthesis
+abbrev pub coordinates_from : Bool → List definitions.Token → List definitions.Token
+coordinates_from is_enclosed ps = if is_enclosed then past 1 ps else ps
+
+-- a point is the first of these tokens
+abbrev pub PointAt : List definitions.Token → code_point.Point → Type 0
+PointAt ps p = PairAt (coordinates_from p.enclosed ps) (p.x, p.y)
 
 abbrev pub two_points_view : code_point.Point × code_point.Point → Point × Point
 two_points_view x = (point_view x.0, point_view x.1)
 
-abbrev pub PointsIn : List ℕ → code_point.Point × code_point.Point → Type 0
-PointsIn text x = PointIn text x.0 × PointIn text x.1
+-- one point, and behind it the other
+abbrev pub PointsAt : List definitions.Token → code_point.Point × code_point.Point → Type 0
+PointsAt ps x = PointAt ps x.0 × PointAt (behind (spell point (point_view x.0)) ps) x.1
 
 -- the word of a MASK and two points
 abbrev pub masked_view : Token × (code_point.Point × code_point.Point) → List ℕ × (Point × Point)
 masked_view x = (x.0.bytes.now, two_points_view x.1)
 
-abbrev pub MaskedIn : List ℕ → Token × (code_point.Point × code_point.Point) → Type 0
-MaskedIn text x = IsIn text x.0 × PointsIn text x.1
+-- the word behind MASK, and then the points
+abbrev pub MaskedAt : List definitions.Token → Token × (code_point.Point × code_point.Point) → Type 0
+MaskedAt ps x = StandsAt (past 1 ps) x.0 × PointsAt (past 2 ps) x.1
 
 abbrev pub corners_by : Option (List ℕ) → Point → Point → Corners
 corners_by None a b = unmasked a b
@@ -54,5 +70,10 @@ corners_by (Some mask) a b = masked mask a b
 abbrev pub corners_view : code_corners.Corners → Corners
 corners_view c = corners_by (option_map (λ (t : Token). t.bytes.now) c.mask) (point_view c.from) (point_view c.to)
 
-abbrev pub CornersIn : List ℕ → code_corners.Corners → Type 0
-CornersIn text c = IfSome c.mask (IsIn text) × PointIn text c.from × PointIn text c.to
+-- the points come first, or behind MASK and its word
+abbrev pub CornersBy : Option Token → List definitions.Token → code_point.Point × code_point.Point → Type 0
+CornersBy None ps x = PointsAt ps x
+CornersBy (Some mask) ps x = MaskedAt ps (mask, x)
+
+abbrev pub CornersAt : List definitions.Token → code_corners.Corners → Type 0
+CornersAt ps c = CornersBy c.mask ps (c.from, c.to)

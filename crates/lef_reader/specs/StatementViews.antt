@@ -1,17 +1,18 @@
--- Statements of a LEF text: the program's as those of the definitions, and what they lend from a text.
-use Rattle.std.specs.Prelude.{ℕ, List}
+-- Statements of a LEF text: the program's as those of the definitions, and which tokens they are.
+use Rattle.std.specs.Prelude.{List}
+use Rattle.statement_model.specs.Tokens.{Token}
 use Rattle.lef_grammar.specs.LefRecords.{LefRecord, outside, in_layer, in_site, in_via, in_rule, in_rule_layer, in_macro, in_pin, in_port, in_kept}
 use Rattle.lef_reader.specs.declared.statement.LefStatement.{LefStatement}
 use Rattle.lef_reader.specs.declared.statement.LefStatement.TheVariants as variants
-use Rattle.lef_reader.specs.KeptViews.{kept_view, KeptIn}
-use Rattle.lef_reader.specs.LayerViews.{layer_view, LayerIn}
-use Rattle.lef_reader.specs.MacroViews.{macro_view, MacroIn}
-use Rattle.lef_reader.specs.OutermostViews.{outermost_view, OutermostIn}
-use Rattle.lef_reader.specs.PinViews.{pin_view, PinIn}
-use Rattle.lef_reader.specs.PortViews.{port_view, PortIn}
-use Rattle.lef_reader.specs.RuleViews.{rule_view, RuleIn, rule_layer_view, RuleLayerIn}
-use Rattle.lef_reader.specs.SiteViews.{site_view, SiteIn}
-use Rattle.lef_reader.specs.ViaViews.{via_view, ViaIn}
+use Rattle.lef_reader.specs.KeptViews.{kept_view, KeptAt}
+use Rattle.lef_reader.specs.LayerViews.{layer_view, LayerAt}
+use Rattle.lef_reader.specs.MacroViews.{macro_view, MacroAt}
+use Rattle.lef_reader.specs.OutermostViews.{outermost_view, OutermostAt}
+use Rattle.lef_reader.specs.PinViews.{pin_view, PinAt}
+use Rattle.lef_reader.specs.PortViews.{port_view, PortAt}
+use Rattle.lef_reader.specs.RuleViews.{rule_view, RuleAt, rule_layer_view, RuleLayerAt}
+use Rattle.lef_reader.specs.SiteViews.{site_view, SiteAt}
+use Rattle.lef_reader.specs.ViaViews.{via_view, ViaAt}
 pub use Rattle.lef_reader.specs.BlockViews.{block_view}
 
 abbrev pub lef_view : LefStatement → LefRecord
@@ -26,14 +27,14 @@ lef_view (variants.InPin s) = in_pin (pin_view s)
 lef_view (variants.InPort s) = in_port (port_view s)
 lef_view (variants.InKept s) = in_kept (kept_view s)
 
-abbrev pub StatementIn : List ℕ → LefStatement → Type 0
-StatementIn text (variants.Outside s) = OutermostIn text s
-StatementIn text (variants.InLayer s) = LayerIn text s
-StatementIn text (variants.InSite s) = SiteIn text s
-StatementIn text (variants.InVia s) = ViaIn text s
-StatementIn text (variants.InRule s) = RuleIn text s
-StatementIn text (variants.InRuleLayer s) = RuleLayerIn text s
-StatementIn text (variants.InMacro s) = MacroIn text s
-StatementIn text (variants.InPin s) = PinIn text s
-StatementIn text (variants.InPort s) = PortIn text s
-StatementIn text (variants.InKept s) = KeptIn text s
+abbrev pub StatementAt : List Token → LefStatement → Type 0
+StatementAt ps (variants.Outside s) = OutermostAt ps s
+StatementAt ps (variants.InLayer s) = LayerAt ps s
+StatementAt ps (variants.InSite s) = SiteAt ps s
+StatementAt ps (variants.InVia s) = ViaAt ps s
+StatementAt ps (variants.InRule s) = RuleAt ps s
+StatementAt ps (variants.InRuleLayer s) = RuleLayerAt ps s
+StatementAt ps (variants.InMacro s) = MacroAt ps s
+StatementAt ps (variants.InPin s) = PinAt ps s
+StatementAt ps (variants.InPort s) = PortAt ps s
+StatementAt ps (variants.InKept s) = KeptAt ps s

@@ -1,11 +1,12 @@
 //! The statements of a LEF text, one at a time.
 
 ghost use Rattle.std.specs.Prelude.{◌≡◌, ◌≤◌, length, IfOk, IfSome};
-ghost use Rattle.lef_reader.specs.Stepping.{Steps};
-ghost use Rattle.lef_reader.specs.Events.{after_next, events_of, found_view, next_record};
-ghost use Rattle.lef_reader.specs.StatementViews.{StatementIn};
+ghost use Rattle.lef_reader.specs.Stepping.{Steps, tokens_from};
+ghost use Rattle.lef_reader.specs.Events.{after_next, events_of, found_view, next_record, next_tokens};
+ghost use Rattle.lef_reader.specs.StatementViews.{StatementAt};
 
 use crate::block::Block;
+use crate::header_words::first_fault;
 use crate::statement::LefStatement;
 use design_model::MAX_TEXT;
 use design_model::fault::{Fault, FaultCode};
@@ -23,14 +24,8 @@ fn step<'t, S: Statement<'t>>(
     requires { pos.old ≤ length text.now }
     ensures within { pos.new ≤ length text.now }
     ensures gives { Steps S.grammar S.place_view S.view text.now place.old pos.old result place.new pos.new }
-    ensures lent { IfOk result (λ found. IfSome found (λ s. S.lent text.now s)) }
+    ensures lent { IfOk result (λ found. IfSome found (λ s. S.lent (tokens_from S.grammar S.place_view text.now place.old pos.old) s)) }
 {
-    if text.len() > MAX_TEXT {
-        return Err(Fault {
-            code: FaultCode::TooLong,
-            pos: 0,
-        });
-    }
     let Some(read) = read_statement::<S>(*place, text, *pos)? else {
         return Ok(None);
     };
@@ -74,8 +69,17 @@ impl<'l> LefEvents<'l> {
     pub fn next(&mut self) -> Result<Option<LefStatement<'l>>, Fault>
         ensures gives { found_view result ≡ next_record self.old }
         ensures left { self.new ≡ after_next self.old }
-        ensures lent { IfOk result (λ found. IfSome found (λ s. StatementIn self.old.text s)) }
+        ensures lent { IfOk result (λ found. IfSome found (λ s. StatementAt (next_tokens self.old) s)) }
     {
-        step::<LefStatement<'l>>(&mut self.block, self.text, &mut self.pos)
+        if self.text.len() > MAX_TEXT {
+            return Err(Fault {
+                code: FaultCode::TooLong,
+                pos: 0,
+            });
+        }
+        match step::<LefStatement<'l>>(&mut self.block, self.text, &mut self.pos) {
+            Err(fault) => Err(first_fault(self.block, self.text, self.pos, fault)),
+            found => found,
+        }
     }
 }

@@ -5,10 +5,10 @@ ghost use Rattle.std.specs.Prelude.{◌≡◌, IfSome};
 ghost use Rattle.form_meanings.specs.Words.{Gives};
 ghost use Rattle.statement_model.specs.Form.{read};
 ghost use Rattle.lef_grammar.specs.KeptBlocks.{after_word, closed_alone, closed_by, continues_rule, ends_kept, extension_token, generating_statement, header_after, kept_after, kept_block_statement, kept_ending};
-ghost use Rattle.lefdef_tokens.specs.Views.{IsLater, rest_of};
+ghost use Rattle.lefdef_tokens.specs.Views.{IsLater, pieces_of, rest_of};
 ghost use Rattle.statement_reader.specs.Endings.{ending_view};
 ghost use Rattle.lef_reader.specs.Parts.{with_rest};
-ghost use Rattle.lef_reader.specs.KeptViews.{KeptIn, header_view, kept_block_view, kept_view};
+ghost use Rattle.lef_reader.specs.KeptViews.{KeptAt, header_view, kept_block_view, kept_view};
 
 use crate::parts::{bare_block_ending, block_ending, kept_at};
 use lefdef_tokens::{Cursor, Token, TokenRun, is_word};
@@ -59,7 +59,7 @@ impl<'l> KeptStatement<'l> {
 
 impl RuleHeader {
     /// Whether a word is one of the header that may still come.
-    fn continues(self, word: &[u8]) -> bool
+    pub(crate) fn continues(self, word: &[u8]) -> bool
         ensures { result ≡ continues_rule (header_view self) word.now }
     {
         match self {
@@ -71,7 +71,7 @@ impl RuleHeader {
     }
 
     /// What may still come after a word of the header.
-    fn after_word(self, word: &[u8]) -> RuleHeader
+    pub(crate) fn after_word(self, word: &[u8]) -> RuleHeader
         ensures { header_view result ≡ after_word (header_view self) word.now }
     {
         match self {
@@ -129,7 +129,7 @@ impl<'l> KeptBlock<'l> {
 fn closed_by_at<'l>(word: &[u8], cursor: Cursor<'l>) -> Option<(KeptStatement<'l>, Cursor<'l>)>
     ensures gives { Gives (with_rest kept_view) result (read (closed_by word.now) (rest_of cursor.entry)) }
     ensures later { IfSome result (λ x. IsLater cursor.entry x.1) }
-    ensures lent { IfSome result (λ x. KeptIn cursor.entry.tokens.text.now x.0) }
+    ensures lent { IfSome result (λ x. KeptAt (pieces_of cursor.entry.tokens) x.0) }
 {
     if cursor.next_is(b"END") {
         let cursor = cursor.key(b"END")?.key(word)?;
@@ -145,7 +145,7 @@ fn closed_by_at<'l>(word: &[u8], cursor: Cursor<'l>) -> Option<(KeptStatement<'l
 fn closed_alone_at<'l>(cursor: Cursor<'l>) -> Option<(KeptStatement<'l>, Cursor<'l>)>
     ensures gives { Gives (with_rest kept_view) result (read closed_alone (rest_of cursor.entry)) }
     ensures later { IfSome result (λ x. IsLater cursor.entry x.1) }
-    ensures lent { IfSome result (λ x. KeptIn cursor.entry.tokens.text.now x.0) }
+    ensures lent { IfSome result (λ x. KeptAt (pieces_of cursor.entry.tokens) x.0) }
 {
     if cursor.next_is(b"END") {
         Some((KeptStatement::End, cursor.key(b"END")?))
@@ -160,7 +160,7 @@ fn closed_alone_at<'l>(cursor: Cursor<'l>) -> Option<(KeptStatement<'l>, Cursor<
 fn extension_at<'l>(cursor: Cursor<'l>) -> Option<(KeptStatement<'l>, Cursor<'l>)>
     ensures gives { Gives (with_rest kept_view) result (read extension_token (rest_of cursor.entry)) }
     ensures later { IfSome result (λ x. IsLater cursor.entry x.1) }
-    ensures lent { IfSome result (λ x. KeptIn cursor.entry.tokens.text.now x.0) }
+    ensures lent { IfSome result (λ x. KeptAt (pieces_of cursor.entry.tokens) x.0) }
 {
     let (word, later) = cursor.next()?;
     if is_word(word.bytes, b"ENDEXT") {
@@ -179,7 +179,7 @@ fn generating_at<'l>(
 ) -> Option<(KeptStatement<'l>, Cursor<'l>)>
     ensures gives { Gives (with_rest kept_view) result (read (generating_statement name.now (header_view header)) (rest_of cursor.entry)) }
     ensures later { IfSome result (λ x. IsLater cursor.entry x.1) }
-    ensures lent { IfSome result (λ x. KeptIn cursor.entry.tokens.text.now x.0) }
+    ensures lent { IfSome result (λ x. KeptAt (pieces_of cursor.entry.tokens) x.0) }
 {
     let (word, later) = cursor.next()?;
     if is_word(word.bytes, b"END") {
@@ -200,7 +200,7 @@ pub(crate) fn kept_block_at<'l>(
 ) -> Option<(KeptStatement<'l>, Cursor<'l>)>
     ensures gives { Gives (with_rest kept_view) result (read (kept_block_statement (kept_block_view block.entry)) (rest_of cursor.entry)) }
     ensures later { IfSome result (λ x. IsLater cursor.entry x.1) }
-    ensures lent { IfSome result (λ x. KeptIn cursor.entry.tokens.text.now x.0) }
+    ensures lent { IfSome result (λ x. KeptAt (pieces_of cursor.entry.tokens) x.0) }
 {
     match block {
         KeptBlock::Units => closed_by_at(b"UNITS", cursor),

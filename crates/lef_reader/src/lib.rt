@@ -11,11 +11,13 @@
 //!
 //! A fault is one of the tokens, a statement that doesn't end or a block that is open where the text ends (`Unfinished`),
 //! a statement without a form of its block (`NoForm`), or an invalid number (`Number`), at its position; of a text also
-//! that it is too long. After a fault `LefEvents` answers it for good.
+//! that it is too long. A header of a VIA or a VIARULE without a name has first the fault of the tokens behind it, up to
+//! where it ends (`header_words`). After a fault `LefEvents` answers it for good.
 #![tactic(auto)]
 
 pub mod block;
 pub mod events;
+mod header_words;
 pub mod kept_blocks;
 pub mod laws;
 pub mod layer_block;

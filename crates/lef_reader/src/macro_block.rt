@@ -4,10 +4,10 @@ ghost use Rattle.std.specs.Prelude.{◌≡◌, IfSome};
 ghost use Rattle.form_meanings.specs.Words.{Gives};
 ghost use Rattle.statement_model.specs.Form.{read};
 ghost use Rattle.lef_grammar.specs.MacroBlock.{class_statement, ends_macro, inner_header, is_inner_header, is_macro_header, macro_ending, macro_site_statement, macro_statement, origin_statement};
-ghost use Rattle.lefdef_tokens.specs.Views.{IsLater, rest_of};
+ghost use Rattle.lefdef_tokens.specs.Views.{IsLater, pieces_of, rest_of};
 ghost use Rattle.statement_reader.specs.Endings.{ending_view};
-ghost use Rattle.lef_reader.specs.Parts.{PointIn, WordsIn, point_view, with_rest, words_view};
-ghost use Rattle.lef_reader.specs.MacroViews.{HeaderIn, MacroIn, header_view, macro_view};
+ghost use Rattle.lef_reader.specs.Parts.{PointAt, WordsAt, point_view, with_rest, words_view};
+ghost use Rattle.lef_reader.specs.MacroViews.{HeaderAt, MacroAt, header_view, macro_view};
 
 use crate::parts::{block_ending, kept_at, kept_word_at, name_to_end_at, size_at, to_end_at};
 use crate::point::{Point, point_at};
@@ -81,7 +81,7 @@ pub(crate) fn macro_ending(first: &[u8]) -> Ending
 fn class_at<'l>(cursor: Cursor<'l>) -> Option<((Token<'l>, TokenRun<'l>), Cursor<'l>)>
     ensures gives { Gives (with_rest words_view) result (read class_statement (rest_of cursor.entry)) }
     ensures later { IfSome result (λ x. IsLater cursor.entry x.1) }
-    ensures lent { IfSome result (λ x. WordsIn cursor.entry.tokens.text.now x.0) }
+    ensures lent { IfSome result (λ x. WordsAt (pieces_of cursor.entry.tokens) x.0) }
 {
     let (word, cursor) = kept_word_at(cursor)?;
     let (others, cursor) = to_end_at(cursor)?;
@@ -93,7 +93,7 @@ fn class_at<'l>(cursor: Cursor<'l>) -> Option<((Token<'l>, TokenRun<'l>), Cursor
 fn origin_at<'l>(cursor: Cursor<'l>) -> Option<(Point<'l>, Cursor<'l>)>
     ensures gives { Gives (with_rest point_view) result (read origin_statement (rest_of cursor.entry)) }
     ensures later { IfSome result (λ x. IsLater cursor.entry x.1) }
-    ensures lent { IfSome result (λ x. PointIn cursor.entry.tokens.text.now x.0) }
+    ensures lent { IfSome result (λ x. PointAt (pieces_of cursor.entry.tokens) x.0) }
 {
     let (point, cursor) = point_at(cursor)?;
     let cursor = cursor.key(b";")?;
@@ -105,7 +105,7 @@ fn origin_at<'l>(cursor: Cursor<'l>) -> Option<(Point<'l>, Cursor<'l>)>
 fn site_at<'l>(cursor: Cursor<'l>) -> Option<((Token<'l>, TokenRun<'l>), Cursor<'l>)>
     ensures gives { Gives (with_rest words_view) result (read macro_site_statement (rest_of cursor.entry)) }
     ensures later { IfSome result (λ x. IsLater cursor.entry x.1) }
-    ensures lent { IfSome result (λ x. WordsIn cursor.entry.tokens.text.now x.0) }
+    ensures lent { IfSome result (λ x. WordsAt (pieces_of cursor.entry.tokens) x.0) }
 {
     name_to_end_at(cursor)
 }
@@ -115,7 +115,7 @@ fn site_at<'l>(cursor: Cursor<'l>) -> Option<((Token<'l>, TokenRun<'l>), Cursor<
 fn header_at<'l>(cursor: Cursor<'l>) -> Option<(InnerHeader<'l>, Cursor<'l>)>
     ensures gives { Gives (with_rest header_view) result (read inner_header (rest_of cursor.entry)) }
     ensures later { IfSome result (λ x. IsLater cursor.entry x.1) }
-    ensures lent { IfSome result (λ x. HeaderIn cursor.entry.tokens.text.now x.0) }
+    ensures lent { IfSome result (λ x. HeaderAt (pieces_of cursor.entry.tokens) x.0) }
 {
     let (word, later) = cursor.next()?;
     if is_word(word.bytes, b"PIN") {
@@ -138,7 +138,7 @@ pub(crate) fn macro_at<'l>(
 ) -> Option<(MacroStatement<'l>, Cursor<'l>)>
     ensures gives { Gives (with_rest macro_view) result (read (macro_statement name.now) (rest_of cursor.entry)) }
     ensures later { IfSome result (λ x. IsLater cursor.entry x.1) }
-    ensures lent { IfSome result (λ x. MacroIn cursor.entry.tokens.text.now x.0) }
+    ensures lent { IfSome result (λ x. MacroAt (pieces_of cursor.entry.tokens) x.0) }
 {
     let (word, later) = cursor.next()?;
     if is_word(word.bytes, b"END") {

@@ -1,14 +1,14 @@
 //! Statements outside of all blocks (LEF/DEF 5.8 Language Reference, "LEF Syntax").
 
-ghost use Rattle.std.specs.Prelude.{◌≡◌, IfSome, codes};
+ghost use Rattle.std.specs.Prelude.{◌≡◌, IfSome};
 ghost use Rattle.form_meanings.specs.Words.{Gives};
-ghost use Rattle.statement_model.specs.Form.{◌▸◌, empty, left, read, right};
+ghost use Rattle.statement_model.specs.Form.{left, read, right};
 ghost use Rattle.lef_grammar.specs.Extents.{kept_statement};
 ghost use Rattle.lef_grammar.specs.Outermost.{bare_header, is_bare_header, is_named_header, is_rule_header, named_header, outermost_ending, outermost_statement, rule_header};
-ghost use Rattle.lefdef_tokens.specs.Views.{IsLater, rest_of};
+ghost use Rattle.lefdef_tokens.specs.Views.{IsLater, pieces_of, rest_of};
 ghost use Rattle.statement_reader.specs.Endings.{ending_view};
 ghost use Rattle.lef_reader.specs.Parts.{with_rest};
-ghost use Rattle.lef_reader.specs.OutermostViews.{NamedIn, OutermostIn, bare_view, named_view, outermost_view};
+ghost use Rattle.lef_reader.specs.OutermostViews.{NamedAt, OutermostAt, bare_view, named_view, outermost_view};
 
 use crate::parts::{block_ending, kept_at};
 use lefdef_tokens::{Cursor, Token, TokenRun, is_word};
@@ -92,7 +92,7 @@ pub(crate) fn outermost_ending(first: &[u8]) -> Ending
 fn rule_header_at<'l>(cursor: Cursor<'l>) -> Option<(NamedHeader<'l>, Cursor<'l>)>
     ensures gives { Gives (with_rest named_view) result (read (right (right (right rule_header))) (rest_of cursor.entry)) }
     ensures later { IfSome result (λ x. IsLater cursor.entry x.1) }
-    ensures lent { IfSome result (λ x. NamedIn cursor.entry.tokens.text.now x.0) }
+    ensures lent { IfSome result (λ x. NamedAt (pieces_of cursor.entry.tokens) x.0) }
 {
     let (word, later) = cursor.next()?;
     let (name, cursor) = later.name()?;
@@ -112,7 +112,7 @@ fn rule_header_at<'l>(cursor: Cursor<'l>) -> Option<(NamedHeader<'l>, Cursor<'l>
 fn named_at<'l>(cursor: Cursor<'l>) -> Option<(NamedHeader<'l>, Cursor<'l>)>
     ensures gives { Gives (with_rest named_view) result (read named_header (rest_of cursor.entry)) }
     ensures later { IfSome result (λ x. IsLater cursor.entry x.1) }
-    ensures lent { IfSome result (λ x. NamedIn cursor.entry.tokens.text.now x.0) }
+    ensures lent { IfSome result (λ x. NamedAt (pieces_of cursor.entry.tokens) x.0) }
 {
     let (word, later) = cursor.next()?;
     let (name, left) = later.name()?;
@@ -147,21 +147,11 @@ fn bare_at<'l>(cursor: Cursor<'l>) -> Option<(BareHeader, Cursor<'l>)>
     }
 }
 
-/// `LIBRARY`, after `END`
-fn end_library_at<'l>(cursor: Cursor<'l>) -> Option<(OutermostStatement<'l>, Cursor<'l>)>
-    ensures gives { Gives (with_rest outermost_view) result (read (left (codes "LIBRARY" ▸ empty)) (rest_of cursor.entry)) }
-    ensures later { IfSome result (λ x. IsLater cursor.entry x.1) }
-    ensures lent { IfSome result (λ x. OutermostIn cursor.entry.tokens.text.now x.0) }
-{
-    let cursor = cursor.key(b"LIBRARY")?;
-    Some((OutermostStatement::EndLibrary, cursor))
-}
-
 /// The header of a block with a name, as a statement.
 fn opens_named_at<'l>(cursor: Cursor<'l>) -> Option<(OutermostStatement<'l>, Cursor<'l>)>
     ensures gives { Gives (with_rest outermost_view) result (read (right (left named_header)) (rest_of cursor.entry)) }
     ensures later { IfSome result (λ x. IsLater cursor.entry x.1) }
-    ensures lent { IfSome result (λ x. OutermostIn cursor.entry.tokens.text.now x.0) }
+    ensures lent { IfSome result (λ x. OutermostAt (pieces_of cursor.entry.tokens) x.0) }
 {
     let (header, cursor) = named_at(cursor)?;
     Some((OutermostStatement::Named(header), cursor))
@@ -171,7 +161,7 @@ fn opens_named_at<'l>(cursor: Cursor<'l>) -> Option<(OutermostStatement<'l>, Cur
 fn opens_bare_at<'l>(cursor: Cursor<'l>) -> Option<(OutermostStatement<'l>, Cursor<'l>)>
     ensures gives { Gives (with_rest outermost_view) result (read (right (right (left bare_header))) (rest_of cursor.entry)) }
     ensures later { IfSome result (λ x. IsLater cursor.entry x.1) }
-    ensures lent { IfSome result (λ x. OutermostIn cursor.entry.tokens.text.now x.0) }
+    ensures lent { IfSome result (λ x. OutermostAt (pieces_of cursor.entry.tokens) x.0) }
 {
     let (header, cursor) = bare_at(cursor)?;
     Some((OutermostStatement::Bare(header), cursor))
@@ -181,7 +171,7 @@ fn opens_bare_at<'l>(cursor: Cursor<'l>) -> Option<(OutermostStatement<'l>, Curs
 fn kept_outside_at<'l>(cursor: Cursor<'l>) -> Option<(OutermostStatement<'l>, Cursor<'l>)>
     ensures gives { Gives (with_rest outermost_view) result (read (right (right (right kept_statement))) (rest_of cursor.entry)) }
     ensures later { IfSome result (λ x. IsLater cursor.entry x.1) }
-    ensures lent { IfSome result (λ x. OutermostIn cursor.entry.tokens.text.now x.0) }
+    ensures lent { IfSome result (λ x. OutermostAt (pieces_of cursor.entry.tokens) x.0) }
 {
     let ((word, others), cursor) = kept_at(cursor)?;
     Some((OutermostStatement::Kept(word, others), cursor))
@@ -192,11 +182,11 @@ fn kept_outside_at<'l>(cursor: Cursor<'l>) -> Option<(OutermostStatement<'l>, Cu
 pub(crate) fn outermost_at<'l>(cursor: Cursor<'l>) -> Option<(OutermostStatement<'l>, Cursor<'l>)>
     ensures gives { Gives (with_rest outermost_view) result (read outermost_statement (rest_of cursor.entry)) }
     ensures later { IfSome result (λ x. IsLater cursor.entry x.1) }
-    ensures lent { IfSome result (λ x. OutermostIn cursor.entry.tokens.text.now x.0) }
+    ensures lent { IfSome result (λ x. OutermostAt (pieces_of cursor.entry.tokens) x.0) }
 {
     let (word, later) = cursor.next()?;
     if is_word(word.bytes, b"END") {
-        end_library_at(later)
+        Some((OutermostStatement::EndLibrary, later.key(b"LIBRARY")?))
     } else if is_named_header(word.bytes) {
         opens_named_at(cursor)
     } else if is_bare_header(word.bytes) {

@@ -4,9 +4,10 @@ ghost use Rattle.std.specs.Prelude.{◌≡◌, IfSome};
 ghost use Rattle.form_meanings.specs.Words.{Gives};
 ghost use Rattle.statement_model.specs.Form.{◌⨟◌, read, word};
 ghost use Rattle.lef_grammar.specs.Extents.{array_count, bare_block_ending, block_ending, dec, extent, is_array_count, is_distance, is_extent, is_kept_word, kept_statement, name, size_statement, to_end};
-ghost use Rattle.lefdef_tokens.specs.Views.{IsIn, IsLater, rest_of, run_of, word_of};
+ghost use Rattle.lefdef_tokens.specs.Places.{RunAt, StandsAt, past};
+ghost use Rattle.lefdef_tokens.specs.Views.{IsLater, pieces_of, rest_of, run_of, word_of};
 ghost use Rattle.statement_reader.specs.Endings.{ending_view};
-ghost use Rattle.lef_reader.specs.Parts.{PairIn, WordsIn, pair_view, with_rest, words_view};
+ghost use Rattle.lef_reader.specs.Parts.{SizeAt, WordsAt, pair_view, with_rest, words_view};
 
 use lefdef_tokens::{Cursor, Token, TokenRun, is_quoted, is_semicolon, is_word};
 use statement_reader::boundary::Ending;
@@ -78,7 +79,8 @@ fn is_array_count(word: &[u8]) -> bool
 pub(crate) fn dec_at<'l>(cursor: Cursor<'l>) -> Option<(Token<'l>, Cursor<'l>)>
     ensures gives { Gives word_of result (read dec (rest_of cursor.entry)) }
     ensures later { IfSome result (λ x. IsLater cursor.entry x.1) }
-    ensures lent { IfSome result (λ x. IsIn cursor.entry.tokens.text.now x.0) }
+    ensures left { IfSome result (λ x. pieces_of x.1.tokens ≡ past 1 (pieces_of cursor.entry.tokens)) }
+    ensures lent { IfSome result (λ x. StandsAt (pieces_of cursor.entry.tokens) x.0) }
 {
     let (token, later) = cursor.place()?;
     let good = is_distance(token.bytes);
@@ -90,7 +92,8 @@ pub(crate) fn dec_at<'l>(cursor: Cursor<'l>) -> Option<(Token<'l>, Cursor<'l>)>
 pub(crate) fn extent_at<'l>(cursor: Cursor<'l>) -> Option<(Token<'l>, Cursor<'l>)>
     ensures gives { Gives word_of result (read extent (rest_of cursor.entry)) }
     ensures later { IfSome result (λ x. IsLater cursor.entry x.1) }
-    ensures lent { IfSome result (λ x. IsIn cursor.entry.tokens.text.now x.0) }
+    ensures left { IfSome result (λ x. pieces_of x.1.tokens ≡ past 1 (pieces_of cursor.entry.tokens)) }
+    ensures lent { IfSome result (λ x. StandsAt (pieces_of cursor.entry.tokens) x.0) }
 {
     let (token, later) = cursor.place()?;
     let good = is_extent(token.bytes);
@@ -102,7 +105,8 @@ pub(crate) fn extent_at<'l>(cursor: Cursor<'l>) -> Option<(Token<'l>, Cursor<'l>
 pub(crate) fn array_count_at<'l>(cursor: Cursor<'l>) -> Option<(Token<'l>, Cursor<'l>)>
     ensures gives { Gives word_of result (read array_count (rest_of cursor.entry)) }
     ensures later { IfSome result (λ x. IsLater cursor.entry x.1) }
-    ensures lent { IfSome result (λ x. IsIn cursor.entry.tokens.text.now x.0) }
+    ensures left { IfSome result (λ x. pieces_of x.1.tokens ≡ past 1 (pieces_of cursor.entry.tokens)) }
+    ensures lent { IfSome result (λ x. StandsAt (pieces_of cursor.entry.tokens) x.0) }
 {
     let (token, later) = cursor.place()?;
     let good = is_array_count(token.bytes);
@@ -113,7 +117,8 @@ pub(crate) fn array_count_at<'l>(cursor: Cursor<'l>) -> Option<(Token<'l>, Curso
 pub(crate) fn kept_word_at<'l>(cursor: Cursor<'l>) -> Option<(Token<'l>, Cursor<'l>)>
     ensures gives { Gives word_of result (read (word is_kept_word) (rest_of cursor.entry)) }
     ensures later { IfSome result (λ x. IsLater cursor.entry x.1) }
-    ensures lent { IfSome result (λ x. IsIn cursor.entry.tokens.text.now x.0) }
+    ensures left { IfSome result (λ x. pieces_of x.1.tokens ≡ past 1 (pieces_of cursor.entry.tokens)) }
+    ensures lent { IfSome result (λ x. StandsAt (pieces_of cursor.entry.tokens) x.0) }
 {
     let (word, later) = cursor.next()?;
     if is_kept_word(word.bytes) {
@@ -128,7 +133,7 @@ pub(crate) fn kept_word_at<'l>(cursor: Cursor<'l>) -> Option<(Token<'l>, Cursor<
 pub(crate) fn kept_at<'l>(cursor: Cursor<'l>) -> Option<((Token<'l>, TokenRun<'l>), Cursor<'l>)>
     ensures gives { Gives (with_rest words_view) result (read kept_statement (rest_of cursor.entry)) }
     ensures later { IfSome result (λ x. IsLater cursor.entry x.1) }
-    ensures lent { IfSome result (λ x. WordsIn cursor.entry.tokens.text.now x.0) }
+    ensures lent { IfSome result (λ x. WordsAt (pieces_of cursor.entry.tokens) x.0) }
 {
     let (word, later) = cursor.next()?;
     if !is_kept_word(word.bytes) {
@@ -143,7 +148,7 @@ pub(crate) fn kept_at<'l>(cursor: Cursor<'l>) -> Option<((Token<'l>, TokenRun<'l
 pub(crate) fn to_end_at<'l>(cursor: Cursor<'l>) -> Option<(TokenRun<'l>, Cursor<'l>)>
     ensures gives { Gives run_of result (read to_end (rest_of cursor.entry)) }
     ensures later { IfSome result (λ x. IsLater cursor.entry x.1) }
-    ensures lent { IfSome result (λ x. x.0.text.now ≡ cursor.entry.tokens.text.now) }
+    ensures lent { IfSome result (λ x. RunAt (pieces_of cursor.entry.tokens) x.0) }
 {
     let (others, cursor) = cursor.up_to_semicolon();
     let cursor = cursor.key(b";")?;
@@ -156,7 +161,7 @@ pub(crate) fn name_to_end_at<'l>(
 ) -> Option<((Token<'l>, TokenRun<'l>), Cursor<'l>)>
     ensures gives { Gives (with_rest words_view) result (read (name ⨟ to_end) (rest_of cursor.entry)) }
     ensures later { IfSome result (λ x. IsLater cursor.entry x.1) }
-    ensures lent { IfSome result (λ x. WordsIn cursor.entry.tokens.text.now x.0) }
+    ensures lent { IfSome result (λ x. WordsAt (pieces_of cursor.entry.tokens) x.0) }
 {
     let (name, cursor) = cursor.name()?;
     let (others, cursor) = to_end_at(cursor)?;
@@ -168,7 +173,7 @@ pub(crate) fn name_to_end_at<'l>(
 pub(crate) fn size_at<'l>(cursor: Cursor<'l>) -> Option<((Token<'l>, Token<'l>), Cursor<'l>)>
     ensures gives { Gives (with_rest pair_view) result (read size_statement (rest_of cursor.entry)) }
     ensures later { IfSome result (λ x. IsLater cursor.entry x.1) }
-    ensures lent { IfSome result (λ x. PairIn cursor.entry.tokens.text.now x.0) }
+    ensures lent { IfSome result (λ x. SizeAt (pieces_of cursor.entry.tokens) x.0) }
 {
     let (width, cursor) = extent_at(cursor)?;
     let cursor = cursor.key(b"BY")?;

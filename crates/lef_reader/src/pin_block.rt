@@ -4,10 +4,10 @@ ghost use Rattle.std.specs.Prelude.{◌≡◌, IfSome};
 ghost use Rattle.form_meanings.specs.Words.{Gives};
 ghost use Rattle.statement_model.specs.Form.{read};
 ghost use Rattle.lef_grammar.specs.PinBlock.{ends_pin, pin_ending, pin_statement};
-ghost use Rattle.lefdef_tokens.specs.Views.{IsLater, rest_of};
+ghost use Rattle.lefdef_tokens.specs.Views.{IsLater, pieces_of, rest_of};
 ghost use Rattle.statement_reader.specs.Endings.{ending_view};
 ghost use Rattle.lef_reader.specs.Parts.{with_rest};
-ghost use Rattle.lef_reader.specs.PinViews.{PinIn, pin_view};
+ghost use Rattle.lef_reader.specs.PinViews.{PinAt, pin_view};
 
 use crate::parts::{block_ending, kept_at};
 use lefdef_tokens::{Cursor, Token, TokenRun, is_word};
@@ -48,7 +48,7 @@ pub(crate) fn pin_ending(first: &[u8]) -> Ending
 pub(crate) fn pin_at<'l>(name: &[u8], cursor: Cursor<'l>) -> Option<(PinStatement<'l>, Cursor<'l>)>
     ensures gives { Gives (with_rest pin_view) result (read (pin_statement name.now) (rest_of cursor.entry)) }
     ensures later { IfSome result (λ x. IsLater cursor.entry x.1) }
-    ensures lent { IfSome result (λ x. PinIn cursor.entry.tokens.text.now x.0) }
+    ensures lent { IfSome result (λ x. PinAt (pieces_of cursor.entry.tokens) x.0) }
 {
     let (word, later) = cursor.next()?;
     if is_word(word.bytes, b"END") {

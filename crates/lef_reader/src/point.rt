@@ -2,10 +2,11 @@
 
 ghost use Rattle.std.specs.Prelude.{◌≡◌, codes, IfSome};
 ghost use Rattle.form_meanings.specs.Words.{Gives};
-ghost use Rattle.statement_model.specs.Form.{◌▸◌, ◌◂◌, ◌⨟◌, read, word};
+ghost use Rattle.statement_model.specs.Form.{◌▸◌, ◌◂◌, ◌⨟◌, read, spell, word};
 ghost use Rattle.lef_grammar.specs.Extents.{corners, dec, is_kept_word, point, two_points};
-ghost use Rattle.lefdef_tokens.specs.Views.{IsLater, rest_of};
-ghost use Rattle.lef_reader.specs.Parts.{CornersIn, MaskedIn, PairIn, PointIn, PointsIn, corners_view, masked_view, pair_view, point_view, two_points_view, with_rest};
+ghost use Rattle.lefdef_tokens.specs.Places.{behind, past};
+ghost use Rattle.lefdef_tokens.specs.Views.{IsLater, pieces_of, rest_of};
+ghost use Rattle.lef_reader.specs.Parts.{CornersAt, MaskedAt, PairAt, PointAt, PointsAt, corners_view, masked_view, pair_view, point_view, two_points_view, with_rest};
 
 use crate::parts::{dec_at, kept_word_at};
 use lefdef_tokens::{Cursor, Token, is_word};
@@ -30,7 +31,8 @@ pub struct Corners<'l> {
 fn pair_at<'l>(cursor: Cursor<'l>) -> Option<((Token<'l>, Token<'l>), Cursor<'l>)>
     ensures gives { Gives (with_rest pair_view) result (read (dec ⨟ dec) (rest_of cursor.entry)) }
     ensures later { IfSome result (λ x. IsLater cursor.entry x.1) }
-    ensures lent { IfSome result (λ x. PairIn cursor.entry.tokens.text.now x.0) }
+    ensures left { IfSome result (λ x. pieces_of x.1.tokens ≡ past 2 (pieces_of cursor.entry.tokens)) }
+    ensures lent { IfSome result (λ x. PairAt (pieces_of cursor.entry.tokens) x.0) }
 {
     let (x, cursor) = dec_at(cursor)?;
     let (y, cursor) = dec_at(cursor)?;
@@ -42,7 +44,8 @@ fn pair_at<'l>(cursor: Cursor<'l>) -> Option<((Token<'l>, Token<'l>), Cursor<'l>
 pub(crate) fn point_at<'l>(cursor: Cursor<'l>) -> Option<(Point<'l>, Cursor<'l>)>
     ensures gives { Gives (with_rest point_view) result (read point (rest_of cursor.entry)) }
     ensures later { IfSome result (λ x. IsLater cursor.entry x.1) }
-    ensures lent { IfSome result (λ x. PointIn cursor.entry.tokens.text.now x.0) }
+    ensures left { IfSome result (λ x. pieces_of x.1.tokens ≡ behind (spell point (point_view x.0)) (pieces_of cursor.entry.tokens)) }
+    ensures lent { IfSome result (λ x. PointAt (pieces_of cursor.entry.tokens) x.0) }
 {
     if cursor.next_is(b"(") {
         let ((x, y), cursor) = pair_at(cursor.key(b"(")?)?;
@@ -61,7 +64,7 @@ pub(crate) fn point_at<'l>(cursor: Cursor<'l>) -> Option<(Point<'l>, Cursor<'l>)
 fn two_points_at<'l>(cursor: Cursor<'l>) -> Option<((Point<'l>, Point<'l>), Cursor<'l>)>
     ensures gives { Gives (with_rest two_points_view) result (read two_points (rest_of cursor.entry)) }
     ensures later { IfSome result (λ x. IsLater cursor.entry x.1) }
-    ensures lent { IfSome result (λ x. PointsIn cursor.entry.tokens.text.now x.0) }
+    ensures lent { IfSome result (λ x. PointsAt (pieces_of cursor.entry.tokens) x.0) }
 {
     let (from, cursor) = point_at(cursor)?;
     let (to, cursor) = point_at(cursor)?;
@@ -75,7 +78,7 @@ fn masked_corners_at<'l>(
 ) -> Option<((Token<'l>, (Point<'l>, Point<'l>)), Cursor<'l>)>
     ensures gives { Gives (with_rest masked_view) result (read (codes "MASK" ▸ word is_kept_word ⨟ two_points) (rest_of cursor.entry)) }
     ensures later { IfSome result (λ x. IsLater cursor.entry x.1) }
-    ensures lent { IfSome result (λ x. MaskedIn cursor.entry.tokens.text.now x.0) }
+    ensures lent { IfSome result (λ x. MaskedAt (pieces_of cursor.entry.tokens) x.0) }
 {
     // Most have none, and a look reads no token.
     let first = cursor.peek()?;
@@ -92,7 +95,7 @@ fn masked_corners_at<'l>(
 pub(crate) fn corners_at<'l>(cursor: Cursor<'l>) -> Option<(Corners<'l>, Cursor<'l>)>
     ensures gives { Gives (with_rest corners_view) result (read corners (rest_of cursor.entry)) }
     ensures later { IfSome result (λ x. IsLater cursor.entry x.1) }
-    ensures lent { IfSome result (λ x. CornersIn cursor.entry.tokens.text.now x.0) }
+    ensures lent { IfSome result (λ x. CornersAt (pieces_of cursor.entry.tokens) x.0) }
 {
     if let Some(((mask, (from, to)), later)) = masked_corners_at(cursor) {
         let corners = Corners {

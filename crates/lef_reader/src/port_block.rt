@@ -5,9 +5,9 @@ ghost use Rattle.form_meanings.specs.Words.{Gives};
 ghost use Rattle.statement_model.specs.Form.{◌▸◌, ◌⨟◌, read, word};
 ghost use Rattle.lef_grammar.specs.Extents.{is_kept_word, to_end};
 ghost use Rattle.lef_grammar.specs.PortBlock.{ends_port, is_port_shape, is_unchecked, layer_after, port_rect_statement, port_rect_where, port_statement};
-ghost use Rattle.lefdef_tokens.specs.Views.{IsLater, rest_of};
-ghost use Rattle.lef_reader.specs.Parts.{WordsIn, with_rest, words_view};
-ghost use Rattle.lef_reader.specs.PortViews.{PortIn, RectIn, port_view, rect_view};
+ghost use Rattle.lefdef_tokens.specs.Views.{IsLater, pieces_of, rest_of};
+ghost use Rattle.lef_reader.specs.Parts.{with_rest, words_view};
+ghost use Rattle.lef_reader.specs.PortViews.{MaskedArrayAt, PortAt, RectAt, port_view, rect_view};
 
 use crate::parts::{kept_at, kept_word_at, name_to_end_at, to_end_at};
 use crate::point::{Corners, corners_at};
@@ -77,7 +77,7 @@ fn is_port_shape(word: &[u8]) -> bool
 fn masked_array_at<'l>(cursor: Cursor<'l>) -> Option<((Token<'l>, TokenRun<'l>), Cursor<'l>)>
     ensures gives { Gives (with_rest words_view) result (read (codes "MASK" ▸ word is_kept_word ⨟ codes "ITERATE" ▸ to_end) (rest_of cursor.entry)) }
     ensures later { IfSome result (λ x. IsLater cursor.entry x.1) }
-    ensures lent { IfSome result (λ x. WordsIn cursor.entry.tokens.text.now x.0) }
+    ensures lent { IfSome result (λ x. MaskedArrayAt (pieces_of cursor.entry.tokens) x.0) }
 {
     // Most have none, and a look reads no token.
     let first = cursor.peek()?;
@@ -94,7 +94,7 @@ fn masked_array_at<'l>(cursor: Cursor<'l>) -> Option<((Token<'l>, TokenRun<'l>),
 fn port_rect_at<'l>(cursor: Cursor<'l>) -> Option<(PortRect<'l>, Cursor<'l>)>
     ensures gives { Gives (with_rest rect_view) result (read port_rect_statement (rest_of cursor.entry)) }
     ensures later { IfSome result (λ x. IsLater cursor.entry x.1) }
-    ensures lent { IfSome result (λ x. RectIn cursor.entry.tokens.text.now x.0) }
+    ensures lent { IfSome result (λ x. RectAt (pieces_of cursor.entry.tokens) x.0) }
 {
     if cursor.next_is(b"ITERATE") {
         let (others, cursor) = to_end_at(cursor.key(b"ITERATE")?)?;
@@ -112,7 +112,7 @@ fn port_rect_at<'l>(cursor: Cursor<'l>) -> Option<(PortRect<'l>, Cursor<'l>)>
 fn rect_at<'l>(has_layer: bool, cursor: Cursor<'l>) -> Option<(PortRect<'l>, Cursor<'l>)>
     ensures gives { Gives (with_rest rect_view) result (read (port_rect_where has_layer) (rest_of cursor.entry)) }
     ensures later { IfSome result (λ x. IsLater cursor.entry x.1) }
-    ensures lent { IfSome result (λ x. RectIn cursor.entry.tokens.text.now x.0) }
+    ensures lent { IfSome result (λ x. RectAt (pieces_of cursor.entry.tokens) x.0) }
 {
     if has_layer {
         port_rect_at(cursor)
@@ -129,7 +129,7 @@ pub(crate) fn port_at<'l>(
 ) -> Option<(PortStatement<'l>, Cursor<'l>)>
     ensures gives { Gives (with_rest port_view) result (read (port_statement has_layer) (rest_of cursor.entry)) }
     ensures later { IfSome result (λ x. IsLater cursor.entry x.1) }
-    ensures lent { IfSome result (λ x. PortIn cursor.entry.tokens.text.now x.0) }
+    ensures lent { IfSome result (λ x. PortAt (pieces_of cursor.entry.tokens) x.0) }
 {
     let (word, later) = cursor.next()?;
     if is_word(word.bytes, b"END") {

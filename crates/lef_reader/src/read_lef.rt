@@ -2,10 +2,13 @@
 
 ghost use Rattle.std.specs.Prelude.{◌≡◌, ◌≤◌, length, IfOk, IfSome};
 ghost use Rattle.lef_grammar.specs.LefRecords.{lef};
-ghost use Rattle.statement_reader.specs.StatementViews.{CutsStatement, ReadsStatement};
-ghost use Rattle.lef_reader.specs.StatementViews.{StatementIn, block_view, lef_view};
+ghost use Rattle.statement_reader.specs.StatementViews.{CutsStatement};
+ghost use Rattle.lefdef_tokens.specs.Views.{pieces_of, span_of};
+ghost use Rattle.lef_reader.specs.LefReading.{ReadsLef};
+ghost use Rattle.lef_reader.specs.StatementViews.{StatementAt, block_view};
 
 use crate::block::Block;
+use crate::header_words::first_fault;
 use crate::statement::LefStatement;
 use design_model::fault::Fault;
 use statement_reader::grammar::Read;
@@ -21,10 +24,14 @@ pub fn read_lef_statement<'l>(
     pos: usize,
 ) -> Result<Option<LefRead<'l>>, Fault>
     requires { pos ≤ length text.now }
-    ensures reads { ReadsStatement lef block_view lef_view block.entry text.now pos result }
+    ensures reads { ReadsLef block.entry text.now pos result }
     ensures cuts { CutsStatement lef block_view block.entry text.now pos result }
-    ensures lent { IfOk result (λ found. IfSome found (λ x. StatementIn text.now x.statement)) }
+    ensures lent { IfOk result (λ found. IfSome found (λ x. StatementAt (pieces_of x.tokens) x.statement)) }
     ensures text { IfOk result (λ found. IfSome found (λ x. x.tokens.text.now ≡ text.now)) }
+    ensures span { IfOk result (λ found. IfSome found (λ x. span_of (pieces_of x.tokens) ≡ record { lo = x.start; hi = x.end })) }
 {
-    read_statement::<LefStatement<'l>>(block, text, pos)
+    match read_statement::<LefStatement<'l>>(block, text, pos) {
+        Err(fault) => Err(first_fault(block, text, pos, fault)),
+        found => found,
+    }
 }

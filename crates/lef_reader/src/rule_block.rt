@@ -4,10 +4,10 @@ ghost use Rattle.std.specs.Prelude.{◌≡◌, IfSome};
 ghost use Rattle.form_meanings.specs.Words.{Gives};
 ghost use Rattle.statement_model.specs.Form.{read};
 ghost use Rattle.lef_grammar.specs.RuleBlock.{ends_rule, ends_rule_layer, rule_ending, rule_layer_statement, rule_statement};
-ghost use Rattle.lefdef_tokens.specs.Views.{IsLater, rest_of};
+ghost use Rattle.lefdef_tokens.specs.Views.{IsLater, pieces_of, rest_of};
 ghost use Rattle.statement_reader.specs.Endings.{ending_view};
 ghost use Rattle.lef_reader.specs.Parts.{with_rest};
-ghost use Rattle.lef_reader.specs.RuleViews.{RuleIn, RuleLayerIn, rule_layer_view, rule_view};
+ghost use Rattle.lef_reader.specs.RuleViews.{RuleAt, RuleLayerAt, rule_layer_view, rule_view};
 
 use crate::parts::{block_ending, extent_at, kept_at};
 use lefdef_tokens::{Cursor, Token, TokenRun, is_word};
@@ -76,7 +76,7 @@ pub(crate) fn rule_at<'l>(
 ) -> Option<(RuleStatement<'l>, Cursor<'l>)>
     ensures gives { Gives (with_rest rule_view) result (read (rule_statement name.now) (rest_of cursor.entry)) }
     ensures later { IfSome result (λ x. IsLater cursor.entry x.1) }
-    ensures lent { IfSome result (λ x. RuleIn cursor.entry.tokens.text.now x.0) }
+    ensures lent { IfSome result (λ x. RuleAt (pieces_of cursor.entry.tokens) x.0) }
 {
     let (word, later) = cursor.next()?;
     if is_word(word.bytes, b"END") {
@@ -103,7 +103,7 @@ pub(crate) fn rule_layer_at<'l>(
 ) -> Option<(RuleLayerStatement<'l>, Cursor<'l>)>
     ensures gives { Gives (with_rest rule_layer_view) result (read (rule_layer_statement name.now) (rest_of cursor.entry)) }
     ensures later { IfSome result (λ x. IsLater cursor.entry x.1) }
-    ensures lent { IfSome result (λ x. RuleLayerIn cursor.entry.tokens.text.now x.0) }
+    ensures lent { IfSome result (λ x. RuleLayerAt (pieces_of cursor.entry.tokens) x.0) }
 {
     let (word, later) = cursor.next()?;
     if is_word(word.bytes, b"END") {

@@ -4,9 +4,9 @@ ghost use Rattle.std.specs.Prelude.{◌≡◌, IfSome};
 ghost use Rattle.form_meanings.specs.Words.{Gives};
 ghost use Rattle.statement_model.specs.Form.{read};
 ghost use Rattle.lef_grammar.specs.SiteBlock.{ends_site, site_statement};
-ghost use Rattle.lefdef_tokens.specs.Views.{IsLater, rest_of};
+ghost use Rattle.lefdef_tokens.specs.Views.{IsLater, pieces_of, rest_of};
 ghost use Rattle.lef_reader.specs.Parts.{with_rest};
-ghost use Rattle.lef_reader.specs.SiteViews.{SiteIn, site_view};
+ghost use Rattle.lef_reader.specs.SiteViews.{SiteAt, site_view};
 
 use crate::parts::{kept_at, size_at};
 use lefdef_tokens::{Cursor, Token, TokenRun, is_word};
@@ -38,7 +38,7 @@ pub(crate) fn site_at<'l>(
 ) -> Option<(SiteStatement<'l>, Cursor<'l>)>
     ensures gives { Gives (with_rest site_view) result (read (site_statement name.now) (rest_of cursor.entry)) }
     ensures later { IfSome result (λ x. IsLater cursor.entry x.1) }
-    ensures lent { IfSome result (λ x. SiteIn cursor.entry.tokens.text.now x.0) }
+    ensures lent { IfSome result (λ x. SiteAt (pieces_of cursor.entry.tokens) x.0) }
 {
     let (word, later) = cursor.next()?;
     if is_word(word.bytes, b"END") {

@@ -4,7 +4,7 @@ ghost use Rattle.std.specs.Prelude.{◌≡◌, IfSome};
 ghost use Rattle.form_meanings.specs.Words.{Gives};
 ghost use Rattle.statement_model.specs.Form.{read, whole};
 ghost use Rattle.lef_grammar.specs.LefRecords.{ends_block, lef, lef_statement, opened, opened_in_macro, opened_in_pin, opened_in_rule, opened_outside};
-ghost use Rattle.lefdef_tokens.specs.Views.{IsLater, rest_of, words_of};
+ghost use Rattle.lefdef_tokens.specs.Views.{IsLater, pieces_of, rest_of, words_of};
 ghost use Rattle.statement_reader.specs.Endings.{ending_view};
 ghost use Rattle.lef_reader.specs.Parts.{with_rest};
 ghost use Rattle.lef_reader.specs.BlockViews.{block_view};
@@ -12,7 +12,7 @@ ghost use Rattle.lef_reader.specs.MacroViews.{macro_view};
 ghost use Rattle.lef_reader.specs.OutermostViews.{outermost_view};
 ghost use Rattle.lef_reader.specs.PinViews.{pin_view};
 ghost use Rattle.lef_reader.specs.RuleViews.{rule_view};
-ghost use Rattle.lef_reader.specs.StatementViews.{StatementIn, lef_view};
+ghost use Rattle.lef_reader.specs.StatementViews.{StatementAt, lef_view};
 ghost use Rattle.lef_reader.specs.Stepping.{ended};
 
 use crate::block::Block;
@@ -69,7 +69,7 @@ impl<'l> LefStatement<'l> {
 fn statement_at<'l>(block: Block<'l>, cursor: Cursor<'l>) -> Option<(LefStatement<'l>, Cursor<'l>)>
     ensures gives { Gives (with_rest lef_view) result (read (lef_statement (block_view block.entry)) (rest_of cursor.entry)) }
     ensures later { IfSome result (λ x. IsLater cursor.entry x.1) }
-    ensures lent { IfSome result (λ x. StatementIn cursor.entry.tokens.text.now x.0) }
+    ensures lent { IfSome result (λ x. StatementAt (pieces_of cursor.entry.tokens) x.0) }
 {
     match block {
         Block::Outermost => {
@@ -246,7 +246,7 @@ impl<'l> Statement<'l> for LefStatement<'l> {
 
     ghost view = { lef_view };
 
-    ghost lent = { StatementIn };
+    ghost lent = { StatementAt };
 
     fn ending(block: Block<'l>, first: &[u8]) -> Ending
         ensures { ending_view result ≡ model.lef_ending (block_view block.entry) first.now }
@@ -256,7 +256,7 @@ impl<'l> Statement<'l> for LefStatement<'l> {
 
     fn read(block: Block<'l>, tokens: TokenRun<'l>) -> Option<(LefStatement<'l>, Option<usize>)>
         ensures gives { Gives (λ x. (lef_view x.0, x.1)) result (whole (lef_statement (block_view block.entry)) (words_of tokens.entry)) }
-        ensures lent { IfSome result (λ x. StatementIn tokens.entry.text.now x.0) }
+        ensures lent { IfSome result (λ x. StatementAt (pieces_of tokens.entry) x.0) }
     {
         ended(statement_at(block, Cursor::start(tokens)))
     }

@@ -6,10 +6,10 @@ ghost use Rattle.statement_model.specs.Form.{◌◂◌, ◌⨟◌, read};
 ghost use Rattle.std.specs.Prelude.{codes};
 ghost use Rattle.lef_grammar.specs.Extents.{array_count, dec, extent, name};
 ghost use Rattle.lef_grammar.specs.ViaBlock.{continues_via, ends_via, four_distances, is_via_cuts, is_via_metals, is_via_shape, is_via_word, stage_after, via_corners, via_cuts, via_ending, via_metals, via_shape, via_statement};
-ghost use Rattle.lefdef_tokens.specs.Views.{IsLater, rest_of, word_of};
+ghost use Rattle.lefdef_tokens.specs.Views.{IsLater, pieces_of, rest_of, word_of};
 ghost use Rattle.statement_reader.specs.Endings.{ending_view};
-ghost use Rattle.lef_reader.specs.Parts.{CornersIn, PairIn, corners_view, pair_view, with_rest};
-ghost use Rattle.lef_reader.specs.ViaViews.{CutsIn, FourIn, MetalsIn, ShapeIn, ThreeIn, ViaIn, cuts_view, four_view, metals_view, shape_view, stage_view, three_view, via_view};
+ghost use Rattle.lef_reader.specs.Parts.{CornersAt, PairAt, corners_view, pair_view, with_rest};
+ghost use Rattle.lef_reader.specs.ViaViews.{CutsAt, FourAt, MetalsAt, ShapeAt, ThreeAt, ViaAt, cuts_view, four_view, metals_view, shape_view, stage_view, three_view, via_view};
 
 use crate::parts::{
     array_count_at, block_ending, dec_at, extent_at, kept_at, name_to_end_at, to_end_at,
@@ -111,7 +111,7 @@ impl ViaStage {
 }
 
 /// Whether a word can stand in the header.
-fn is_via_word(word: &[u8]) -> bool
+pub(crate) fn is_via_word(word: &[u8]) -> bool
     ensures { result ≡ is_via_word word.now }
 {
     is_word(word, b"DEFAULT") || is_word(word, b"GENERATED") || is_word(word, b"TOPOFSTACKONLY")
@@ -170,7 +170,7 @@ fn is_via_metals(word: &[u8]) -> bool
 fn via_corners_at<'l>(stage: ViaStage, cursor: Cursor<'l>) -> Option<(Corners<'l>, Cursor<'l>)>
     ensures gives { Gives (with_rest corners_view) result (read (via_corners (stage_view stage)) (rest_of cursor.entry)) }
     ensures later { IfSome result (λ x. IsLater cursor.entry x.1) }
-    ensures lent { IfSome result (λ x. CornersIn cursor.entry.tokens.text.now x.0) }
+    ensures lent { IfSome result (λ x. CornersAt (pieces_of cursor.entry.tokens) x.0) }
 {
     match stage {
         ViaStage::WithLayer => corners_at(cursor),
@@ -183,7 +183,7 @@ fn via_corners_at<'l>(stage: ViaStage, cursor: Cursor<'l>) -> Option<(Corners<'l
 fn shape_at<'l>(stage: ViaStage, cursor: Cursor<'l>) -> Option<(ViaShape<'l>, Cursor<'l>)>
     ensures gives { Gives (with_rest shape_view) result (read (via_shape (stage_view stage)) (rest_of cursor.entry)) }
     ensures later { IfSome result (λ x. IsLater cursor.entry x.1) }
-    ensures lent { IfSome result (λ x. ShapeIn cursor.entry.tokens.text.now x.0) }
+    ensures lent { IfSome result (λ x. ShapeAt (pieces_of cursor.entry.tokens) x.0) }
 {
     let (word, later) = cursor.next()?;
     if is_word(word.bytes, b"LAYER") {
@@ -204,7 +204,7 @@ fn shape_at<'l>(stage: ViaStage, cursor: Cursor<'l>) -> Option<(ViaShape<'l>, Cu
 fn two_extents_at<'l>(cursor: Cursor<'l>) -> Option<((Token<'l>, Token<'l>), Cursor<'l>)>
     ensures gives { Gives (with_rest pair_view) result (read (extent ⨟ extent ◂ codes ";") (rest_of cursor.entry)) }
     ensures later { IfSome result (λ x. IsLater cursor.entry x.1) }
-    ensures lent { IfSome result (λ x. PairIn cursor.entry.tokens.text.now x.0) }
+    ensures lent { IfSome result (λ x. PairAt (pieces_of cursor.entry.tokens) x.0) }
 {
     let (x, cursor) = extent_at(cursor)?;
     let (y, cursor) = extent_at(cursor)?;
@@ -216,7 +216,7 @@ fn two_extents_at<'l>(cursor: Cursor<'l>) -> Option<((Token<'l>, Token<'l>), Cur
 fn array_at<'l>(cursor: Cursor<'l>) -> Option<((Token<'l>, Token<'l>), Cursor<'l>)>
     ensures gives { Gives (with_rest pair_view) result (read (array_count ⨟ array_count ◂ codes ";") (rest_of cursor.entry)) }
     ensures later { IfSome result (λ x. IsLater cursor.entry x.1) }
-    ensures lent { IfSome result (λ x. PairIn cursor.entry.tokens.text.now x.0) }
+    ensures lent { IfSome result (λ x. PairAt (pieces_of cursor.entry.tokens) x.0) }
 {
     let (rows, cursor) = array_count_at(cursor)?;
     let (columns, cursor) = array_count_at(cursor)?;
@@ -229,7 +229,7 @@ fn array_at<'l>(cursor: Cursor<'l>) -> Option<((Token<'l>, Token<'l>), Cursor<'l
 fn cuts_at<'l>(cursor: Cursor<'l>) -> Option<(ViaCuts<'l>, Cursor<'l>)>
     ensures gives { Gives (with_rest cuts_view) result (read via_cuts (rest_of cursor.entry)) }
     ensures later { IfSome result (λ x. IsLater cursor.entry x.1) }
-    ensures lent { IfSome result (λ x. CutsIn cursor.entry.tokens.text.now x.0) }
+    ensures lent { IfSome result (λ x. CutsAt (pieces_of cursor.entry.tokens) x.0) }
 {
     let (word, later) = cursor.next()?;
     if is_word(word.bytes, b"VIARULE") {
@@ -253,7 +253,7 @@ fn cuts_at<'l>(cursor: Cursor<'l>) -> Option<(ViaCuts<'l>, Cursor<'l>)>
 fn layers_at<'l>(cursor: Cursor<'l>) -> Option<(ViaLayers<'l>, Cursor<'l>)>
     ensures gives { Gives (with_rest three_view) result (read (name ⨟ name ⨟ name ◂ codes ";") (rest_of cursor.entry)) }
     ensures later { IfSome result (λ x. IsLater cursor.entry x.1) }
-    ensures lent { IfSome result (λ x. ThreeIn cursor.entry.tokens.text.now x.0) }
+    ensures lent { IfSome result (λ x. ThreeAt (pieces_of cursor.entry.tokens) x.0) }
 {
     let (bottom, cursor) = cursor.name()?;
     let (cut, cursor) = cursor.name()?;
@@ -267,7 +267,7 @@ fn layers_at<'l>(cursor: Cursor<'l>) -> Option<(ViaLayers<'l>, Cursor<'l>)>
 fn four_at<'l>(cursor: Cursor<'l>) -> Option<(MetalDistances<'l>, Cursor<'l>)>
     ensures gives { Gives (with_rest four_view) result (read four_distances (rest_of cursor.entry)) }
     ensures later { IfSome result (λ x. IsLater cursor.entry x.1) }
-    ensures lent { IfSome result (λ x. FourIn cursor.entry.tokens.text.now x.0) }
+    ensures lent { IfSome result (λ x. FourAt (pieces_of cursor.entry.tokens) x.0) }
 {
     let (bottom_x, cursor) = dec_at(cursor)?;
     let (bottom_y, cursor) = dec_at(cursor)?;
@@ -287,7 +287,7 @@ fn four_at<'l>(cursor: Cursor<'l>) -> Option<(MetalDistances<'l>, Cursor<'l>)>
 fn two_distances_at<'l>(cursor: Cursor<'l>) -> Option<((Token<'l>, Token<'l>), Cursor<'l>)>
     ensures gives { Gives (with_rest pair_view) result (read (dec ⨟ dec ◂ codes ";") (rest_of cursor.entry)) }
     ensures later { IfSome result (λ x. IsLater cursor.entry x.1) }
-    ensures lent { IfSome result (λ x. PairIn cursor.entry.tokens.text.now x.0) }
+    ensures lent { IfSome result (λ x. PairAt (pieces_of cursor.entry.tokens) x.0) }
 {
     let (x, cursor) = dec_at(cursor)?;
     let (y, cursor) = dec_at(cursor)?;
@@ -300,7 +300,7 @@ fn two_distances_at<'l>(cursor: Cursor<'l>) -> Option<((Token<'l>, Token<'l>), C
 fn metals_at<'l>(cursor: Cursor<'l>) -> Option<(ViaMetals<'l>, Cursor<'l>)>
     ensures gives { Gives (with_rest metals_view) result (read via_metals (rest_of cursor.entry)) }
     ensures later { IfSome result (λ x. IsLater cursor.entry x.1) }
-    ensures lent { IfSome result (λ x. MetalsIn cursor.entry.tokens.text.now x.0) }
+    ensures lent { IfSome result (λ x. MetalsAt (pieces_of cursor.entry.tokens) x.0) }
 {
     let (word, later) = cursor.next()?;
     if is_word(word.bytes, b"LAYERS") {
@@ -329,7 +329,7 @@ pub(crate) fn via_at<'l>(
 ) -> Option<(ViaStatement<'l>, Cursor<'l>)>
     ensures gives { Gives (with_rest via_view) result (read (via_statement name.now (stage_view stage)) (rest_of cursor.entry)) }
     ensures later { IfSome result (λ x. IsLater cursor.entry x.1) }
-    ensures lent { IfSome result (λ x. ViaIn cursor.entry.tokens.text.now x.0) }
+    ensures lent { IfSome result (λ x. ViaAt (pieces_of cursor.entry.tokens) x.0) }
 {
     let (word, later) = cursor.next()?;
     if is_word(word.bytes, b"END") {

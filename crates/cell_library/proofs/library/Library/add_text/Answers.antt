@@ -1,7 +1,6 @@
 use Rattle.std.proofs.Common.{arith, ap, ◌∙◌}
 use Rattle.std.proofs.lemmas.Result.{err_from_is_err_and}
-use Rattle.statement_reader.proofs.SoFar.{too_long}
-use Rattle.lef_grammar.specs.LefRecords.{outermost, lef}
+use Rattle.lef_reader.proofs.FaultLemmas.{lef_too_long}
 use Rattle.lef_grammar.specs.Library.{with_text}
 use Rattle.lef_reader.specs.StatementViews.{block_view, lef_view}
 use Rattle.cell_library.specs.Records.{records_view}
@@ -9,7 +8,7 @@ use Rattle.cell_library.proofs.AddLemmas.{adding_start, adding_on, adding_fault,
 use Rattle.cell_library.proofs.library.Library.add_text.Goals as goal
 
 pub returns-then-text-gt-MAX_TEXT : goal.returns-then-text-gt-MAX_TEXT
-returns-then-text-gt-MAX_TEXT g c = too_long lef outermost c.args.text.now c.if-text-gt-MAX_TEXT.true
+returns-then-text-gt-MAX_TEXT g c = lef_too_long c.args.text.now c.if-text-gt-MAX_TEXT.true
 
 pub loop-group-init : goal.loop-group-init
 loop-group-init g c = record {
