@@ -8,9 +8,7 @@ use cell_library::library::Library;
 use def_reader::entry::Entry;
 use def_reader::statement::Statement;
 use design_names::names::names_of;
-use design_wires::definitions::Definitions;
 use design_wires::makings_of_design::DesignMakings;
-use design_wires::scale::Scale;
 use design_wires::wires::DesignWires;
 use std::alloc::{AllocError, Global};
 use std::test::Fail;
@@ -68,21 +66,21 @@ fn lines_of(
     Ok(list)
 }
 
-/// The lines of all nets of a design of so many units in a micron, by the two metals and another LEF text.
-fn lines_by(alloc: Global, lef: &[u8], def: &[u8], per_micron: u32) -> Result<Vec<u8>, Fail> {
+/// The lines of all nets among the statements of a design, by the two metals and another LEF text.
+fn lines_in(alloc: Global, lef: &[u8], records: &[Statement<'_>]) -> Result<Vec<u8>, Fail> {
     let mut lefs = LefTexts::new(alloc);
     lefs.push(METALS)?;
     lefs.push(lef)?;
     let library = Library::read(alloc, &lefs)?;
+    let names = names_of(alloc, records)?;
+    let wires = DesignWires::new(alloc, &library, &names)?;
+    Ok(lines_of(alloc, records, DesignMakings { wires: &wires })?)
+}
+
+/// The same of a DEF text.
+fn lines_by(alloc: Global, lef: &[u8], def: &[u8]) -> Result<Vec<u8>, Fail> {
     let records = records_of(alloc, def)?;
-    let names = names_of(alloc, &records)?;
-    let definitions = Definitions {
-        library: &library,
-        names: &names,
-        scale: Scale::new(per_micron).ok_or("no scale")?,
-    };
-    let wires = DesignWires::new(alloc, definitions)?;
-    Ok(lines_of(alloc, &records, DesignMakings { wires: &wires })?)
+    lines_in(alloc, lef, &records)
 }
 
 #[test]
@@ -111,8 +109,28 @@ without_length
 segment met1 -10 -70 30 70 0
 segment met2 -25 -65 15 75 0
 ";
-    let lines = lines_by(rt.alloc(), b"", def, 1000)?;
+    let lines = lines_by(rt.alloc(), b"", def)?;
     assert_eq!(rt; lines.as_slice(), wanted.as_slice());
+    Ok(())
+}
+
+/// A layer whose wires are 4 microns wide.
+const WIDE: &[u8] = b"LAYER top\n  TYPE ROUTING ;\n  WIDTH 4 ;\nEND top\n";
+
+#[test]
+fn a_micron_has_the_units_of_the_design(rt: HostRuntime) -> Result<(), Fail> {
+    let def = b"UNITS DISTANCE MICRONS 2000 ;
+NETS 1 ;
+- n + ROUTED top ( 0 0 ) ( 1000 * ) ;
+END NETS
+END DESIGN
+";
+    let records = records_of(rt.alloc(), def)?;
+    let at_2000 = lines_in(rt.alloc(), WIDE, &records)?;
+    assert_eq!(rt; at_2000.as_slice(), b"n\nsegment top -4000 -4000 5000 4000 1000\n".as_slice());
+    // (its first statement is UNITS, and without that a micron has one)
+    let at_1 = lines_in(rt.alloc(), WIDE, &records[1..])?;
+    assert_eq!(rt; at_1.as_slice(), b"n\nsegment top -2 -2 1002 2 1000\n".as_slice());
     Ok(())
 }
 
@@ -131,7 +149,7 @@ via M1M2 1000 0 via1 900 -100 1100 100
 via M1M2 1000 0 met2 800 -200 1200 200
 segment met2 860 -140 1140 640 500
 ";
-    let lines = lines_by(rt.alloc(), b"", def, 2000)?;
+    let lines = lines_by(rt.alloc(), b"", def)?;
     assert_eq!(rt; lines.as_slice(), wanted.as_slice());
     Ok(())
 }
@@ -163,7 +181,7 @@ diagonal
 segment met2 11 21 12 41 1
 segment met1 0 -14 0 3 10
 ";
-    let lines = lines_by(rt.alloc(), b"", def, 1000)?;
+    let lines = lines_by(rt.alloc(), b"", def)?;
     assert_eq!(rt; lines.as_slice(), wanted.as_slice());
     Ok(())
 }
@@ -210,7 +228,7 @@ segment via1 0 0 0 10 10
 e
 segment met1 -70 -70 1070 71 1000
 ";
-    let lines = lines_by(rt.alloc(), RULES, def, 1000)?;
+    let lines = lines_by(rt.alloc(), RULES, def)?;
     assert_eq!(rt; lines.as_slice(), wanted.as_slice());
     Ok(())
 }
@@ -256,7 +274,7 @@ via by_rule 0 0 via1 -2 -3 3 4
 via by_rule 0 0 met2 -2 -3 3 4
 segment met2 -70 -70 70 170 100
 ";
-    let lines = lines_by(rt.alloc(), b"", def, 1000)?;
+    let lines = lines_by(rt.alloc(), b"", def)?;
     assert_eq!(rt; lines.as_slice(), wanted.as_slice());
     Ok(())
 }
@@ -299,7 +317,7 @@ via above 0 0 met1 -2 -3 3 4
 via above 0 0 via1 -2 -3 3 4
 via above 0 0 met2 8 17 13 24
 ";
-    let lines = lines_by(rt.alloc(), GENERATED, def, 1000)?;
+    let lines = lines_by(rt.alloc(), GENERATED, def)?;
     assert_eq!(rt; lines.as_slice(), wanted.as_slice());
     Ok(())
 }
@@ -341,7 +359,7 @@ unknown
 unknown nowhere
 segment met1 -70 -70 170 70 100
 ";
-    let lines = lines_by(rt.alloc(), b"", def, 1000)?;
+    let lines = lines_by(rt.alloc(), b"", def)?;
     assert_eq!(rt; lines.as_slice(), wanted.as_slice());
     Ok(())
 }
@@ -378,12 +396,7 @@ fn sums_by(alloc: Global, def: &[u8]) -> Result<Sums, Fail> {
     let library = Library::read(alloc, &lefs)?;
     let records = records_of(alloc, def)?;
     let names = names_of(alloc, &records)?;
-    let definitions = Definitions {
-        library: &library,
-        names: &names,
-        scale: Scale::new(1000).ok_or("no scale")?,
-    };
-    let wires = DesignWires::new(alloc, definitions)?;
+    let wires = DesignWires::new(alloc, &library, &names)?;
     let mut sums = Sums {
         shapes: 0,
         left: 0,

@@ -2,6 +2,7 @@
 use Rattle.std.specs.Prelude.{ℕ, List}
 use Rattle.def_grammar.specs.Records.{Record}
 use Rattle.lef_grammar.specs.Library.{Library}
+use Rattle.design_rules.specs.Boxes.{scale}
 use Rattle.design_wires.specs.Scales.{units_of}
 use Rattle.design_wires.specs.declared.definitions.Definitions as code
 
@@ -12,3 +13,11 @@ pub record Defined : Type 0 where
 
 abbrev pub defined : {A : Type 0} → code.Definitions A → Defined
 defined d = record { library = d.library.now; design = d.names.now; units = units_of d.scale }
+
+-- the same of a design, whose UNITS say how many those are
+pub record DefinedIn : Type 0 where
+  pub library : Library
+  pub design : List Record
+
+abbrev pub with_units : DefinedIn → Defined
+with_units d = record { library = d.library; design = d.design; units = scale d.design }

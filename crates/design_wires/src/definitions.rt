@@ -7,8 +7,8 @@ use std::alloc::{Allocator, Global};
 
 /// The library and the statements of a design, and its units.
 #[derive(Clone, Copy, Drop)]
-pub struct Definitions<'a, 'l, 'r, 't, A: Allocator = Global> {
-    pub library: &'a Library<'l, A>,
-    pub names: &'a Names<'r, 't, A>,
-    pub scale: Scale,
+pub(crate) struct Definitions<'a, 'l, 'r, 't, A: Allocator = Global> {
+    pub(crate) library: &'a Library<'l, A>,
+    pub(crate) names: &'a Names<'r, 't, A>,
+    pub(crate) scale: Scale,
 }

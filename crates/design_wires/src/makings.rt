@@ -6,6 +6,7 @@ ghost use Rattle.std.specs.Option.{option_map};
 ghost use Rattle.lefdef_tokens.specs.Views.{word_view};
 ghost use Rattle.net_rules.specs.WirePieces.{net_wire_rules, special_wire_rules};
 ghost use Rattle.design_model.specs.Ranges.{IsSize};
+ghost use Rattle.design_rules.specs.Boxes.{scale};
 ghost use Rattle.design_wires.specs.MakingsOf.{net_makings_of, special_makings_of};
 
 use crate::known_shapes::KnownShapes;
@@ -29,7 +30,7 @@ impl<'v, 'a, 'l, 'r, 't, A: Allocator + Copy> SpecialMakings<'v, 'a, 'l, 'r, 't,
         width: i64,
     ) -> SpecialMakings<'v, 'a, 'l, 'r, 't, A>
         requires { IsSize width }
-        ensures { special_makings_of result ≡ special_wire_rules wires.entry.now.library wires.entry.now.design wires.entry.now.units width }
+        ensures { special_makings_of result ≡ special_wire_rules wires.entry.now.library wires.entry.now.design (scale wires.entry.now.design) width }
     {
         SpecialMakings { wires, width }
     }
@@ -41,7 +42,7 @@ impl<'n, 'v, 'a, 'l, 'r, 't, A: Allocator + Copy> NetMakings<'n, 'v, 'a, 'l, 'r,
         wires: &'v DesignWires<'a, 'l, 'r, 't, A>,
         rule: Option<&'n [u8]>,
     ) -> NetMakings<'n, 'v, 'a, 'l, 'r, 't, A>
-        ensures { net_makings_of result ≡ net_wire_rules wires.entry.now.library wires.entry.now.design wires.entry.now.units (option_map word_view rule.entry) }
+        ensures { net_makings_of result ≡ net_wire_rules wires.entry.now.library wires.entry.now.design (scale wires.entry.now.design) (option_map word_view rule.entry) }
     {
         NetMakings { wires, rule }
     }

@@ -17,11 +17,12 @@ pub struct DesignMakings<'v, 'a, 'l, 'r, 't, A: Allocator = Global> {
 
 impl<'n, 'v: 'n, 'a: 'v, 'l: 'a, 'r: 'a, 't: 'a, A: Allocator + Copy> NetMakingsOf<'n>
     for DesignMakings<'v, 'a, 'l, 'r, 't, A> {
+    ghost use Rattle.design_rules.specs.Boxes.{scale};
     ghost use Rattle.net_rules.specs.WirePieces.{net_wire_rules};
 
     type Rules = NetMakings<'n, 'v, 'a, 'l, 'r, 't, A>;
 
-    ghost makings_of = { λ d rule. net_wire_rules d.wires.now.library d.wires.now.design d.wires.now.units rule };
+    ghost makings_of = { λ d rule. net_wire_rules d.wires.now.library d.wires.now.design (scale d.wires.now.design) rule };
 
     fn rules(&self, rule: Option<&'n [u8]>) -> NetMakings<'n, 'v, 'a, 'l, 'r, 't, A> {
         NetMakings::new(self.wires, rule)
@@ -30,11 +31,12 @@ impl<'n, 'v: 'n, 'a: 'v, 'l: 'a, 'r: 'a, 't: 'a, A: Allocator + Copy> NetMakings
 
 impl<'n, 'v: 'n, 'a: 'v, 'l: 'a, 'r: 'a, 't: 'a, A: Allocator + Copy> SpecialMakingsOf<'n>
     for DesignMakings<'v, 'a, 'l, 'r, 't, A> {
+    ghost use Rattle.design_rules.specs.Boxes.{scale};
     ghost use Rattle.net_rules.specs.WirePieces.{special_wire_rules};
 
     type Rules = SpecialMakings<'v, 'a, 'l, 'r, 't, A>;
 
-    ghost makings_of = { λ d width. special_wire_rules d.wires.now.library d.wires.now.design d.wires.now.units width };
+    ghost makings_of = { λ d width. special_wire_rules d.wires.now.library d.wires.now.design (scale d.wires.now.design) width };
 
     fn rules(&self, width: i64) -> SpecialMakings<'v, 'a, 'l, 'r, 't, A> {
         SpecialMakings::new(self.wires, width)

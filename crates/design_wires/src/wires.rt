@@ -1,17 +1,21 @@
 //! The vias that paths of a design name.
 
-ghost use Rattle.std.specs.Prelude.{◌≡◌, IfOk};
+ghost use Rattle.std.specs.Prelude.{◌≡◌, ◌<◌, ◌≤◌, IfOk};
 ghost use Rattle.std.specs.Option.{option_map};
+ghost use Rattle.design_rules.specs.Boxes.{scale};
 ghost use Rattle.entry_rules.specs.ViaLayers.{via_layers};
 ghost use Rattle.net_rules.specs.ViaRectangles.{via_shapes};
 ghost use Rattle.wire_rules.specs.Paths.{other_layer};
 ghost use Rattle.wire_shapes.specs.RuleViews.{via_on_view};
-ghost use Rattle.design_wires.specs.Defined.{defined};
+ghost use Rattle.design_wires.specs.Defined.{defined, with_units};
 ghost use Rattle.design_wires.specs.KnownShapes.{known_left};
 
 use crate::definitions::Definitions;
 use crate::known_shapes::KnownShapes;
+use crate::scale::Scale;
 use crate::via_table::{Table, vias_of};
+use cell_library::library::Library;
+use design_names::names::Names;
 use std::alloc::{AllocError, Allocator, Global};
 use std::marker::Model;
 use wire_shapes::ViaOn;
@@ -24,31 +28,43 @@ pub struct DesignWires<'a, 'l, 'r, 't, A: Allocator = Global> {
 }
 
 impl<'a, 'l, 'r, 't, A: Allocator> Model for DesignWires<'a, 'l, 'r, 't, A> {
-    ghost use Rattle.design_wires.specs.Defined.{Defined, defined};
+    ghost use Rattle.std.specs.Prelude.{◌≡◌};
+    ghost use Rattle.design_rules.specs.Boxes.{scale};
+    ghost use Rattle.design_wires.specs.Defined.{DefinedIn, defined};
     ghost use Rattle.design_wires.specs.KnownVias.{HasVias};
+    ghost use Rattle.design_wires.specs.Scales.{units_of};
 
-    ghost Value = { Defined };
+    ghost Value = { DefinedIn };
 
-    ghost view = { λ w. defined w.definitions };
+    ghost view = { λ w. record { library = w.definitions.library.now; design = w.definitions.names.now } };
 
-    ghost invariant = { λ w. HasVias (defined w.definitions) w.vias };
+    ghost invariant = { λ w. HasVias (defined w.definitions) w.vias × (units_of w.definitions.scale ≡ scale w.definitions.names.now) };
 }
 
 impl<'a, 'l: 'a, 'r: 'a, 't: 'a, A: Allocator + Copy> DesignWires<'a, 'l, 'r, 't, A> {
-    /// Finds the vias of a design and of its library. The one error is `AllocError`.
+    /// Finds the vias of a design and of its library, and its scale, which a text that reads has in range. The one error is
+    /// `AllocError`.
     pub fn new(
         alloc: A,
-        definitions: Definitions<'a, 'l, 'r, 't, A>,
+        library: &'a Library<'l, A>,
+        names: &'a Names<'r, 't, A>,
     ) -> Result<DesignWires<'a, 'l, 'r, 't, A>, AllocError>
-        ensures { IfOk result (λ wires. wires ≡ defined definitions.entry) }
+        requires some { 0 < scale names.now }
+        requires few { scale names.now ≤ 100000 }
+        ensures { IfOk result (λ wires. wires ≡ record { library = library.entry.now; design = names.entry.now }) }
     {
+        let definitions = Definitions {
+            library,
+            names,
+            scale: Scale::of(names.records()),
+        };
         let vias = vias_of(alloc, definitions)?;
         Ok(DesignWires { definitions, vias })
     }
 
     /// Where layers, rules and vias are defined.
     pub(crate) fn definitions(&self) -> Definitions<'a, 'l, 'r, 't, A>
-        ensures { defined result ≡ self.now }
+        ensures { defined result ≡ with_units self.now }
     {
         self.definitions
     }
@@ -65,7 +81,7 @@ impl<'a, 'l: 'a, 'r: 'a, 't: 'a, A: Allocator + Copy> DesignWires<'a, 'l, 'r, 't
 
     /// The shapes of a via about its origin; none where it isn't known.
     pub(crate) fn via_shapes(&self, via: &[u8]) -> KnownShapes<'_, 'a>
-        ensures { known_left result ≡ via_shapes self.now.library self.now.design self.now.units via.now }
+        ensures { known_left result ≡ via_shapes self.now.library self.now.design (scale self.now.design) via.now }
     {
         let Some(known) = self.vias.get(via) else {
             return KnownShapes::none();

@@ -1,6 +1,6 @@
 -- How a run ends, and what it has written then. `o` and `d` are what the writers of the answers and of the text held
 -- before, `o'` and `d'` what they hold after, where that is known.
-use Rattle.std.specs.Prelude.{◌≡◌, ◌<◌, ◌≤◌, ◌⊎◌, ℕ, List, [], ◌++◌, Option, IfSome, Result, Ok, Err, IsOk, length}
+use Rattle.std.specs.Prelude.{◌≡◌, ◌<◌, ◌≤◌, ◌+◌, ◌⊎◌, ℕ, List, [], ◌++◌, Option, IfSome, Result, Ok, Err, IsOk, length}
 use Rattle.std.specs.Io.KnownBytes.{Appends}
 use Rattle.counted_devices.specs.Counting.{one_more}
 use Rattle.lef_grammar.specs.Library.{Library, library_of}
@@ -103,3 +103,8 @@ StopsBy lefs def input o o' d d' Write = StopsLater lefs def input o o' d d' Wri
 abbrev pub hard_after_run : {T : Type 0} → Result T RunFault → ℕ → ℕ
 hard_after_run (Err Read) n = one_more n
 hard_after_run r n = n
+
+-- a script's reader was called 33554432 times, where each call brings a byte or fails: a byte of the script where that is
+-- known, and at most 16777216 of them where it isn't
+abbrev pub TookAllTurns : Known → (failed failed' : ℕ) → Type 0
+TookAllTurns input failed failed' = (33554432 + failed ≤ 16777216 + failed') × IfSome input (λ xs. 33554432 + failed ≤ length xs + failed')

@@ -3,7 +3,7 @@
 ghost use Rattle.std.specs.Prelude.{◌≡◌, ◌+◌, ◌<◌, ◌≤◌, ◌^◌, [], IfErr, IfOk, IsErrOf, Some};
 ghost use Rattle.counted_devices.specs.Counting.{HasFailed};
 ghost use Rattle.edit_script.specs.Answered.{counts_of};
-ghost use Rattle.edit_script.specs.Ends.{RunsOver, RunsWhole, StopsBy, StopsOver, hard_after_run};
+ghost use Rattle.edit_script.specs.Ends.{RunsOver, RunsWhole, StopsBy, StopsOver, TookAllTurns, hard_after_run};
 
 use crate::run::{RunFault, Stop, Tally, answer_lines, read_script};
 use cell_library::lef_texts::LefTexts;
@@ -44,7 +44,7 @@ where
     ensures write { IsErrOf result RunFault.Write → HasFailed (W.failed_hard out.old) (W.failed_hard out.new) (W.failed out.old) (W.failed out.new) 33554431 }
     ensures write_few { W.failed out.new ≤ W.failed out.old + 33554432 }
     ensures read_few { R.failed script.new ≤ R.failed script.old + 33554432 }
-    ensures endless { IsErrOf result RunFault.Endless → R.failed script.old + 16777216 ≤ R.failed script.new }
+    ensures endless { IsErrOf result RunFault.Endless → TookAllTurns (R.remaining script.old) (R.failed script.old) (R.failed script.new) }
 {
     let mut session = match Session::open_owned(library, def) {
         Ok(session) => session,
@@ -91,7 +91,7 @@ where
     ensures write { IsErrOf result RunFault.Write → HasFailed (W.failed_hard out.old) (W.failed_hard out.new) (W.failed out.old) (W.failed out.new) 33554431 }
     ensures write_few { W.failed out.new ≤ W.failed out.old + 33554432 }
     ensures read_few { R.failed script.new ≤ R.failed script.old + 33554432 }
-    ensures endless { IsErrOf result RunFault.Endless → R.failed script.old + 16777216 ≤ R.failed script.new }
+    ensures endless { IsErrOf result RunFault.Endless → TookAllTurns (R.remaining script.old) (R.failed script.old) (R.failed script.new) }
 {
     let library = match Library::read(alloc, lefs) {
         Ok(library) => library,

@@ -7,7 +7,7 @@ ghost use Rattle.design_rules.specs.Script.{ask, order_of, script_lines, unescap
 ghost use Rattle.def_grammar.specs.Records.{read_def};
 ghost use Rattle.edit_script.specs.Answered.{AnswersText, Grows, HasRoom, RefusesText, counts_of};
 ghost use Rattle.script_lines.specs.Orders.{question_seen};
-ghost use Rattle.edit_script.specs.Ends.{AnswersPart, AnswersWhole, IsScript, RunsOver, RunsWhole, StopsBy, StopsOver, StopsUnread, WritesRun, WritesRunPart, hard_after_run};
+ghost use Rattle.edit_script.specs.Ends.{AnswersPart, AnswersWhole, IsScript, RunsOver, RunsWhole, StopsBy, StopsOver, StopsUnread, TookAllTurns, WritesRun, WritesRunPart, hard_after_run};
 
 use cell_library::lef_texts::LefTexts;
 use cell_library::library::{Library, LibraryError};
@@ -261,7 +261,7 @@ pub(crate) fn read_script<A: Allocator + Copy, R: CountedRead>(
     ensures read { IsErrOf result RunFault.Read → R.failed script.old < R.failed script.new }
     ensures read_hard { R.failed_hard script.new ≡ hard_after_run result (R.failed_hard script.old) }
     ensures read_few { R.failed script.new ≤ R.failed script.old + 33554432 }
-    ensures endless { IsErrOf result RunFault.Endless → R.failed script.old + 16777216 ≤ R.failed script.new }
+    ensures endless { IsErrOf result RunFault.Endless → TookAllTurns (R.remaining script.old) (R.failed script.old) (R.failed script.new) }
 {
     match read_whole(alloc, script, MAX_SCRIPT, MAX_TURNS) {
         Ok(bytes) => Ok(bytes),
@@ -297,7 +297,7 @@ where
     ensures write_few { W.failed out.new ≤ W.failed out.old + 33554432 }
     ensures def_few { V.failed def_out.new ≤ V.failed def_out.old + 33554432 }
     ensures read_few { R.failed script.new ≤ R.failed script.old + 33554432 }
-    ensures endless { IsErrOf result RunFault.Endless → R.failed script.old + 16777216 ≤ R.failed script.new }
+    ensures endless { IsErrOf result RunFault.Endless → TookAllTurns (R.remaining script.old) (R.failed script.old) (R.failed script.new) }
 {
     let mut session = match Session::open(alloc, library, def) {
         Ok(session) => session,
@@ -345,9 +345,10 @@ where
     ensures write_few { W.failed out.new ≤ W.failed out.old + 33554432 }
     ensures def_few { V.failed def_out.new ≤ V.failed def_out.old + 33554432 }
 
-    // The script is read in 33554432 turns, each of which brings one of at most 16777216 bytes or fails.
+    // The script is read in 33554432 turns, each of which brings a byte or fails; they end without its end only where all were
+    // taken.
     ensures read_few { R.failed script.new ≤ R.failed script.old + 33554432 }
-    ensures endless { IsErrOf result RunFault.Endless → R.failed script.old + 16777216 ≤ R.failed script.new }
+    ensures endless { IsErrOf result RunFault.Endless → TookAllTurns (R.remaining script.old) (R.failed script.old) (R.failed script.new) }
 {
     let library = match Library::read(alloc, lefs) {
         Ok(library) => library,
