@@ -48,13 +48,13 @@ map_append : {A B : Type 0} (f : A → B) (xs ys : List A) → map f (xs ++ ys) 
 map_append f [] ys = refl
 map_append f (x ∷ xs) ys = ap (λ zs. f x ∷ zs) (map_append f xs ys)
 
-with_mapped : {A B : Type 0} (g : A → B) (x : A) (ys : List A) → map (λ y. (g x, y)) (map g ys) ≡ map (λ p. (g p.0, g p.1)) (map (λ y. (x, y)) ys)
+with_mapped : {A B : Type 0} (g : A → B) (x : A) (ys : List A) → map {B = B × B} (λ y. (g x, y)) (map g ys) ≡ map {B = B × B} (λ p. (g p.0, g p.1)) (map {B = A × A} (λ y. (x, y)) ys)
 with_mapped g x [] = refl
-with_mapped g x (y ∷ ys) = ap (λ zs. (g x, g y) ∷ zs) (with_mapped g x ys)
+with_mapped {B = B} g x (y ∷ ys) = ap (λ (zs : List (B × B)). (g x, g y) ∷ zs) (with_mapped g x ys)
 
 pub pairs_of_mapped : (A B : Type 0) → PairsOfMapped A B
 pairs_of_mapped A B g [] = refl
 pairs_of_mapped A B g (x ∷ xs) =
-    ap (λ zs. zs ++ pairs_of (map g xs)) (with_mapped g x xs)
-    ∙ ap (λ zs. map (λ p. (g p.0, g p.1)) (map (λ y. (x, y)) xs) ++ zs) (pairs_of_mapped A B g xs)
-    ∙ sym (map_append (λ p. (g p.0, g p.1)) (map (λ y. (x, y)) xs) (pairs_of xs))
+    ap (λ (zs : List (B × B)). zs ++ pairs_of (map g xs)) (with_mapped g x xs)
+    ∙ ap (λ (zs : List (B × B)). map {B = B × B} (λ p. (g p.0, g p.1)) (map {B = A × A} (λ y. (x, y)) xs) ++ zs) (pairs_of_mapped A B g xs)
+    ∙ sym (map_append {B = B × B} (λ p. (g p.0, g p.1)) (map {B = A × A} (λ y. (x, y)) xs) (pairs_of xs))
