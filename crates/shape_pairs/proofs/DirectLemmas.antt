@@ -1,5 +1,5 @@
 -- The pairs of a short list, one after the other.
-use Rattle.std.proofs.Common.{◌≡◌, ℕ, Bool, List, [], ◌∷◌, ◌++◌, map, filter, ap, subst, sym, ◌∙◌}
+use Rattle.std.proofs.Common.{◌≡◌, ℕ, List, ◌∷◌, map, filter, ap, subst, sym, ◌∙◌}
 use Rattle.shape_rules.specs.Meeting.{pairs_of}
 use Rattle.shape_pairs.specs.declared.pairs.Numbered.{Numbered}
 use Rattle.shape_pairs.specs.Pairs.{CallsLead, is_meeting, meeting_pairs, one_if}

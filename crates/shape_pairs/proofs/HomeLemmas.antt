@@ -15,9 +15,9 @@ use Rattle.shape_rules.specs.Meeting.{meets}
 use Rattle.line_laws.proofs.PairSums.{sum_by-same}
 use Rattle.shape_pairs.specs.declared.grid.Grid.{Grid}
 use Rattle.shape_pairs.specs.Steps.{past, clamped, step_at}
-use Rattle.shape_pairs.specs.Grids.{between, bin_at, column_at, row_at, row_bins, covered, home}
+use Rattle.shape_pairs.specs.Grids.{between, bin_at, column_at, row_at, covered, home}
 use Rattle.shape_pairs.proofs.Calls.{split}
-use Rattle.shape_pairs.proofs.PairSums.{nothing, sum_of_flat_map}
+use Rattle.shape_pairs.proofs.PairSums.{sum_of_flat_map}
 use Rattle.shape_pairs.proofs.BinSums.{Once}
 
 -- steps rise
@@ -97,11 +97,11 @@ once_in_rows columns r1 r2 c1 c2 row column low high left right few m =
     (λ t.
     let e : cond (row == r) m 0 ≡ 0 = ap (λ (s : Bool). cond s m 0) t in
     let none = elsewhere h m (r * columns + c1) (r * columns + c2 + 1 - (r * columns + c1))
-        (λ k above below.
-        let c : k ≡ r * columns + (k - r * columns) = omega (arith, above) in
-        let cs : k - r * columns < columns = omega (arith, above, below, few) in
-        let d : column < columns = omega (arith, right, few) in
-        ap (λ (k : ℕ). h == k) c ∙ apart columns r row (k - r * columns) column cs d t) in
+    (λ k above below.
+    let c : k ≡ r * columns + (k - r * columns) = omega (arith, above) in
+    let cs : k - r * columns < columns = omega (arith, above, below, few) in
+    let d : column < columns = omega (arith, right, few) in
+    ap (λ (k : ℕ). h == k) c ∙ apart columns r row (k - r * columns) column cs d t) in
     none ∙ sym e))
     (between r1 r2)
     ∙ once_between row r1 r2 low high m

@@ -1,5 +1,5 @@
 -- The pairs that are told along the entries of all rectangles, in order, are those that meet.
-use Rattle.std.proofs.Common.{◌≡◌, ◌<◌, ◌≤◌, ◌+◌, ◌-◌, ◌*◌, ℕ, zero, suc, Bool, true, false, cond, ◌&&◌, List, [], ◌∷◌, ◌++◌, map, filter, length, get_or, refl, sym, ap, ap₂, subst, ◌∙◌, rules, arith, sum_by}
+use Rattle.std.proofs.Common.{◌≡◌, ◌<◌, ◌≤◌, ◌+◌, ℕ, zero, suc, Bool, true, false, cond, ◌&&◌, List, map, filter, length, refl, sym, ap, ap₂, ◌∙◌, rules, arith, sum_by}
 use Rattle.std.specs.Prelude.{◌==◌, nat_le, ℤ, pos, IsPermutation}
 use Rattle.std.specs.List.{All, AllPairs, flat_map}
 use Rattle.std.specs.Int.{int_max}
@@ -8,7 +8,7 @@ use Rattle.std.proofs.lemmas.List.Sorted.{All-permutation, sum_by-IsPermutation}
 use Rattle.std.proofs.lemmas.List.Elements.{All-nil, All-append, All-map}
 use Rattle.design_model.specs.Views.{rectangle_of}
 use Rattle.shape_rules.specs.Classes.{numbers}
-use Rattle.shape_rules.specs.Meeting.{meets, pairs_of}
+use Rattle.shape_rules.specs.Meeting.{pairs_of}
 use Rattle.line_laws.specs.Lines.{SameThings}
 use Rattle.shape_pairs.specs.declared.entries.Entry.{Entry}
 use Rattle.shape_pairs.specs.declared.grid.Grid.{Grid}

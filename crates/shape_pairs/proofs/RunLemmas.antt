@@ -1,5 +1,5 @@
 -- The pairs that are told along a list of entries.
-use Rattle.std.proofs.Common.{◌≡◌, ◌<◌, ◌≤◌, ℕ, Bool, true, false, List, [], ◌∷◌, ◌++◌, map, filter, length, refl, sym, ap, subst, ◌∙◌, arith, ◌&&◌}
+use Rattle.std.proofs.Common.{◌≡◌, ◌<◌, ◌≤◌, ℕ, Bool, true, false, List, [], ◌∷◌, ◌++◌, map, length, refl, sym, ap, subst, ◌∙◌, arith, ◌&&◌}
 use Rattle.std.specs.Prelude.{◌==◌}
 use Rattle.std.specs.List.{All}
 use Rattle.shape_rules.specs.Meeting.{pairs_of}
@@ -53,8 +53,8 @@ module _ (grid : Grid) (items : List Numbered) (other : Numbered) where
     next_entry a b last e rest n es x y is same is_x is_y f g =
         let there = items_at grid items other (e, n) in
         let k : CallsLead call a (one_if (meet_at_home grid e.bin there.0 there.1) (there.0, there.1)) b =
-            subst (λ y. CallsLead call a (one_if (meet_at_home grid e.bin there.0 y) (there.0, y)) b) is_y
-            (subst (λ x. CallsLead call a (one_if (meet_at_home grid e.bin x y) (x, y)) b) is_x f) in
+        subst (λ y. CallsLead call a (one_if (meet_at_home grid e.bin there.0 y) (there.0, y)) b) is_y
+        (subst (λ x. CallsLead call a (one_if (meet_at_home grid e.bin x y) (x, y)) b) is_x f) in
         let t : is_told grid items other (e, n) ≡ meet_at_home grid e.bin there.0 there.1 = of_one_bin e n _ same in
         subst (λ ps. CallsLead call a ps last) (sym (ap (λ es. told grid items other (each_with e es)) is ∙ tested (is_told grid items other) (items_at grid items other) (e, n) (each_with e es)))
         (folds_append (λ a p b. call a p.0.id p.1.id b) a b last (one_if (is_told grid items other (e, n)) there) (told grid items other (each_with e es))

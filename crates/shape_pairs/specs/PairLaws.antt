@@ -1,5 +1,5 @@
 -- Laws of pairs, for callers.
-use Rattle.std.specs.Prelude.{◌≡◌, ℕ, Bool, false, List, [], map, filter, flat_map}
+use Rattle.std.specs.Prelude.{◌≡◌, ℕ, false, List, [], map, filter, flat_map}
 use Rattle.design_model.specs.Geometry.{Rectangle}
 use Rattle.shape_rules.specs.Meeting.{meets, pairs_of}
 use Rattle.design_rules.specs.Families.{pair_lines}

@@ -3,7 +3,7 @@
 ghost use Rattle.std.specs.Prelude.{filter, map};
 ghost use Rattle.shape_pairs.specs.Pairs.{CallsLead, is_meeting, meeting_pairs, one_if};
 
-use crate::pairs::{meets, Numbered};
+use crate::pairs::{Numbered, meets};
 
 /// Calls `f` at the numbers of two rectangles, if they are to be told.
 pub(crate) fn tell_if<B, F: Fn(B, usize, usize) -> B>(
@@ -16,11 +16,7 @@ pub(crate) fn tell_if<B, F: Fn(B, usize, usize) -> B>(
     requires { F.IsAlwaysCallable f.now }
     ensures { CallsLead (F.post f.now) acc (one_if is_told (a.now, b.now)) result }
 {
-    if is_told {
-        f(acc, a.id, b.id)
-    } else {
-        acc
-    }
+    if is_told { f(acc, a.id, b.id) } else { acc }
 }
 
 /// Folds `f` over the pairs of one rectangle with others that meet it.

@@ -138,9 +138,13 @@ impl Grid {
 
     /// How many bins a rectangle covers.
     fn count_bins(&self, rect: &Rect) -> usize {
-        let columns = self.column_at(rect.x2).saturating_sub(self.column_at(rect.x1));
+        let columns = self
+            .column_at(rect.x2)
+            .saturating_sub(self.column_at(rect.x1));
         let rows = self.row_at(rect.y2).saturating_sub(self.row_at(rect.y1));
-        columns.saturating_add(1).saturating_mul(rows.saturating_add(1))
+        columns
+            .saturating_add(1)
+            .saturating_mul(rows.saturating_add(1))
     }
 
     /// The column of a number.

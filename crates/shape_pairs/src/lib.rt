@@ -21,4 +21,4 @@ mod pairs;
 mod runs;
 
 pub use laws::{meeting_pairs_have_the_lines, pairs_of_mapped, same_pairs_have_the_lines};
-pub use pairs::{for_meeting_pairs, Numbered};
+pub use pairs::{Numbered, for_meeting_pairs};

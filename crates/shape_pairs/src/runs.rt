@@ -1,23 +1,15 @@
 //! The pairs of each bin, along the entries in their order.
 
-ghost use Rattle.std.specs.Prelude.{◌≡◌, ◌<◌, ◌∷◌, length, map, slice_index_or};
+ghost use Rattle.std.specs.Prelude.{◌≡◌, ◌∷◌, map};
 ghost use Rattle.shape_rules.specs.Meeting.{pairs_of};
 ghost use Rattle.shape_pairs.specs.Pairs.{CallsLead};
 ghost use Rattle.shape_pairs.specs.Entries.{AreInOrder, meet_at_home, told};
 ghost use Rattle.shape_pairs.specs.declared.pairs.Numbered.{Numbered};
 
 use crate::direct::tell_if;
-use crate::entries::Entry;
+use crate::entries::{Entry, item_at};
 use crate::grid::Grid;
-use crate::pairs::{meets, Numbered};
-
-/// The rectangle of an entry.
-fn item_of<'t>(items: &'t [Numbered], entry: &Entry) -> &'t Numbered
-    requires { entry.now.place < length items.now }
-    ensures { (other : Numbered) → result.now ≡ slice_index_or items.now entry.now.place other }
-{
-    &items[entry.place]
-}
+use crate::pairs::{Numbered, meets};
 
 /// Whether two rectangles meet and are at home in a bin.
 fn meet_at_home(grid: &Grid, bin: usize, a: &Numbered, b: &Numbered) -> bool
@@ -39,15 +31,21 @@ fn for_pairs_with_later<B, F: Fn(B, usize, usize) -> B>(
     requires order { AreInOrder items.now (entry ∷ later.now) }
     ensures { (other : Numbered) → CallsLead (F.post f.now) acc (told grid.now items.now other (map (λ e. (entry, e)) later.now)) result }
 {
-    let item = item_of(items, &entry);
+    let item = item_at(items, entry.place);
     let mut acc = acc;
     let mut rest = later;
     while let Some((next, others)) = rest.split_first() {
         if next.bin != entry.bin {
             return acc;
         }
-        let other = item_of(items, next);
-        acc = tell_if(meet_at_home(grid, entry.bin, item, other), item, other, acc, f);
+        let other = item_at(items, next.place);
+        acc = tell_if(
+            meet_at_home(grid, entry.bin, item, other),
+            item,
+            other,
+            acc,
+            f,
+        );
         rest = others;
     }
     acc

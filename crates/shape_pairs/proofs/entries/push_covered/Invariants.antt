@@ -8,5 +8,5 @@ use Rattle.shape_pairs.proofs.entries.push_covered.Given as goal
 
 abbrev pub invariant-loop-row : goal.invariant-loop-row
 invariant-loop-row g l =
-    l.entries.items ++ flat_map (λ row. map (entry_in l.place) (row_bins l.grid (rectangle_of l.rect) row)) (up_to l.row (row_at l.grid l.rect.y2 + 1))
-    ≡ l.fn.entries.items ++ map (entry_in l.place) (covered l.grid (rectangle_of l.rect))
+    l.entries.items ++ flat_map (λ row. map (entry_in l.place) (row_bins l.grid (rectangle_of l.item.rect) row)) (up_to l.row (row_at l.grid l.item.rect.y2 + 1))
+    ≡ l.fn.entries.items ++ map (entry_in l.place) (covered l.grid (rectangle_of l.item.rect))

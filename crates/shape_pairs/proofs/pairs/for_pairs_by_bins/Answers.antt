@@ -1,10 +1,7 @@
-use Rattle.std.proofs.Common.{◌≡◌, ◌∙◌, subst, sym, rules}
+use Rattle.std.proofs.Common.{◌≡◌}
 use Rattle.std.specs.Prelude.{IsPermutation}
-use Rattle.std.specs.List.{AllPairs}
 use Rattle.shape_rules.specs.Meeting.{pairs_of}
-use Rattle.shape_pairs.specs.declared.entries.Entry.{Entry}
-use Rattle.shape_pairs.specs.declared.pairs.Numbered.{Numbered}
-use Rattle.shape_pairs.specs.Entries.{NotAfter, all_entries, told}
+use Rattle.shape_pairs.specs.Entries.{all_entries, told}
 use Rattle.shape_pairs.proofs.MeetingSums.{all_in_order, blank, told_are_meeting}
 use Rattle.shape_pairs.proofs.pairs.for_pairs_by_bins.Goals as goal
 
@@ -17,7 +14,8 @@ for_pairs_in_runs-requires-clause-order g c =
 pub returns : goal.returns
 returns g c =
     let made : c.push_entries.new.entries.items ≡ all_entries c.over-grid.result c.args.items.now blank = rw c.new-entries.ensures.items at (c.in_ok-push_entries.ensures blank) in
-    let same : IsPermutation (all_entries c.over-grid.result c.args.items.now blank) c.sort_entries.new.entries.items = rw made at c.sort_entries.ensures.same in
-    (told c.over-grid.result c.args.items.now blank (pairs_of c.sort_entries.new.entries.items),
-    told_are_meeting c.over-grid.result c.args.items.now blank c.sort_entries.new.entries.items c.sort_entries.ensures.rise same,
-    rw c.deref.ensures.value at (c.for_pairs_in_runs.ensures blank))
+    let same : IsPermutation (all_entries c.over-grid.result c.args.items.now blank) c.sort_entries.new.entries.items = rw made at c.sort_entries.ensures.same in (
+      told c.over-grid.result c.args.items.now blank (pairs_of c.sort_entries.new.entries.items),
+      told_are_meeting c.over-grid.result c.args.items.now blank c.sort_entries.new.entries.items c.sort_entries.ensures.rise same,
+      rw c.deref.ensures.value at (c.for_pairs_in_runs.ensures blank),
+    )

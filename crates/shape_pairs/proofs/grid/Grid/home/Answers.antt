@@ -1,5 +1,4 @@
-use Rattle.std.proofs.Common.{◌≡◌, ap, sym, ◌∙◌, rules}
-use Rattle.shape_pairs.specs.Grids.{bin_at, column_at, row_at}
+use Rattle.std.proofs.Common.{rules}
 use Rattle.shape_pairs.proofs.grid.Grid.home.Goals as goal
 
 pub returns : goal.returns
