@@ -128,7 +128,7 @@ impl Grid {
     }
 
     /// How many bins rectangles cover, each by itself. A count that is too large is cut off.
-    fn count_entries(&self, items: &[Numbered]) -> usize {
+    pub(crate) fn count_entries(&self, items: &[Numbered]) -> usize {
         let mut count: usize = 0;
         for item in items {
             count = count.saturating_add(self.count_bins(&item.rect));

@@ -1,7 +1,7 @@
 //! All pairs of rectangles that meet, found by the bins of a grid, each pair once.
 //!
 //! Begin with `for_meeting_pairs`, which folds a closure over the pairs of a list of `Numbered` rectangles that share a point.
-//! `specs/Pairs` says what it does, `MeetingPairs`, over the definitions of `shape_rules/specs/Meeting`. In which order the
+//! `specs/Pairs` says what it does, `LeadsOverMeetingPairs`, over the definitions of `shape_rules/specs/Meeting`. In which order the
 //! pairs come is left open.
 //!
 //! The laws say what a caller needs of pairs: `meeting_pairs_have_the_lines` that the lines of all pairs of things are those of

@@ -7,7 +7,7 @@ ghost use Rattle.shape_pairs.specs.Pairs.{LeadsOverMeetingPairs};
 ghost use Rattle.shape_rules.specs.Meeting.{meets};
 
 use crate::direct::for_pairs_directly;
-use crate::entries::{push_entries, sort_entries};
+use crate::entries::entries_in_order;
 use crate::grid::Grid;
 use crate::runs::for_pairs_in_runs;
 use design_model::geometry::Rect;
@@ -55,9 +55,7 @@ fn for_pairs_by_bins<B: Drop, A: Allocator, F: Fn(B, usize, usize) -> B>(
     ensures { IfOk result (LeadsOverMeetingPairs (F.post f.now) items.now acc) }
 {
     let grid = Grid::over(items);
-    let mut entries = Vec::new(alloc);
-    push_entries(&mut entries, &grid, items)?;
-    sort_entries(&mut entries);
+    let entries = entries_in_order(alloc, &grid, items)?;
     Ok(for_pairs_in_runs(&grid, items, &entries, acc, f))
 }
 
