@@ -8,3 +8,4 @@ pub mod PairSums
 pub mod BinSums
 pub mod HomeLemmas
 pub mod MeetingSums
+pub mod Leading
