@@ -1,0 +1,11 @@
+pub mod Calls
+pub mod DirectLemmas
+pub mod OrderLemmas
+pub mod PairLemmas
+pub mod PushLemmas
+pub mod RunLemmas
+pub mod PairSums
+pub mod BinSums
+pub mod HomeLemmas
+pub mod MeetingSums
+pub mod Leading

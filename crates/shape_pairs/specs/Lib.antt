@@ -1,0 +1,5 @@
+pub mod Pairs
+pub mod Steps
+pub mod Grids
+pub mod Entries
+pub mod PairLaws
