@@ -1,0 +1,4 @@
+pub mod SharedPoints
+pub mod SlabEntries
+pub mod MetSteps
+pub mod Pushed

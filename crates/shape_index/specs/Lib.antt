@@ -1,0 +1,3 @@
+pub mod Laws
+pub mod Shapes
+pub mod Pushing
