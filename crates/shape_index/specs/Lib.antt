@@ -1,3 +1,5 @@
 pub mod Laws
-pub mod Shapes
 pub mod Pushing
+pub mod Shapes
+pub mod TileOrder
+pub mod Tiles

@@ -16,6 +16,8 @@ mod meeting;
 mod met;
 mod plain;
 mod shape;
+mod tile;
+mod tile_order;
 
 pub use laws::{
     common_has_shared_points, common_is_symmetric, meeting_is_symmetric, none_is_apart,
