@@ -38,9 +38,9 @@ order_of_removed es p sorted below i j d low high =
     elim (cases_lt j p) [
       | inl jp ↦ rw (get_or-remove_below es p d j jp below, get_or-remove_below es p d i (omega (arith, low, jp)) below) (sorted i j d low (omega (arith, jp, below)))
       | inr jp ↦ elim (cases_lt i p) [
-          | inl ip ↦ rw (get_or-remove_above es p d j jp below, get_or-remove_below es p d i ip below) (sorted i (j + 1) d (omega (arith, low)) (omega (arith, high, len)))
-          | inr ip ↦ rw (get_or-remove_above es p d j jp below, get_or-remove_above es p d i ip below) (sorted (i + 1) (j + 1) d (omega (arith, low)) (omega (arith, high, len)))
-        ]
+        | inl ip ↦ rw (get_or-remove_above es p d j jp below, get_or-remove_below es p d i ip below) (sorted i (j + 1) d (omega (arith, low)) (omega (arith, high, len)))
+        | inr ip ↦ rw (get_or-remove_above es p d j jp below, get_or-remove_above es p d i ip below) (sorted (i + 1) (j + 1) d (omega (arith, low)) (omega (arith, high, len)))
+      ]
     ]
 
 -- where an entry is put: behind those that come before it
@@ -61,24 +61,24 @@ order_of_inserted es p e sorted place i j d low high =
     elim (cases_lt j p) [
       | inl jp ↦ rw (get_or-insert_below es p e d j jp within, get_or-insert_below es p e d i (omega (arith, low, jp)) within) (sorted i j d low (omega (arith, jp, within)))
       | inr jp ↦ elim (cases_lt p j) [
-          | inl pj ↦ elim (cases_lt i p) [
-              | inl ip ↦ rw (above es p e d j pj within, get_or-insert_below es p e d i ip within) (sorted i (j - 1) d (omega (arith, ip, pj)) (omega (arith, high, len, pj)))
-              | inr ip ↦ elim (cases_lt p i) [
-                  | inl pi ↦ rw (above es p e d j pj within, above es p e d i pi within) (sorted (i - 1) (j - 1) d (omega (arith, low)) (omega (arith, high, len, pj)))
-                  | inr pi ↦
-                      let same : i ≡ p = omega (arith, ip, pi) in
-                      rw (above es p e d j pj within, same, get_or-insert_at es p e d within) (place.left (j - 1) d (omega (arith, pj)) (omega (arith, high, len, pj)))
-                ]
-            ]
-          | inr pj ↦
-              let same : j ≡ p = omega (arith, jp, pj) in
-              elim (cases_lt i p) [
-                | inl ip ↦ rw (same, get_or-insert_at es p e d within, get_or-insert_below es p e d i ip within) (not_both _ _ (place.passed i d ip))
-                | inr ip ↦
-                    let also : i ≡ p = omega (arith, ip, low, same) in
-                    rw (same, also, get_or-insert_at es p e d within) (not_itself (key e))
-              ]
+        | inl pj ↦ elim (cases_lt i p) [
+          | inl ip ↦ rw (above es p e d j pj within, get_or-insert_below es p e d i ip within) (sorted i (j - 1) d (omega (arith, ip, pj)) (omega (arith, high, len, pj)))
+          | inr ip ↦ elim (cases_lt p i) [
+            | inl pi ↦ rw (above es p e d j pj within, above es p e d i pi within) (sorted (i - 1) (j - 1) d (omega (arith, low)) (omega (arith, high, len, pj)))
+            | inr pi ↦
+                let same : i ≡ p = omega (arith, ip, pi) in
+                rw (above es p e d j pj within, same, get_or-insert_at es p e d within) (place.left (j - 1) d (omega (arith, pj)) (omega (arith, high, len, pj)))
+          ]
         ]
+        | inr pj ↦
+            let same : j ≡ p = omega (arith, jp, pj) in
+            elim (cases_lt i p) [
+              | inl ip ↦ rw (same, get_or-insert_at es p e d within, get_or-insert_below es p e d i ip within) (not_both _ _ (place.passed i d ip))
+              | inr ip ↦
+                  let also : i ≡ p = omega (arith, ip, low, same) in
+                  rw (same, also, get_or-insert_at es p e d within) (not_itself (key e))
+            ]
+      ]
     ]
 
 -- what stands where it would be put, where an entry of that key stands
@@ -95,9 +95,9 @@ found_at es p i t sorted place below same =
     record {
       below = omega (arith, low, below);
       is = λ d.
-        let a = place.left p d (omega arith) (omega (arith, low, below)) in
-        let b : ¬ Before t (at es p d) = subst (λ (k : TileKey). ¬ Before k (at es p d)) (same d) (sorted p i d low below) in
-        tied (at es p d) t a b;
+          let a = place.left p d (omega arith) (omega (arith, low, below)) in
+          let b : ¬ Before t (at es p d) = subst (λ (k : TileKey). ¬ Before k (at es p d)) (same d) (sorted p i d low below) in
+          tied (at es p d) t a b;
     }
   where
     first_is : (es : List Entry) (i : ℕ) (t : TileKey) → i < length es → ((d : Entry) → at es i d ≡ t) → ((d : Entry) → i < p → Before (at es i d) t) → i < p → ⊥

@@ -6,3 +6,4 @@ pub mod TileSizes
 pub mod Listed
 pub mod EntryOrder
 pub mod TileSearch
+pub mod OrderChanges

@@ -58,7 +58,7 @@ pub of_slab : (s : Slab Shape) (ids : List ShapeId) (i : ℕ) (d : ShapeId × Sh
 of_slab s [] i d below = absurd (omega arith)
 of_slab s (y ∷ ys) i d below =
     elim (get s y.0) as (λ (o : Option Shape). get s y.0 ≡ o → i < length (cons_option (option_map (λ (x : Shape). (y, x)) o) (listed s ys))
-        → get s (get_or (cons_option (option_map (λ (x : Shape). (y, x)) o) (listed s ys)) i d).0.0 ≡ Some (get_or (cons_option (option_map (λ (x : Shape). (y, x)) o) (listed s ys)) i d).1) [
+    → get s (get_or (cons_option (option_map (λ (x : Shape). (y, x)) o) (listed s ys)) i d).0.0 ≡ Some (get_or (cons_option (option_map (λ (x : Shape). (y, x)) o) (listed s ys)) i d).1) [
       | None ↦ λ e k. of_slab s ys i d k
       | Some x ↦ λ e k. of_front s (y, x) (listed s ys) i d e k (λ j b. of_slab s ys j d b)
     ] refl below

@@ -58,7 +58,7 @@ near_here layer r e n =
     let x = within_is size r.x1 r.x2 e.1.rect.x1 n.left n.right in
     let y = within_is size r.y1 r.y2 e.1.rect.y1 n.below n.above in
     and_from (e.1.layer.0 == layer.0) (is_within size r.x1 r.x2 e.1.rect.x1 && is_within size r.y1 r.y2 e.1.rect.y1) on
-      (and_from (is_within size r.x1 r.x2 e.1.rect.x1) (is_within size r.y1 r.y2 e.1.rect.y1) x y)
+    (and_from (is_within size r.x1 r.x2 e.1.rect.x1) (is_within size r.y1 r.y2 e.1.rect.y1) x y)
 
 abbrev Fails : {X : Type 0} → (X → Bool) → List X → ℕ → ℕ → Type 0
 Fails {X} p xs i j = (k : ℕ) (d : X) → i ≤ k → k < j → p (get_or xs k d) ≡ false

@@ -18,6 +18,7 @@ mod plain;
 mod shape;
 mod tile;
 mod tile_order;
+mod tiled;
 
 pub use laws::{
     common_has_shared_points, common_is_symmetric, meeting_is_symmetric, none_is_apart,
@@ -26,3 +27,4 @@ pub use meeting::{common, meets};
 pub use met::met_of;
 pub use plain::PlainShapes;
 pub use shape::{Shape, ShapeSet};
+pub use tiled::TiledShapes;
