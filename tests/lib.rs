@@ -12,6 +12,7 @@ mod library_macros;
 mod piece_lines;
 mod pin_shapes;
 mod session_calls;
+mod shape_sets;
 mod spoilt_texts;
 mod texts;
 mod tokens;

@@ -7,3 +7,4 @@ pub mod Listed
 pub mod EntryOrder
 pub mod TileSearch
 pub mod OrderChanges
+pub mod TileFloors

@@ -1,11 +1,11 @@
 -- The entries of an order of numbers.
-use Rattle.std.proofs.Common.{◌≡◌, ◌≢◌, ◌≤◌, ◌<◌, ◌+◌, ℕ, zero, suc, Bool, true, false, cond, not, List, [], ◌∷◌, ◌++◌, Option, Some, None, refl, sym, ap, ◌∙◌, subst, arith, get_or, length, filter, take, drop}
-use Rattle.std.specs.Prelude.{sum_by, ◌==◌, IfSome, option_map, slice_get}
-use Rattle.std.specs.List.{filter_map, cons_option, insert, remove}
+use Rattle.std.proofs.Common.{◌≡◌, ◌≢◌, ◌≤◌, ◌<◌, ℕ, zero, suc, Bool, true, false, cond, not, List, [], ◌∷◌, Option, Some, None, refl, sym, ap, subst, arith, get_or, length, filter, take, drop}
+use Rattle.std.specs.Prelude.{sum_by, ◌==◌, option_map, slice_get}
+use Rattle.std.specs.List.{cons_option, insert, remove}
 use Rattle.std.proofs.lemmas.List.Elements.{filter_map-append}
 use Rattle.std.proofs.lemmas.List.Sums.{sum_by-cons}
 use Rattle.std.proofs.lemmas.Option.{slice_get-get_or, slice_get_past}
-use Rattle.slab.specs.Slab.{Slab, entries, get, Updates}
+use Rattle.slab.specs.Slab.{Slab, get, Updates}
 use Rattle.design_model.specs.declared.identifier.ShapeId.{ShapeId}
 use Rattle.shape_index.specs.declared.shape.Shape.{Shape}
 use Rattle.shape_index.specs.TileOrder.{entry_of, listed, AreAllThere}

@@ -1,5 +1,5 @@
 -- What a search by tiles passes over.
-use Rattle.std.proofs.Common.{◌≡◌, ◌≤◌, ◌<◌, ◌+◌, ◌-◌, ◌/◌, ℕ, ℤ, zero, suc, Bool, true, false, cond, ◌&&◌, List, [], ◌∷◌, Option, Some, None, length, get_or, drop, filter, refl, sym, ap, ◌∙◌, subst, arith, inl, inr, add-one}
+use Rattle.std.proofs.Common.{◌≡◌, ◌≤◌, ◌<◌, ◌+◌, ◌-◌, ◌/◌, ℕ, ℤ, zero, suc, Bool, true, false, cond, ◌&&◌, List, [], ◌∷◌, Some, None, length, get_or, drop, filter, refl, sym, ap, ◌∙◌, subst, arith, inl, inr, add-one}
 use Rattle.std.specs.Prelude.{◌==◌, slice_get, nat_le}
 use Rattle.std.specs.List.{FoldsTo}
 use Rattle.std.proofs.lemmas.Bool.{cases_lt, and_parts, and_from}
@@ -10,7 +10,6 @@ use Rattle.design_model.specs.declared.geometry.Rect.{Rect}
 use Rattle.design_model.specs.declared.identifier.LayerId.{LayerId}
 use Rattle.design_model.specs.declared.identifier.ShapeId.{ShapeId}
 use Rattle.design_model.specs.Views.{rectangle_of}
-use Rattle.shape_rules.specs.Meeting.{meets}
 use Rattle.shape_index.specs.declared.shape.Shape.{Shape}
 use Rattle.shape_index.specs.declared.tile.TileKey.{TileKey}
 use Rattle.shape_index.specs.declared.tile.Step.TheVariants.{From, End}
@@ -24,8 +23,8 @@ abbrev Entry : Type 0
 Entry = ShapeId × Shape
 
 -- a shape that meets a rectangle stands under a tile near it
-pub met_is_near : (layer : LayerId) (r : Rect) (e : Entry) → is_met layer r e ≡ true → IsNear layer r (key e)
-met_is_near layer r e h =
+pub near_of_met : (layer : LayerId) (r : Rect) (e : Entry) → is_met layer r e ≡ true → IsNear layer r (key e)
+near_of_met layer r e h =
     let parts = and_parts (e.1.layer.0 == layer.0) _ h in
     let m = bounds (rectangle_of e.1.rect) (rectangle_of r) parts.1 in
     let size = size_of e.1.rect in
@@ -41,7 +40,7 @@ met_is_near layer r e h =
 far : (layer : LayerId) (r : Rect) (e : Entry) → ¬ IsNear layer r (key e) → is_met layer r e ≡ false
 far layer r e n =
     elim (is_met layer r e) as (λ b. is_met layer r e ≡ b → b ≡ false) [
-      | true ↦ λ h. absurd (n (met_is_near layer r e h))
+      | true ↦ λ h. absurd (n (near_of_met layer r e h))
       | false ↦ λ h. refl
     ] refl
 
@@ -51,7 +50,7 @@ test_of a b h = grind (arith, h)
 within_is : (s : ℕ) (low high z : ℤ) → offset low / s ≤ offset z / s + 1 → offset z / s ≤ offset high / s → is_within s low high z ≡ true
 within_is s low high z h k = and_from (nat_le (offset low / s) (offset z / s + 1)) (nat_le (offset z / s) (offset high / s)) (test_of _ _ h) (test_of _ _ k)
 
-near_here : (layer : LayerId) (r : Rect) (e : Entry) → IsNear layer r (key e) → is_near layer r e ≡ true
+pub near_here : (layer : LayerId) (r : Rect) (e : Entry) → IsNear layer r (key e) → is_near layer r e ≡ true
 near_here layer r e n =
     let size = size_of e.1.rect in
     let on : (e.1.layer.0 == layer.0) ≡ true = let h = n.on in grind (arith, h) in

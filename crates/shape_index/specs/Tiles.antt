@@ -1,5 +1,5 @@
 -- Tiles: squares of a size, laid from the lowest coordinate of 64 bits in x and in y.
-use Rattle.std.specs.Prelude.{◌≡◌, ◌≤◌, ◌+◌, ◌-◌, ◌*◌, ◌/◌, ◌^◌, ℕ, zero, suc, min, max, ℤ, pos, negsuc, Bool, ◌&&◌, ◌==◌, nat_le, List, if◌then◌else◌, count_by}
+use Rattle.std.specs.Prelude.{◌+◌, ◌-◌, ◌*◌, ◌/◌, ◌^◌, ℕ, zero, suc, min, max, ℤ, pos, negsuc, Bool, ◌&&◌, ◌==◌, nat_le, List, if◌then◌else◌, count_by}
 use Rattle.design_model.specs.declared.geometry.Rect.{Rect}
 use Rattle.design_model.specs.declared.identifier.LayerId.{LayerId}
 use Rattle.design_model.specs.declared.identifier.ShapeId.{ShapeId}

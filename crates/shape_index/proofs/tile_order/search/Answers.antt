@@ -1,4 +1,4 @@
-use Rattle.std.proofs.Common.{arith, refl, sym, ◌∙◌, ap}
+use Rattle.std.proofs.Common.{arith, refl, sym, ◌∙◌}
 use Rattle.shape_index.specs.TileOrder.{listed}
 use Rattle.shape_index.proofs.TileSearch.{inside, met_here, not_here, met_later, met_end, met_past, counted_here, counted_later}
 use Rattle.shape_index.proofs.tile_order.search.Goals as goal

@@ -1,4 +1,3 @@
-use Rattle.std.proofs.Common.{ap}
 use Rattle.shape_index.specs.Shapes.{met_by}
 use Rattle.shape_index.specs.TileOrder.{listed}
 use Rattle.shape_index.proofs.OrderChanges.{same_met}

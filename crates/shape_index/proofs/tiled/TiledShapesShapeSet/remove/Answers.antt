@@ -1,4 +1,4 @@
-use Rattle.std.proofs.Common.{rules, ◌≡◌, ◌∙◌, Some, None, sym, ap, arith, length}
+use Rattle.std.proofs.Common.{rules, ◌≡◌, ◌∙◌, Some, None, ap, arith, length}
 use Rattle.slab.specs.Slab.{get}
 use Rattle.shape_index.specs.Shapes.{Shapes}
 use Rattle.shape_index.proofs.SlabEntries.{slab_at, slab_removed}
