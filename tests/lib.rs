@@ -1,5 +1,5 @@
-//! Tests that are run and not proved: of sessions and of runs of scripts, of libraries and LEF texts, of names, of tokens, of pins, and
-//! of the pieces of wires. They try what no case folder can hold and what no program calls.
+//! Tests that are run and not proved: of sessions and of runs of scripts, of libraries and LEF texts, of names, of tokens, of pins, of
+//! the pieces of wires, and of sets of shapes. They try what no case folder can hold and what no program calls.
 #![tactic(auto)]
 
 mod design_wires;
