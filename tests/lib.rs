@@ -1,5 +1,5 @@
 //! Tests that are run and not proved: of sessions and of runs of scripts, of libraries and LEF texts, of names, of tokens, of pins, of
-//! the pieces of wires, and of rectangles that meet. They try what no case folder can hold and what no program calls.
+//! the pieces of wires, rectangles that meet, and sets of shapes. They try what no case folder can hold and what no program calls.
 #![tactic(auto)]
 
 mod design_wires;
@@ -13,6 +13,7 @@ mod meeting_pairs;
 mod piece_lines;
 mod pin_shapes;
 mod session_calls;
+mod shape_sets;
 mod spoilt_texts;
 mod texts;
 mod tokens;

@@ -1,0 +1,10 @@
+pub mod SharedPoints
+pub mod SlabEntries
+pub mod MetSteps
+pub mod Pushed
+pub mod TileSizes
+pub mod Listed
+pub mod EntryOrder
+pub mod TileSearch
+pub mod OrderChanges
+pub mod TileFloors

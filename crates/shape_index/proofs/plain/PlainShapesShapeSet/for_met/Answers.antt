@@ -1,0 +1,33 @@
+use Rattle.std.proofs.Common.{length, refl, sym, ap, ◌∙◌, arith}
+use Rattle.shape_index.specs.Shapes.{is_met, met_by, numbered}
+use Rattle.shape_index.proofs.MetSteps.{met_yes, met_no}
+use Rattle.shape_index.proofs.plain.PlainShapesShapeSet.for_met.Goals as goal
+
+pub loop-id-init : goal.loop-id-init
+loop-id-init g c =
+    let all = c.into_iter-id-iterator.ensures.into_iter_gives ∙ c.iter-id-items.ensures.rest in
+    record { next = tt; finite = tt; callable = c.requires; counted = omega (arith, ap length all); rest = λ last k. rw all at k }
+
+pub loop-id-preserved-then-is_met : goal.loop-id-preserved-then-is_met
+loop-id-preserved-then-is_met g c = record {
+  next = tt;
+  finite = tt;
+  callable = c.loop-id.invariant.callable;
+  counted = grind (arith, ap length c.in-Some.ensures.steps, c.saturating_add-compared.ensures, c.loop-id.invariant.counted);
+  rest = λ last k. c.loop-id.invariant.rest last (met_yes _ (is_met c.args.layer c.args.rect) _ _ _ _ _ last (ap numbered c.in-Some.ensures.steps) (sym (c.is_met.ensures (record { 0 = c.in-Some.id })) ∙ c.if-is_met.true) (c.in-Some.shape, refl, c.f-acc.ensures) k);
+}
+
+pub loop-id-preserved : goal.loop-id-preserved
+loop-id-preserved g c = record {
+  next = tt;
+  finite = tt;
+  callable = c.loop-id.invariant.callable;
+  counted = grind (arith, ap length c.in-Some.ensures.steps, c.saturating_add-compared.ensures, c.loop-id.invariant.counted);
+  rest = λ last k. c.loop-id.invariant.rest last (met_no _ (is_met c.args.layer c.args.rect) _ _ _ _ last (ap numbered c.in-Some.ensures.steps) (sym (c.is_met.ensures (record { 0 = c.in-Some.id })) ∙ c.if-is_met.false) k);
+}
+
+pub returns : goal.returns
+returns g c = record {
+  folded = (met_by c.args.layer c.args.rect _, record { sums = λ w. refl }, c.loop-id.invariant.rest _ (rw c.in-None.ensures.steps.0 refl));
+  compared = omega (arith, ap length c.in-None.ensures.steps.0, c.loop-id.invariant.counted);
+}

@@ -1,0 +1,6 @@
+pub mod Laws
+pub mod Pushing
+pub mod Shapes
+pub mod TileLaws
+pub mod TileOrder
+pub mod Tiles

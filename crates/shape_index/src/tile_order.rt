@@ -1,0 +1,117 @@
+//! Shapes in the order of their tiles, and the search among them.
+
+ghost use Rattle.std.specs.Prelude.{◌≡◌, ◌<◌, ◌≤◌, ◌↔◌, IsTrue, ℕ, filter, length, option_map, slice_get, slice_index_or};
+ghost use Rattle.std.specs.List.{FoldsTo};
+ghost use Rattle.shape_index.specs.Shapes.{met_by};
+ghost use Rattle.shape_index.specs.Tiles.{key, near_count};
+ghost use Rattle.shape_index.specs.TileOrder.{AreAllThere, AreInOrder, Before, listed};
+
+use crate::shape::{Shape, is_met};
+use crate::tile::{Step, TileKey, is_before, key_of, next_step};
+use design_model::geometry::Rect;
+use design_model::identifier::{LayerId, ShapeId};
+use slab::Slab;
+use std::alloc::Allocator;
+
+/// The entry at a place of an order of numbers.
+fn entry_at<'s, A: Allocator + Copy>(
+    shapes: &'s Slab<Shape, A>,
+    order: &[ShapeId],
+    place: usize,
+) -> Option<(ShapeId, &'s Shape)>
+    requires { AreAllThere shapes.now order.now }
+    ensures { option_map (λ e. (e.0, e.1.now)) result ≡ slice_get (listed shapes.now order.now) place }
+{
+    if place >= order.len() {
+        return None;
+    }
+    let id = order[place];
+    match shapes.get(id.0) {
+        Some(shape) => Some((id, shape)),
+        None => None,
+    }
+}
+
+/// Whether the entry at a place stands before a key.
+fn stands_before<A: Allocator + Copy>(
+    shapes: &Slab<Shape, A>,
+    order: &[ShapeId],
+    place: usize,
+    next: &TileKey,
+) -> bool
+    requires all_there { AreAllThere shapes.now order.now }
+    requires within { place < length order.now }
+    ensures { (d : _) → IsTrue result ↔ Before (key (slice_index_or (listed shapes.now order.now) place d)) next.now }
+{
+    match entry_at(shapes, order, place) {
+        Some((id, shape)) => is_before(&key_of(id, shape), next),
+        None => false,
+    }
+}
+
+/// The first place from one on whose entry doesn't stand before a key.
+pub(crate) fn first_from<A: Allocator + Copy>(
+    shapes: &Slab<Shape, A>,
+    order: &[ShapeId],
+    from: usize,
+    next: &TileKey,
+) -> usize
+    requires all_there { AreAllThere shapes.now order.now }
+    requires in_order { AreInOrder (listed shapes.now order.now) }
+    requires within { from ≤ length order.now }
+    ensures behind { from ≤ result }
+    ensures within { result ≤ length order.now }
+    ensures passed { (k : ℕ) (d : _) → from ≤ k → k < result → Before (key (slice_index_or (listed shapes.now order.now) k d)) next.now }
+    ensures left { (k : ℕ) (d : _) → result ≤ k → k < length order.now → ¬ Before (key (slice_index_or (listed shapes.now order.now) k d)) next.now }
+{
+    let mut low = from;
+    let mut high = order.len();
+    while low < high {
+        let middle = low + (high - low) / 2;
+        if stands_before(shapes, order, middle, next) {
+            low = middle + 1;
+        } else {
+            high = middle;
+        }
+    }
+    low
+}
+
+/// Folds `f` over the shapes on a layer that meet a rectangle, in the order of their tiles. Also answers how many shapes it
+/// compared.
+pub(crate) fn search<A: Allocator + Copy, B, F: Fn(B, ShapeId, &Shape) -> B>(
+    shapes: &Slab<Shape, A>,
+    order: &[ShapeId],
+    layer: LayerId,
+    rect: Rect,
+    acc: B,
+    f: F,
+) -> (B, u64)
+    requires callable { F.IsAlwaysCallable f }
+    requires all_there { AreAllThere shapes.now order.now }
+    requires in_order { AreInOrder (listed shapes.now order.now) }
+    ensures folded { FoldsTo (λ a e b. (shown : _) × (shown.now ≡ e.1) × F.post f a e.0 shown b) acc (met_by layer rect (listed shapes.now order.now)) result.0 }
+    ensures compared { result.1 ≤ near_count layer rect (listed shapes.now order.now) }
+{
+    let mut acc = acc;
+    let mut compared = 0u64;
+    let mut place = 0;
+    while let Some((id, shape)) = entry_at(shapes, order, place) {
+        place += 1;
+        match next_step(&key_of(id, shape), layer, &rect) {
+            Step::Here => {
+                compared = compared.saturating_add(1);
+                if is_met(shape, layer, rect) {
+                    acc = f(acc, id, shape);
+                }
+            }
+            Step::From(next) => {
+                place = first_from(shapes, order, place, &next);
+            }
+            Step::End => {
+                return (acc, compared);
+            }
+        }
+    }
+    (acc, compared)
+}

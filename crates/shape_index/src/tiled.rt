@@ -1,0 +1,89 @@
+//! A set of shapes that is searched by tiles.
+
+ghost use Rattle.std.specs.Prelude.{◌≡◌, []};
+
+use crate::shape::{Shape, ShapeSet};
+use crate::tile::key_of;
+use crate::tile_order::{first_from, search};
+use design_model::geometry::Rect;
+use design_model::identifier::{LayerId, ShapeId};
+use slab::Slab;
+use std::alloc::{AllocError, Allocator, Global};
+use std::marker::Model;
+
+/// A set of shapes that is searched by tiles. A shape's size is the least power of two that isn't below its sides, and its
+/// tile that of its lower left corner among the tiles of that size. A search compares shapes whose tile is one of those that
+/// the rectangle meets, or one lower in x or in y.
+#[derive(Drop)]
+pub struct TiledShapes<A: Allocator = Global> {
+    shapes: Slab<Shape, A>,
+    // The numbers of the shapes in the order of their tiles.
+    order: Vec<ShapeId, A>,
+}
+
+impl<A: Allocator> Model for TiledShapes<A> {
+    ghost use Rattle.std.specs.Prelude.{◌-◌, length, min, vec_capacity};
+    ghost use Rattle.slab.specs.Slab.{entries, slab_len};
+    ghost use Rattle.shape_index.specs.Shapes.{Shapes, numbered};
+    ghost use Rattle.shape_index.specs.TileOrder.{IsOrderOf};
+
+    ghost Value = { Shapes };
+
+    ghost view = { λ s. record { entries = numbered (entries s.shapes); spare = min (s.shapes.capacity - slab_len s.shapes) (vec_capacity s.order - length s.order.items) } };
+
+    ghost invariant = { λ s. IsOrderOf s.shapes s.order.items };
+}
+
+impl<A: Allocator + Copy> TiledShapes<A> {
+    /// A set with no shapes and no room.
+    pub fn new(alloc: A) -> Self
+        ensures { result ≡ record { entries = []; spare = 0 } }
+    {
+        TiledShapes {
+            shapes: Slab::new(alloc),
+            order: Vec::new(alloc),
+        }
+    }
+}
+
+impl<A: Allocator + Copy> ShapeSet for TiledShapes<A> {
+    ghost use Rattle.shape_index.specs.Tiles.{near_count};
+
+    ghost shapes = { λ s. s };
+
+    ghost most = { λ s layer rect. near_count layer rect s.entries };
+
+    fn reserve(&mut self, count: usize) -> Result<(), AllocError> {
+        self.shapes.reserve(count)?;
+        self.order.reserve(count)
+    }
+
+    fn insert_reserved(&mut self, shape: Shape) -> ShapeId {
+        let key = key_of(ShapeId(self.shapes.vacant_key()), &shape);
+        let place = first_from(&self.shapes, &self.order, 0, &key);
+        let id = ShapeId(self.shapes.insert_reserved(shape));
+        self.order.insert(place, id).unwrap();
+        id
+    }
+
+    fn remove(&mut self, id: ShapeId) -> Option<Shape> {
+        let shape = self.shapes.get(id.0).copied()?;
+        let place = first_from(&self.shapes, &self.order, 0, &key_of(id, &shape));
+        self.order.remove(place);
+        self.shapes.try_remove(id.0)
+    }
+
+    fn get(&self, id: ShapeId) -> Option<Shape> {
+        self.shapes.get(id.0).copied()
+    }
+
+    fn for_met<B, F: Fn(B, ShapeId, &Shape) -> B>(
+        &self,
+        layer: LayerId,
+        rect: Rect,
+        acc: B,
+        f: F,
+    ) -> (B, u64) {
+        search(&self.shapes, &self.order, layer, rect, acc, f)
+    }
+}
