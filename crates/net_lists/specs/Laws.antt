@@ -1,0 +1,31 @@
+-- What building a net gives.
+use Rattle.std.specs.Prelude.{◌≡◌, ◌<◌, ℕ, Bool, List, [], ◌∷◌, ◌++◌, length, map, flat_map, Option, Some}
+use Rattle.lef_grammar.specs.Measures.{Shape}
+use Rattle.connection_rules.specs.NetLines.{shapes_of_net}
+use Rattle.connection_rules.specs.NetParts.{Net, Part}
+use Rattle.net_lists.specs.Building.{bare_net, bare_part, IsBuilt, last_parts, with_part, with_parts, with_shape}
+use Rattle.net_lists.specs.OwnedShapes.{head_of, looked_up, owned_shapes}
+
+-- a net that is begun, and given its parts one after the other, each with its shapes, stands behind the others
+abbrev pub BuildingANet : Type 0
+BuildingANet =
+    (old : List Net) (name : List ℕ) (is_power : Bool) (parts : List Part)
+    → with_parts parts (old ++ bare_net name is_power ∷ []) ≡ old ++ record { name = name; is_power = is_power; parts = parts } ∷ []
+
+-- the steps of it: a net that is begun has no parts; a part that is begun comes behind them; a shape comes into the last of them
+pub record BuildingSteps (old : List Net) (name : List ℕ) (is_power : Bool) : Type 0 where
+  pub begun : IsBuilt old name is_power [] (old ++ bare_net name is_power ∷ [])
+  pub part : (parts : List Part) (now : List Net) (is_pin : Bool)
+      → IsBuilt old name is_power parts now → IsBuilt old name is_power (parts ++ bare_part is_pin ∷ []) (with_part is_pin now)
+  pub shape : (parts : List Part) (is_pin : Bool) (shapes : List Shape) (now : List Net) (s : Shape)
+      → IsBuilt old name is_power (parts ++ record { is_pin = is_pin; shapes = shapes } ∷ []) now
+      → IsBuilt old name is_power (parts ++ record { is_pin = is_pin; shapes = shapes ++ s ∷ [] } ∷ []) (with_shape s now)
+
+-- where so much of a net is built there is a net, and a part if these are some
+pub record GrowingNets (old : List Net) (name : List ℕ) (is_power : Bool) (parts : List Part) (now : List Net) : Type 0 where
+  pub some : 0 < length now
+  pub parts : last_parts now ≡ parts
+
+-- looking the places of shapes up among the heads gives all shapes of the nets, with what is told of their net
+abbrev pub ShapesAreLookedUp : Type 0
+ShapesAreLookedUp = (ns : List Net) → map (looked_up (map head_of ns)) (owned_shapes ns) ≡ map Some (flat_map shapes_of_net ns)

@@ -1,0 +1,5 @@
+pub mod Building
+pub mod Counts
+pub mod Laws
+pub mod NetViews
+pub mod OwnedShapes
