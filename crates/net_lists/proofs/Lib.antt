@@ -1,1 +1,4 @@
+pub mod BuildingLemmas
 pub mod CutLemmas
+pub mod GrowLemmas
+pub mod LookUpLemmas

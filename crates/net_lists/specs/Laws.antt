@@ -21,10 +21,10 @@ pub record BuildingSteps (old : List Net) (name : List ℕ) (is_power : Bool) : 
       → IsBuilt old name is_power (parts ++ record { is_pin = is_pin; shapes = shapes } ∷ []) now
       → IsBuilt old name is_power (parts ++ record { is_pin = is_pin; shapes = shapes ++ s ∷ [] } ∷ []) (with_shape s now)
 
--- where so much of a net is built there is a net, and a part if these are some
+-- where so much of a net is built there is a net, and the last has these parts
 pub record GrowingNets (old : List Net) (name : List ℕ) (is_power : Bool) (parts : List Part) (now : List Net) : Type 0 where
   pub some : 0 < length now
-  pub parts : last_parts now ≡ parts
+  pub last : last_parts now ≡ parts
 
 -- looking the places of shapes up among the heads gives all shapes of the nets, with what is told of their net
 abbrev pub ShapesAreLookedUp : Type 0

@@ -10,7 +10,7 @@ use std::marker::Model;
 
 /// The nets that are left of a list. It takes no memory.
 #[derive(Drop)]
-pub struct Nets<'n, 't> {
+pub struct Nets<'n, 't: 'n> {
     heads: &'n [NetHead<'t>],
     parts: &'n [PartHead],
     shapes: &'n [OwnedShape],
@@ -29,8 +29,8 @@ impl<'n, 't> Model for Nets<'n, 't> {
 }
 
 /// How many shapes these parts have.
-fn shapes_of(parts: &[PartHead], most: usize) -> usize
-    requires { sum_by shape_count parts.now ≤ most }
+fn shapes_of(parts: &[PartHead]) -> usize
+    requires { sum_by shape_count parts.now < 2 ^ 64 }
     ensures { result ≡ sum_by shape_count parts.now }
 {
     let mut count = 0;
@@ -70,10 +70,13 @@ impl<'n, 't> Iterator for Nets<'n, 't> {
     ghost remaining = { item_count (λ s. s) };
 
     fn next(&mut self) -> Option<NetView<'n, 't>> {
-        let (head, heads) = self.heads.split_first()?;
+        if self.heads.is_empty() {
+            return None;
+        }
+        let head = self.heads[0];
         let (parts, other_parts) = self.parts.split_at(head.parts);
-        let (shapes, other_shapes) = self.shapes.split_at(shapes_of(parts, self.shapes.len()));
-        self.heads = heads;
+        let (shapes, other_shapes) = self.shapes.split_at(shapes_of(parts));
+        self.heads = &self.heads[1..];
         self.parts = other_parts;
         self.shapes = other_shapes;
         Some(NetView {
