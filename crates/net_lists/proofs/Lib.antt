@@ -2,3 +2,4 @@ pub mod BuildingLemmas
 pub mod CutLemmas
 pub mod GrowLemmas
 pub mod LookUpLemmas
+pub mod NextLemmas

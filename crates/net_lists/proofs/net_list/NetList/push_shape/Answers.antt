@@ -32,7 +32,7 @@ invariant_of-self-2 g c =
     let place : suc (c.len-last.result - 1) ≡ length c.self.inside.parts.items = omega (arith, c.self.inside.parts.ok.0, c.len-last.ensures, some) in
     rw (set_last shape_more c.self.inside.parts.items (c.len-last.result - 1) c.index_mut.result.now place c.index_mut.ensures.value, c.in_ok-push.ensures.items)
     (shape_held _ _ _ c.self.invariant part _ (omega (arith, c.len-net.ensures, c.self.inside.nets.ok.0))
-    (ap not (sym (last_read false head_pin c.self.inside.parts.items (c.len-last.result - 1) c.index.result.now place c.index.ensures.value))))
+    (ap not (sym (last_read false head_pin c.self.inside.parts.items (c.len-last.result - 1) c.index.result.now place c.index.ensures))))
 
 pub returns-clause-ok : goal.returns-clause-ok
 returns-clause-ok g c =
