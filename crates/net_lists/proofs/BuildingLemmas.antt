@@ -5,7 +5,7 @@ use Rattle.lef_grammar.specs.Measures.{Shape}
 use Rattle.connection_rules.specs.NetParts.{Net, Part}
 use Rattle.net_lists.specs.Building.{bare_net, bare_part, IsBuilt, change_last, last_parts, part_added, shape_added, shape_in_last_part, with_part, with_parts, with_shape, with_shapes}
 use Rattle.net_lists.specs.Laws.{BuildingANet, BuildingSteps, GrowingNets}
-use Rattle.net_lists.proofs.CutLemmas.{change_at_end}
+use Rattle.net_lists.proofs.CutLemmas.{change_at_end, change_length}
 
 last_parts_are : (old : List Net) (n : Net) → last_parts (old ++ n ∷ []) ≡ n.parts
 last_parts_are [] n = refl
@@ -62,3 +62,29 @@ module _ (old : List Net) (name : List ℕ) (is_power : Bool) where
 
 pub building_a_net : BuildingANet
 building_a_net old name is_power parts = parts_built old name is_power [] parts
+
+last_begun : (n : Net) (ns : List Net) → 0 < length (last_parts ns) → 0 < length (last_parts (n ∷ ns))
+last_begun n [] some = absurd (omega (arith, some))
+last_begun n (m ∷ ns) some = some
+
+-- a net stays, and the last has a part
+pub net_begun : (ns : List Net) (n : Net) → 0 < length (ns ++ n ∷ [])
+net_begun ns n = rw (length-append ns (n ∷ [])) (omega arith)
+
+pub net_stays : (f : Net → Net) (ns : List Net) → 0 < length ns → 0 < length (change_last f ns)
+net_stays f ns some = rw (change_length f ns) some
+
+pub part_there : (is_pin : Bool) (ns : List Net) → 0 < length ns → 0 < length (last_parts (with_part is_pin ns))
+part_there is_pin [] some = absurd (omega (arith, some))
+part_there is_pin (n ∷ []) some = rw (length-append n.parts (bare_part is_pin ∷ [])) (omega arith)
+part_there is_pin (n ∷ m ∷ ns) some = last_begun n (change_last (part_added is_pin) (m ∷ ns)) (part_there is_pin (m ∷ ns) (omega arith))
+
+pub part_stays : (s : Shape) (ns : List Net) → 0 < length (last_parts ns) → 0 < length (last_parts (with_shape s ns))
+part_stays s [] some = absurd (omega (arith, some))
+part_stays s (n ∷ []) some = rw (change_length (shape_added s) n.parts) some
+part_stays s (n ∷ m ∷ ns) some = last_begun n (change_last (shape_in_last_part s) (m ∷ ns)) (part_stays s (m ∷ ns) some)
+
+-- a part is some net's
+pub has_net : (ns : List Net) → 0 < length (last_parts ns) → 0 < length ns
+has_net [] some = some
+has_net (n ∷ ns) some = omega arith

@@ -5,8 +5,7 @@ use Rattle.std.proofs.lemmas.List.{length-append, map-append}
 use Rattle.lef_grammar.specs.Measures.{Shape}
 use Rattle.connection_rules.specs.NetLines.{NetShape, shapes_of_net, shapes_of_part}
 use Rattle.connection_rules.specs.NetParts.{Net, Part}
-use Rattle.net_lists.specs.Laws.{ShapesAreLookedUp}
-use Rattle.net_lists.specs.OwnedShapes.{Head, Owned, head_of, looked_up, net_shape, owned_from, owned_in}
+use Rattle.net_lists.specs.OwnedShapes.{Head, Owned, head_of, looked_up, net_shape, owned_from, owned_in, owned_shapes}
 
 at_place : {X : Type 0} (before : List X) (x : X) (behind : List X) → slice_get (before ++ x ∷ behind) (length before) ≡ Some x
 at_place [] x behind = refl
@@ -39,7 +38,7 @@ behind before (n ∷ ns) =
     (ap₂ (λ xs k. map (looked_up xs) (owned_from k ns)) (sym regrouped) (sym e) ∙ behind more ns)
     ∙ sym (map-append Some (shapes_of_net n) (flat_map shapes_of_net ns))
 
-pub shapes_are_looked_up : ShapesAreLookedUp
+pub shapes_are_looked_up : (ns : List Net) → map (looked_up (map head_of ns)) (owned_shapes ns) ≡ map Some (flat_map shapes_of_net ns)
 shapes_are_looked_up ns = behind [] ns
 
 pub map_twice : {X Y Z : Type 0} (f : Y → Z) (g : X → Y) (xs : List X) → map (λ x. f (g x)) xs ≡ map f (map g xs)

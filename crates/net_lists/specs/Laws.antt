@@ -25,7 +25,3 @@ pub record BuildingSteps (old : List Net) (name : List ℕ) (is_power : Bool) : 
 pub record GrowingNets (old : List Net) (name : List ℕ) (is_power : Bool) (parts : List Part) (now : List Net) : Type 0 where
   pub some : 0 < length now
   pub last : last_parts now ≡ parts
-
--- looking the places of shapes up among the heads gives all shapes of the nets, with what is told of their net
-abbrev pub ShapesAreLookedUp : Type 0
-ShapesAreLookedUp = (ns : List Net) → map (looked_up (map head_of ns)) (owned_shapes ns) ≡ map Some (flat_map shapes_of_net ns)

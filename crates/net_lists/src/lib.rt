@@ -17,7 +17,7 @@ mod net_view;
 mod nets;
 mod parts;
 
-pub use laws::{building_a_net, building_steps, growing_nets, shapes_are_looked_up};
+pub use laws::{building_a_net, building_steps, growing_nets};
 pub use net_list::NetList;
 pub use net_view::NetView;
 pub use nets::Nets;

@@ -50,6 +50,7 @@ impl<'t, A: Allocator + Copy> NetList<'t, A> {
     /// Puts a net without parts behind the others. A refused growth leaves the list as it was.
     pub fn begin_net(&mut self, name: &'t [u8], is_power: bool) -> Result<(), AllocError>
         ensures ok { OnOk result (self.new ≡ self.old ++ bare_net name.now is_power ∷ []) }
+        ensures net { OnOk result (0 < length self.new) }
         ensures err { OnErr result (self.new ≡ self.old) }
     {
         self.nets.push(NetHead {
@@ -64,6 +65,8 @@ impl<'t, A: Allocator + Copy> NetList<'t, A> {
     pub fn begin_part(&mut self, is_pin: bool) -> Result<(), AllocError>
         requires { 0 < length self.old }
         ensures ok { OnOk result (self.new ≡ with_part is_pin self.old) }
+        ensures net { OnOk result (0 < length self.new) }
+        ensures part { OnOk result (0 < length (last_parts self.new)) }
         ensures err { OnErr result (self.new ≡ self.old) }
     {
         let last = self.nets.len() - 1;
@@ -76,6 +79,8 @@ impl<'t, A: Allocator + Copy> NetList<'t, A> {
     pub fn push_shape(&mut self, layer: LayerId, rect: Rect) -> Result<(), AllocError>
         requires { 0 < length (last_parts self.old) }
         ensures ok { OnOk result (self.new ≡ with_shape (record { layer = layer.0; box = rectangle_of rect }) self.old) }
+        ensures net { OnOk result (0 < length self.new) }
+        ensures part { OnOk result (0 < length (last_parts self.new)) }
         ensures err { OnErr result (self.new ≡ self.old) }
     {
         let net = self.nets.len() - 1;
@@ -100,7 +105,8 @@ impl<'t, A: Allocator + Copy> NetList<'t, A> {
 
     /// The name of each net, whether it is of power, and how many parts it has.
     pub fn heads(&self) -> &[NetHead<'t>]
-        ensures { map head_view result.now ≡ map head_of self.now }
+        ensures heads { map head_view result.now ≡ map head_of self.now }
+        ensures len { length result.now ≡ length self.now }
     {
         self.nets.as_slice()
     }
@@ -109,7 +115,7 @@ impl<'t, A: Allocator + Copy> NetList<'t, A> {
     pub fn shapes(&self) -> &[OwnedShape]
         ensures owned { map owned_view result.now ≡ owned_shapes self.now }
         ensures known { All (λ s. s.net < length self.now) result.now }
-        ensures looked_up { map (λ s. looked_up (map head_of self.now) (owned_view s)) result.now ≡ map Some (flat_map shapes_of_net self.now) }
+        ensures told { map (λ s. looked_up (map head_of self.now) (owned_view s)) result.now ≡ map Some (flat_map shapes_of_net self.now) }
     {
         self.shapes.as_slice()
     }

@@ -1,5 +1,6 @@
 use Rattle.std.proofs.Common.{ℕ, suc, ◌≡◌, ◌<◌, ◌≤◌, ◌-◌, length, false, not, ap, sym, arith}
 use Rattle.net_lists.proofs.CutLemmas.{last_read, set_last}
+use Rattle.net_lists.proofs.BuildingLemmas.{has_net, net_stays, part_stays}
 use Rattle.net_lists.proofs.GrowLemmas.{has_part, head_pin, last_shapes, shape_more, shape_held, shape_pushed, some_parts}
 use Rattle.net_lists.proofs.net_list.NetList.push_shape.Goals as goal
 
@@ -41,3 +42,9 @@ returns-clause-ok g c =
     let place : suc (c.len-last.result - 1) ≡ length c.self.inside.parts.items = omega (arith, c.self.inside.parts.ok.0, c.len-last.ensures, some) in
     rw (set_last shape_more c.self.inside.parts.items (c.len-last.result - 1) c.index_mut.result.now place c.index_mut.ensures.value, c.in_ok-push.ensures.items, ← c.self.view_is)
     (shape_pushed _ _ _ c.self.invariant part _)
+
+pub returns-clause-net : goal.returns-clause-net
+returns-clause-net g c = rw (returns-clause-ok g c) (net_stays _ c.args.self.now (has_net _ c.requires))
+
+pub returns-clause-part : goal.returns-clause-part
+returns-clause-part g c = rw (returns-clause-ok g c) (part_stays _ c.args.self.now c.requires)
