@@ -182,7 +182,7 @@ module _ (hs : List NetHead) (ps : List PartHead) (ss : List OwnedShape) (held :
             let is_pin : is_last_pin (last_parts nets) ≡ last_of false head_pin ps = last_part_is hs parts counted last_counts ∙ last_head_is ps ss in
             let place : s.net ≡ length nets - 1 = net ∙ ap (λ n. n - 1) (sym net_count) in
             let one : owned_view s ≡ owned_one (length nets - 1) (is_last_pin (last_parts nets)) (shape_view s) =
-                ap₂ (λ n d. record { net = n; is_drawn = d; shape = shape_view s }) place (drawn ∙ ap not (sym is_pin)) in
+            ap₂ (λ n d. record { net = n; is_drawn = d; shape = shape_view s }) place (drawn ∙ ap not (sym is_pin)) in
             let at : length nets - 1 ≡ 0 + length nets - 1 = omega arith in
             map_push owned_view ss s
             ∙ ap₂ (λ os o. os ++ o ∷ []) held.owned one

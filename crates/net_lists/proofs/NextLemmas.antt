@@ -25,8 +25,8 @@ first_net hs d ps qs rs ss ts us some front back shapes left =
     let split : hs ≡ h ∷ drop 1 hs = drop_more hs 0 d some in
     let k : ℕ = sum_by shape_count (take h.parts ps) in
     let e : nets_of (h ∷ drop 1 hs) ps ss ≡ first_of h (take h.parts ps) (take k ss) ∷ nets_of (drop 1 hs) (drop h.parts ps) (drop k ss) =
-        ap₂ (λ qs ns. net_with h qs ∷ ns) (cut_taken shape_count part_with h.parts ps ss)
-        (ap (cut part_count net_with (drop 1 hs)) (cut_dropped shape_count part_with h.parts ps ss)) in
+    ap₂ (λ qs ns. net_with h qs ∷ ns) (cut_taken shape_count part_with h.parts ps ss)
+    (ap (cut part_count net_with (drop 1 hs)) (cut_dropped shape_count part_with h.parts ps ss)) in
     rw (take_rest hs 1, shapes, left, front, back) (ap (λ xs. nets_of xs ps ss) split ∙ e)
 
 pub fewer : (old : List Net) (n : Net) (new : List Net) → old ≡ n ∷ new → length new < length old

@@ -124,10 +124,6 @@ impl<'t, A: Allocator + Copy> NetList<'t, A> {
     pub fn nets(&self) -> Nets<'_, 't>
         ensures { result ≡ self.now }
     {
-        Nets::new(
-            self.nets.as_slice(),
-            self.parts.as_slice(),
-            self.shapes.as_slice(),
-        )
+        Nets::new(&self.nets, &self.parts, &self.shapes)
     }
 }
