@@ -3,7 +3,7 @@ use Rattle.std.proofs.Common.{◌≡◌, ℕ, zero, suc, ◌+◌, ◌-◌, ◌<�
 use Rattle.std.proofs.lemmas.List.{length-append, take-append-le, drop-append-le, take_all, take-take, drop-take, drop-drop, length-drop}
 use Rattle.std.proofs.lemmas.List.Sums.{sum_by-cons}
 use Rattle.net_lists.specs.Building.{change_last}
-use Rattle.net_lists.specs.NetViews.{cut}
+use Rattle.net_lists.specs.PartCuts.{cut}
 
 -- a change of the last element, where that is shown
 pub change_at_end : {X : Type 0} (f : X → X) (xs : List X) (x : X) → change_last f (xs ++ x ∷ []) ≡ xs ++ f x ∷ []

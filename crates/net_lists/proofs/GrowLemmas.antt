@@ -7,7 +7,8 @@ use Rattle.connection_rules.specs.NetLines.{shapes_of_net}
 use Rattle.connection_rules.specs.NetParts.{Net, Part}
 use Rattle.net_lists.specs.Building.{bare_net, bare_part, change_last, last_parts, part_added, shape_added, shape_in_last_part, with_part, with_shape}
 use Rattle.net_lists.specs.Counts.{part_count, shape_count}
-use Rattle.net_lists.specs.NetViews.{cut, head_view, nets_of, net_with, owned_view, part_with, parts_of, shape_view, HoldTogether}
+use Rattle.net_lists.specs.NetViews.{head_view, nets_of, net_with, owned_view, HoldTogether}
+use Rattle.net_lists.specs.PartCuts.{cut, part_with, parts_of, shape_view}
 use Rattle.net_lists.specs.OwnedShapes.{Owned, head_of, looked_up, net_shape, owned_from, owned_in, owned_shapes}
 use Rattle.net_lists.specs.declared.parts.NetHead.{NetHead}
 use Rattle.net_lists.specs.declared.parts.OwnedShape.{OwnedShape}

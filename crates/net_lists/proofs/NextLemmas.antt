@@ -3,7 +3,8 @@ use Rattle.std.proofs.Common.{◌≡◌, ℕ, zero, suc, false, ◌==◌, ◌+�
 use Rattle.std.proofs.lemmas.List.{drop_more, take_rest}
 use Rattle.connection_rules.specs.NetParts.{Net, Part}
 use Rattle.net_lists.specs.Counts.{part_count, shape_count}
-use Rattle.net_lists.specs.NetViews.{cut, nets_of, net_with, part_with, parts_of}
+use Rattle.net_lists.specs.NetViews.{nets_of, net_with}
+use Rattle.net_lists.specs.PartCuts.{cut, part_with, parts_of}
 use Rattle.net_lists.specs.declared.parts.NetHead.{NetHead}
 use Rattle.net_lists.specs.declared.parts.OwnedShape.{OwnedShape}
 use Rattle.net_lists.specs.declared.parts.PartHead.{PartHead}

@@ -3,3 +3,4 @@ pub mod Counts
 pub mod Laws
 pub mod NetViews
 pub mod OwnedShapes
+pub mod PartCuts
