@@ -1,9 +1,9 @@
 -- A net is built step by step.
-use Rattle.std.proofs.Common.{◌≡◌, ℕ, ◌+◌, ◌<◌, Bool, List, [], ◌∷◌, ◌++◌, length, refl, sym, ap, ◌∙◌, append_assoc, arith}
+use Rattle.std.proofs.Common.{◌≡◌, ℕ, ◌<◌, Bool, List, [], ◌∷◌, ◌++◌, length, refl, sym, ap, ◌∙◌, append_assoc, arith}
 use Rattle.std.proofs.lemmas.List.{append-nil, length-append}
 use Rattle.lef_grammar.specs.Measures.{Shape}
 use Rattle.connection_rules.specs.NetParts.{Net, Part}
-use Rattle.net_lists.specs.Building.{bare_net, bare_part, IsBuilt, change_last, last_parts, part_added, shape_added, shape_in_last_part, with_part, with_parts, with_shape, with_shapes}
+use Rattle.net_lists.specs.Building.{bare_part, IsBuilt, change_last, last_parts, part_added, shape_added, shape_in_last_part, with_part, with_parts, with_shape, with_shapes}
 use Rattle.net_lists.specs.Laws.{BuildingANet, BuildingSteps, GrowingNets}
 use Rattle.net_lists.proofs.CutLemmas.{change_at_end, change_length}
 

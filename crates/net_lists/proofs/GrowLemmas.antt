@@ -1,7 +1,7 @@
 -- The flat lists grow as the nets do.
-use Rattle.std.proofs.Common.{◌≡◌, ℕ, zero, suc, ◌+◌, ◌-◌, ◌<◌, ◌≤◌, Bool, true, false, not, List, [], ◌∷◌, ◌++◌, length, map, flat_map, sum_by, drop, take, get_or, set, refl, sym, ap, ap₂, ◌∙◌, append_assoc, Some, arith}
-use Rattle.std.proofs.lemmas.List.{append-nil, length-append, length_push, length-drop, length-map, length-take-le, map_push, map-append, take_all}
-use Rattle.std.proofs.lemmas.List.Sums.{sum_by-cons, sum_by_push}
+use Rattle.std.proofs.Common.{◌≡◌, ℕ, suc, ◌+◌, ◌-◌, ◌<◌, ◌≤◌, Bool, false, not, List, [], ◌∷◌, ◌++◌, length, map, flat_map, sum_by, drop, take, get_or, refl, sym, ap, ap₂, ◌∙◌, append_assoc, Some, arith}
+use Rattle.std.proofs.lemmas.List.{append-nil, length_push, length-map, length-take-le, map_push, take_all}
+use Rattle.std.proofs.lemmas.List.Sums.{sum_by_push}
 use Rattle.lef_grammar.specs.Measures.{Shape}
 use Rattle.connection_rules.specs.NetLines.{shapes_of_net}
 use Rattle.connection_rules.specs.NetParts.{Net, Part}
@@ -110,7 +110,7 @@ module _ (hs : List NetHead) (ps : List PartHead) (ss : List OwnedShape) (held :
   parts = parts_of ps ss
 
   counted : sum_by part_count hs ≡ length parts
-  counted = held.parts ∙ sym (cut_length shape_count part_with ps ss)
+  counted = held.sums.parts ∙ sym (cut_length shape_count part_with ps ss)
 
   pub net_count : length nets ≡ length hs
   net_count = cut_length part_count net_with hs parts
@@ -123,7 +123,7 @@ module _ (hs : List NetHead) (ps : List PartHead) (ss : List OwnedShape) (held :
   has_part now is some = let f = ap (λ ns. length (last_parts ns)) is in omega (arith, f, some)
 
   pub last_shapes : (i : ℕ) (p : PartHead) → suc i ≡ length ps → p ≡ get_or ps i p → p.shapes ≤ length ss
-  last_shapes i p l is = let e = last_read 0 shape_count ps i p l is in let f = last_fits shape_count ps in let g = held.shapes in omega (arith, e, f, g)
+  last_shapes i p l is = let e = last_read 0 shape_count ps i p l is in let f = last_fits shape_count ps in let g = held.sums.shapes in omega (arith, e, f, g)
 
   pub heads : map head_view hs ≡ map head_of nets
   heads = heads_are hs parts counted
@@ -144,21 +144,25 @@ module _ (hs : List NetHead) (ps : List PartHead) (ss : List OwnedShape) (held :
 
   pub net_held : (h : NetHead) → h.parts ≡ 0 → HoldTogether (hs ++ h ∷ []) ps ss
   net_held h none = record {
-    parts = let e = sum_by_push part_count hs h in let l = held.parts in omega (arith, e, l, none);
-    shapes = held.shapes;
+    sums = record {
+      parts = let e = sum_by_push part_count hs h in let l = held.sums.parts in omega (arith, e, l, none);
+      shapes = held.sums.shapes;
+    };
     owned = held.owned ∙ sym (ap owned_shapes (with_net h none) ∙ owned_behind 0 nets (bare_net h.name.now h.is_power) ∙ append-nil (owned_shapes nets));
   }
 
   module _ (p : PartHead) (none : p.shapes ≡ 0) (some : 0 < length hs) where
     pub part_begun : nets_of (change_last part_more hs) (ps ++ p ∷ []) ss ≡ with_part p.is_pin nets
     part_begun =
-        ap (cut part_count net_with (change_last part_more hs)) (cut_bare shape_count part_with p none ps ss held.shapes)
+        ap (cut part_count net_with (change_last part_more hs)) (cut_bare shape_count part_with p none ps ss held.sums.shapes)
         ∙ cut_more part_count net_with part_more (part_added p.is_pin) (bare_part p.is_pin) (λ h. refl) (λ h qs. refl) hs parts counted
 
     pub part_held : HoldTogether (change_last part_more hs) (ps ++ p ∷ []) ss
     part_held = record {
-      parts = let e = more_counted part_count part_more (λ h. refl) hs some in let l = length_push ps p in let m = held.parts in omega (arith, e, l, m);
-      shapes = let e = sum_by_push shape_count ps p in let m = held.shapes in omega (arith, e, m, none);
+      sums = record {
+        parts = let e = more_counted part_count part_more (λ h. refl) hs some in let l = length_push ps p in let m = held.sums.parts in omega (arith, e, l, m);
+        shapes = let e = sum_by_push shape_count ps p in let m = held.sums.shapes in omega (arith, e, m, none);
+      };
       owned = held.owned ∙ sym (ap owned_shapes part_begun ∙ owned_with_part 0 p.is_pin nets);
     }
 
@@ -167,18 +171,20 @@ module _ (hs : List NetHead) (ps : List PartHead) (ss : List OwnedShape) (held :
     last_counts = let e = last_parts_length hs parts counted in omega (arith, e, some)
 
     pub some_parts : 0 < length ps
-    some_parts = let e = held.parts in let f = last_fits part_count hs in let s = last_counts in omega (arith, e, f, s)
+    some_parts = let e = held.sums.parts in let f = last_fits part_count hs in let s = last_counts in omega (arith, e, f, s)
 
     module _ (s : OwnedShape) where
       pub shape_pushed : nets_of hs (change_last shape_more ps) (ss ++ s ∷ []) ≡ with_shape (shape_view s) nets
       shape_pushed =
-          ap (cut part_count net_with hs) (cut_more shape_count part_with shape_more (shape_added (shape_view s)) s (λ p. refl) (λ p os. ap (λ xs. record { is_pin = p.is_pin; shapes = xs }) (map_push shape_view os s)) ps ss held.shapes)
+          ap (cut part_count net_with hs) (cut_more shape_count part_with shape_more (shape_added (shape_view s)) s (λ p. refl) (λ p os. ap (λ xs. record { is_pin = p.is_pin; shapes = xs }) (map_push shape_view os s)) ps ss held.sums.shapes)
           ∙ cut_changed part_count net_with (shape_added (shape_view s)) (shape_in_last_part (shape_view s)) (λ h qs. refl) hs parts counted last_counts
 
       pub shape_held : s.net ≡ length hs - 1 → s.is_drawn ≡ not (last_of false head_pin ps) → HoldTogether hs (change_last shape_more ps) (ss ++ s ∷ [])
       shape_held net drawn = record {
-        parts = held.parts ∙ sym (change_length shape_more ps);
-        shapes = let e = more_counted shape_count shape_more (λ p. refl) ps some_parts in let l = length_push ss s in let m = held.shapes in omega (arith, e, l, m);
+        sums = record {
+          parts = held.sums.parts ∙ sym (change_length shape_more ps);
+          shapes = let e = more_counted shape_count shape_more (λ p. refl) ps some_parts in let l = length_push ss s in let m = held.sums.shapes in omega (arith, e, l, m);
+        };
         owned =
             let is_pin : is_last_pin (last_parts nets) ≡ last_of false head_pin ps = last_part_is hs parts counted last_counts ∙ last_head_is ps ss in
             let place : s.net ≡ length nets - 1 = net ∙ ap (λ n. n - 1) (sym net_count) in

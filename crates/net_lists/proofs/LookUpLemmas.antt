@@ -1,9 +1,9 @@
 -- The nets of shapes are looked up among the heads.
-use Rattle.std.proofs.Common.{◌≡◌, ℕ, zero, suc, ◌+◌, ◌<◌, List, [], ◌∷◌, ◌++◌, length, map, flat_map, refl, sym, ap, ap₂, ◌∙◌, append_assoc, Option, Some, None, slice_get, get_or, not, arith}
+use Rattle.std.proofs.Common.{◌≡◌, ℕ, zero, suc, ◌<◌, List, [], ◌∷◌, ◌++◌, length, map, flat_map, refl, sym, ap, ap₂, ◌∙◌, append_assoc, Option, Some, slice_get, get_or, not, arith}
 use Rattle.std.specs.Option.{option_map}
 use Rattle.std.proofs.lemmas.List.{length-append, map-append}
 use Rattle.lef_grammar.specs.Measures.{Shape}
-use Rattle.connection_rules.specs.NetLines.{NetShape, shapes_of_net, shapes_of_part}
+use Rattle.connection_rules.specs.NetLines.{shapes_of_net, shapes_of_part}
 use Rattle.connection_rules.specs.NetParts.{Net, Part}
 use Rattle.net_lists.specs.OwnedShapes.{Head, Owned, head_of, looked_up, net_shape, owned_from, owned_in, owned_shapes}
 

@@ -1,7 +1,7 @@
 -- The first net of flat lists, and those behind it.
-use Rattle.std.proofs.Common.{◌≡◌, ℕ, zero, suc, false, ◌==◌, ◌+◌, ◌-◌, ◌<◌, List, [], ◌∷◌, length, sum_by, drop, take, get_or, refl, sym, ap, ap₂, ◌∙◌, arith}
+use Rattle.std.proofs.Common.{◌≡◌, ℕ, zero, suc, false, ◌==◌, ◌-◌, ◌<◌, List, ◌∷◌, length, sum_by, drop, take, get_or, ap, ap₂, ◌∙◌, arith}
 use Rattle.std.proofs.lemmas.List.{drop_more, take_rest}
-use Rattle.connection_rules.specs.NetParts.{Net, Part}
+use Rattle.connection_rules.specs.NetParts.{Net}
 use Rattle.net_lists.specs.Counts.{part_count, shape_count}
 use Rattle.net_lists.specs.NetViews.{nets_of, net_with}
 use Rattle.net_lists.specs.PartCuts.{cut, part_with, parts_of}

@@ -1,10 +1,8 @@
 -- What building a net gives.
-use Rattle.std.specs.Prelude.{◌≡◌, ◌<◌, ℕ, Bool, List, [], ◌∷◌, ◌++◌, length, map, flat_map, Option, Some}
+use Rattle.std.specs.Prelude.{◌≡◌, ◌<◌, ℕ, Bool, List, [], ◌∷◌, ◌++◌, length}
 use Rattle.lef_grammar.specs.Measures.{Shape}
-use Rattle.connection_rules.specs.NetLines.{shapes_of_net}
 use Rattle.connection_rules.specs.NetParts.{Net, Part}
 use Rattle.net_lists.specs.Building.{bare_net, bare_part, IsBuilt, last_parts, with_part, with_parts, with_shape}
-use Rattle.net_lists.specs.OwnedShapes.{head_of, looked_up, owned_shapes}
 
 -- a net that is begun, and given its parts one after the other, each with its shapes, stands behind the others
 abbrev pub BuildingANet : Type 0

@@ -1,5 +1,5 @@
 -- Flat lists as nets.
-use Rattle.std.specs.Prelude.{◌≡◌, ℕ, List, [], ◌∷◌, ◌++◌, map, length, take, drop, sum_by, Option, MatchOption}
+use Rattle.std.specs.Prelude.{◌≡◌, List, [], ◌∷◌, map, length, sum_by, Option, MatchOption}
 use Rattle.connection_rules.specs.NetParts.{Net, Part}
 use Rattle.net_lists.specs.declared.net_view.NetView.{NetView}
 use Rattle.net_lists.specs.declared.parts.NetHead.{NetHead}
@@ -31,8 +31,7 @@ pub record AddUp (hs : List NetHead) (ps : List PartHead) (ss : List OwnedShape)
 
 -- and each shape has its net's place, and is drawn where its part isn't a pin
 pub record HoldTogether (hs : List NetHead) (ps : List PartHead) (ss : List OwnedShape) : Type 0 where
-  pub parts : sum_by part_count hs ≡ length ps
-  pub shapes : sum_by shape_count ps ≡ length ss
+  pub sums : AddUp hs ps ss
   pub owned : map owned_view ss ≡ owned_shapes (nets_of hs ps ss)
 
 -- a call gave the first net that was left, or none was left

@@ -1,5 +1,5 @@
 -- The shapes of nets, each with its net's place.
-use Rattle.std.specs.Prelude.{◌≡◌, ℕ, suc, Bool, not, List, [], ◌∷◌, ◌++◌, map, flat_map, length, Option, slice_get}
+use Rattle.std.specs.Prelude.{ℕ, suc, Bool, not, List, [], ◌∷◌, ◌++◌, map, flat_map, length, Option, slice_get}
 use Rattle.std.specs.Option.{option_map}
 use Rattle.lef_grammar.specs.Measures.{Shape}
 use Rattle.connection_rules.specs.NetLines.{NetShape}

@@ -1,6 +1,6 @@
 //! The nets of a list, one after the other.
 
-ghost use Rattle.std.specs.Prelude.{◌≡◌, ◌≤◌, ◌^◌, ◌<◌, length, sum_by};
+ghost use Rattle.std.specs.Prelude.{◌≡◌, ◌^◌, ◌<◌, length, sum_by};
 ghost use Rattle.net_lists.specs.Counts.{part_count, shape_count};
 ghost use Rattle.net_lists.specs.NetViews.{nets_of};
 

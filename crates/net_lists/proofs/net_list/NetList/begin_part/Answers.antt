@@ -1,4 +1,4 @@
-use Rattle.std.proofs.Common.{ℕ, suc, ◌≡◌, ◌<◌, ◌-◌, length, refl, arith, List}
+use Rattle.std.proofs.Common.{suc, ◌≡◌, ◌<◌, ◌-◌, length, refl, arith}
 use Rattle.net_lists.proofs.CutLemmas.{set_last}
 use Rattle.net_lists.specs.Building.{part_added}
 use Rattle.net_lists.proofs.BuildingLemmas.{net_stays, part_there}

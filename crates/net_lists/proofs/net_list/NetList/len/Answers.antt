@@ -1,4 +1,3 @@
-use Rattle.std.proofs.Common.{sym}
 use Rattle.net_lists.proofs.GrowLemmas.{net_count}
 use Rattle.net_lists.proofs.net_list.NetList.len.Goals as goal
 

@@ -1,4 +1,4 @@
-use Rattle.std.proofs.Common.{ℕ, suc, ◌≡◌, ◌<◌, ◌≤◌, ◌-◌, length, false, not, ap, sym, arith}
+use Rattle.std.proofs.Common.{suc, ◌≡◌, ◌-◌, length, false, not, ap, sym, arith}
 use Rattle.net_lists.proofs.CutLemmas.{last_read, set_last}
 use Rattle.net_lists.proofs.BuildingLemmas.{has_net, net_stays, part_stays}
 use Rattle.net_lists.proofs.GrowLemmas.{has_part, head_pin, last_shapes, shape_more, shape_held, shape_pushed, some_parts}

@@ -1,4 +1,4 @@
-use Rattle.std.proofs.Common.{◌<◌, ◌∙◌, ap, take, drop, length, arith}
+use Rattle.std.proofs.Common.{◌∙◌, ap, take, drop}
 use Rattle.net_lists.proofs.NextLemmas.{fewer, first_net, some_left}
 use Rattle.net_lists.proofs.nets.NetsIterator.next.Goals as goal
 
