@@ -50,6 +50,8 @@ module _ (old : List Net) (name : List ℕ) (is_power : Bool) where
     begun = record { is = refl };
     part = λ parts now is_pin b. record { is = ap (with_part is_pin) b.is ∙ part_begun parts is_pin };
     shape = λ parts is_pin shapes now s b. record { is = ap (with_shape s) b.is ∙ shape_pushed parts is_pin shapes s };
+    several_parts = λ parts more now b. record { is = ap (with_parts more) b.is ∙ parts_built parts more };
+    several_shapes = λ parts is_pin shapes more now b. record { is = ap (with_shapes more) b.is ∙ shapes_pushed parts is_pin shapes more };
   }
 
   pub growing_nets : (parts : List Part) (now : List Net) → IsBuilt old name is_power parts now → GrowingNets old name is_power parts now

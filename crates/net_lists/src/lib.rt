@@ -3,7 +3,8 @@
 //! Begin with `NetList::new`, and put nets in one after the other: `begin_net`, for each of its parts `begin_part`, and for each
 //! shape of the part `push_shape`. Contracts see the list as `List Net` of `connection_rules/specs/NetParts`; `specs/Building`
 //! says what each call adds, and the laws `building_a_net`, `building_steps` and `growing_nets` say that a net that is put in part
-//! by part and shape by shape stands whole behind the others.
+//! by part and shape by shape stands whole behind the others. A loop keeps `with_parts` or `with_shapes` of what it has left.
+//!
 //! `heads` lends each net's name, `shapes` all shapes with the number of their net (`specs/OwnedShapes`), and `nets` the nets one
 //! after the other, each with its parts and its shapes as slices (`specs/NetViews`), and `part_views` the parts of one.
 //!
