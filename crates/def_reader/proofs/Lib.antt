@@ -1,4 +1,5 @@
 mod CheckSteps
 mod KeySteps
+mod PlaceSteps
 mod RecordSteps
 mod SectionSteps

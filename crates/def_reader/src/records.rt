@@ -3,6 +3,7 @@
 ghost use Rattle.std.specs.Prelude.{◌≡◌, ℕ, map, List, Ok, IfOk, IfSome, IsOk};
 ghost use Rattle.std.specs.List.{All};
 ghost use Rattle.std.specs.Option.{option_map};
+ghost use Rattle.design_model.specs.declared.mode.Mode.TheVariants.{In};
 ghost use Rattle.statement_model.specs.Form.{spell};
 ghost use Rattle.def_grammar.specs.Components.{component_form};
 ghost use Rattle.statement_model.specs.Tokens.{Token};
@@ -109,6 +110,7 @@ pub fn entry_named<'t>(text: &'t [u8], section: Section, name: &[u8]) -> Option<
     requires { IsOk (read_def text.now) }
     ensures gives { (design : List Record) → read_def text.now ≡ Ok design → option_map located_view result ≡ entry_at section name.now (located text.now design) }
     ensures lent { IfSome result (λ x. ReadIn text.now x) }
+    ensures place { IfSome result (λ x. x.place ≡ In section) }
     ensures span { IfSome result (λ x. span_of (pieces_of x.tokens) ≡ record { lo = x.start; hi = x.end }) }
 {
     records_are_read::<Statement<'t>>();

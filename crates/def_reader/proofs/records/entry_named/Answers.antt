@@ -1,10 +1,12 @@
 use Rattle.std.proofs.Common.{◌∙◌, sym, ap, refl}
 use Rattle.lefdef_tokens.specs.Views.{pieces_of}
+use Rattle.statement_model.specs.Tokens.{left_from}
 use Rattle.statement_reader.specs.Located.{located_at}
 use Rattle.def_grammar.specs.Records.{def}
 use Rattle.def_grammar.specs.Located.{entry_at}
 use Rattle.def_reader.specs.StatementViews.{record_view}
 use Rattle.def_reader.proofs.RecordSteps.{located_is, entry_here, entry_later}
+use Rattle.def_reader.proofs.PlaceSteps.{after_entry}
 use Rattle.def_reader.proofs.records.entry_named.Goals as goal
 
 pub returns-then-is_entry-clause-gives : goal.returns-then-is_entry-clause-gives
@@ -17,6 +19,13 @@ returns-then-is_entry-clause-gives c = λ design reads.
     ∙ l.invariant.named
     ∙ entry_here c.args.section c.args.name.now _ (located_at def c.next.new.self.place l.statements.text.now c.next.new.self.pos) (pieces_of read.tokens) (record_view read.statement) c.in-Some.ensures.gives (sym c.is_entry.ensures ∙ c.if-is_entry.true)
     )
+
+pub returns-then-is_entry-clause-place : goal.returns-then-is_entry-clause-place
+returns-then-is_entry-clause-place c =
+    let l = c.loop-read in
+    let read = c.in-Some.read in
+    after_entry l.statements.place read.place (left_from l.statements.text.now l.statements.pos) (left_from l.statements.text.now read.end) (record_view read.statement) c.args.section c.args.name.now c.in-Some.ensures.reads.2
+    (sym c.is_entry.ensures ∙ c.if-is_entry.true)
 
 pub loop-read-preserved : goal.loop-read-preserved
 loop-read-preserved c =
