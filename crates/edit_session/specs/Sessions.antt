@@ -9,6 +9,7 @@ use Rattle.design_model.specs.Order.{texts}
 use Rattle.design_model.specs.declared.mode.Mode.TheVariants.{In}
 use Rattle.design_model.specs.declared.mode.Section.{Section}
 use Rattle.lefdef_tokens.specs.declared.span.Span.{Span}
+use Rattle.statement_model.specs.Boundaries.{statement_at}
 use Rattle.statement_model.specs.Cuts.{Cut, with_cuts, end_of_all}
 use Rattle.statement_model.specs.Reading.{pos_of, read_at}
 use Rattle.statement_model.specs.Tokens.{Token, Lexed, left_from}
@@ -19,7 +20,8 @@ use Rattle.design_rules.specs.Edits.{Change, applied, is_long}
 use Rattle.def_grammar.specs.Located.{located, bytes_of, entry_at}
 use Rattle.design_rules.specs.Runs.{Makes, WantsMemory, new_text, text_outcome}
 use Rattle.splicing_laws.specs.KeepingLaws.{IsOneCut}
-use Rattle.def_reader.specs.EntryViews.{entry_view}
+use Rattle.def_reader.specs.EntryViews.{EntryAt, entry_view}
+use Rattle.def_reader.specs.declared.entry.Entry as code
 use Rattle.edit_session.specs.declared.view.View.{View}
 
 -- what opening a text says: it reads, or has this fault; refused memory says nothing
@@ -67,6 +69,10 @@ SaysAlone s bytes e = (left : Lexed) × (read_at def (In s) (left_from bytes 0) 
 
 abbrev pub IsAlone : Section → List ℕ → Type 0
 IsAlone s bytes = (e : Entry) × SaysAlone s bytes e
+
+-- the parts of an entry are the tokens of the first statement of these bytes
+abbrev pub HasParts : Section → List ℕ → code.Entry → Type 0
+HasParts s bytes parts = (ps : List Token) × (left : Lexed) × (statement_at (def.ending (In s)) (left_from bytes 0) ≡ Ok (Some (ps, left))) × EntryAt ps parts
 
 -- what looking for an entry says: there is none of this section and name, or it is lent with its bytes and their place
 abbrev pub Views : List ℕ → Section → List ℕ → Option View → Type 0

@@ -7,7 +7,6 @@ ghost use Rattle.counted_devices.specs.Known.{WritesPart};
 ghost use Rattle.def_grammar.specs.Records.{read_def};
 ghost use Rattle.design_rules.specs.Edits.{change_of};
 ghost use Rattle.design_rules.specs.Runs.{Answers, design_edit, text_edit};
-ghost use Rattle.def_reader.specs.EntryViews.{EntryIn};
 ghost use Rattle.report_lines.specs.Kinds.{HaveTheirKinds};
 ghost use Rattle.edit_session.specs.Sessions.{EditsText, KeepsTheRest, OpensAs, ReadsEdited, ReplacesText, Reports, Views};
 
@@ -112,7 +111,7 @@ impl<'s, 'l, A: Allocator + Copy> Session<'s, 'l, A> {
     /// entries mean nothing, as their entries have no names.
     pub fn statement(&self, section: Section, name: &[u8]) -> Option<View<'_>>
         ensures view { Views self.now.text section name.now result }
-        ensures lent { IfSome result (λ v. EntryIn v.bytes.now v.parts) }
+        ensures lent { IfSome result (λ v. HasParts section v.bytes.now v.parts) }
     {
         view_of(&self.text, section, name)
     }

@@ -3,8 +3,8 @@
 ghost use Rattle.std.specs.Prelude.{◌≡◌, ◌≤◌, IfSome, IsOk, length};
 ghost use Rattle.std.specs.List.{slice_range};
 ghost use Rattle.def_grammar.specs.Records.{read_def};
-ghost use Rattle.def_reader.specs.EntryViews.{EntryIn, entry_view};
-ghost use Rattle.edit_session.specs.Sessions.{IsAlone, SaysAlone, StandsAt, Views};
+ghost use Rattle.def_reader.specs.EntryViews.{entry_view};
+ghost use Rattle.edit_session.specs.Sessions.{HasParts, IsAlone, SaysAlone, StandsAt, Views};
 
 use def_reader::entry::Entry;
 use def_reader::read_statement::read_statement;
@@ -48,7 +48,7 @@ fn part<'v>(text: &'v [u8], span: Span) -> &'v [u8]
 fn parts_of<'v>(section: Section, bytes: &'v [u8]) -> Entry<'v>
     requires { IsAlone section bytes.now }
     ensures says { SaysAlone section bytes.now (entry_view result) }
-    ensures lent { EntryIn bytes.now result }
+    ensures lent { HasParts section bytes.now result }
 {
     let Ok(Some(read)) = read_statement(Mode::In(section), bytes, 0) else {
         unreachable!()
@@ -64,7 +64,7 @@ fn parts_of<'v>(section: Section, bytes: &'v [u8]) -> Entry<'v>
 pub(crate) fn view_of<'v>(text: &'v [u8], section: Section, name: &[u8]) -> Option<View<'v>>
     requires { IsOk (read_def text.now) }
     ensures view { Views text.now section name.now result }
-    ensures lent { IfSome result (λ v. EntryIn v.bytes.now v.parts) }
+    ensures lent { IfSome result (λ v. HasParts section v.bytes.now v.parts) }
 {
     entries_stand_alone();
     let span = place_of(text, section, name)?;

@@ -1,5 +1,5 @@
 -- Parts of statements of the program as those of the definitions, and which tokens they are.
-use Rattle.std.specs.Prelude.{ℕ, Bool, true, false, List, Option, Some, None, IfSome, if◌then◌else◌}
+use Rattle.std.specs.Prelude.{ℕ, Bool, List, Option, Some, None, if◌then◌else◌}
 use Rattle.std.specs.Option.{option_map}
 use Rattle.form_meanings.specs.Words.{Rest}
 use Rattle.statement_model.specs.Form.{spell}

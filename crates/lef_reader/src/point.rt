@@ -2,7 +2,7 @@
 
 ghost use Rattle.std.specs.Prelude.{◌≡◌, codes, IfSome};
 ghost use Rattle.form_meanings.specs.Words.{Gives};
-ghost use Rattle.statement_model.specs.Form.{◌▸◌, ◌◂◌, ◌⨟◌, read, spell, word};
+ghost use Rattle.statement_model.specs.Form.{◌▸◌, ◌⨟◌, read, spell, word};
 ghost use Rattle.lef_grammar.specs.Extents.{corners, dec, is_kept_word, point, two_points};
 ghost use Rattle.lefdef_tokens.specs.Places.{behind, past};
 ghost use Rattle.lefdef_tokens.specs.Views.{IsLater, pieces_of, rest_of};

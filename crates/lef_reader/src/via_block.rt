@@ -6,7 +6,7 @@ ghost use Rattle.statement_model.specs.Form.{◌◂◌, ◌⨟◌, read};
 ghost use Rattle.std.specs.Prelude.{codes};
 ghost use Rattle.lef_grammar.specs.Extents.{array_count, dec, extent, name};
 ghost use Rattle.lef_grammar.specs.ViaBlock.{continues_via, ends_via, four_distances, is_via_cuts, is_via_metals, is_via_shape, is_via_word, stage_after, via_corners, via_cuts, via_ending, via_metals, via_shape, via_statement};
-ghost use Rattle.lefdef_tokens.specs.Views.{IsLater, pieces_of, rest_of, word_of};
+ghost use Rattle.lefdef_tokens.specs.Views.{IsLater, pieces_of, rest_of};
 ghost use Rattle.statement_reader.specs.Endings.{ending_view};
 ghost use Rattle.lef_reader.specs.Parts.{CornersAt, PairAt, corners_view, pair_view, with_rest};
 ghost use Rattle.lef_reader.specs.ViaViews.{CutsAt, FourAt, MetalsAt, ShapeAt, ThreeAt, ViaAt, cuts_view, four_view, metals_view, shape_view, stage_view, three_view, via_view};

@@ -9,6 +9,7 @@ pub mod Moving
 pub mod PlaceLemmas
 pub mod PlainWords
 pub mod RunLemmas
+pub mod RunPlaces
 pub mod ShortWords
 pub mod SkippingRows
 pub mod Standing

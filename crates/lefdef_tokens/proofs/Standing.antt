@@ -70,7 +70,7 @@ stands_step text from i (string start bytes last) lt fits later =
     (token_stands Quoted text from start (i + 1) (bytes ++ byte ∷ []) _ fits.0 (omega arith) (omega arith) more (later (i + 1) between (le_refl (i + 1))))
     (later from _ (fits.0, omega arith, more))
 
-stands : (text : List ℕ) (n i : ℕ) → i + n ≡ length text → Later text i
+pub stands : (text : List ℕ) (n i : ℕ) → i + n ≡ length text → Later text i
 stands text zero i e from s fits = subst (λ (l : Lexed). StandIn text from l.pieces) (sym (lex_end text i s (omega arith))) (stands_at_end text from i s (omega arith) fits)
 stands text (suc n) i e from s fits =
     let lt : i < length text = omega arith in

@@ -1,6 +1,7 @@
 pub mod Expected
 pub mod Laws
 pub mod Places
+pub mod RunLaws
 pub mod Runs
 pub mod Skipping
 pub mod TokenViews

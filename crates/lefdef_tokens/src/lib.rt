@@ -33,7 +33,7 @@ mod windows;
 mod words;
 
 pub use cursor::Cursor;
-pub use laws::{tokens_are_slices, tokens_join, tokens_move};
+pub use laws::{tokens_are_slices, tokens_join, tokens_move, tokens_of_runs};
 pub use part_end::PartEnd;
 pub use plain::skip_plain;
 pub use scanner::Scanner;

@@ -2,7 +2,7 @@
 use Rattle.std.proofs.Common.{◌≡◌, ℕ, Bool, false, List, [], ◌∷◌, ◌++◌, map, filter, append_assoc, refl, sym, ap, ◌∙◌}
 use Rattle.std.specs.List.{flat_map}
 use Rattle.shape_rules.specs.Meeting.{meets, pairs_of}
-use Rattle.design_rules.specs.Families.{pair_lines}
+use Rattle.design_model.specs.Families.{pair_lines}
 use Rattle.line_laws.specs.Lines.{times}
 use Rattle.line_laws.proofs.PairSums.{times-flat_map}
 use Rattle.shape_pairs.specs.PairLaws.{lines_of_pairs, boxes_meeting, MeetingPairsHaveTheLines, SamePairsHaveTheLines, PairsOfMapped}

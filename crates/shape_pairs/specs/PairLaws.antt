@@ -2,7 +2,7 @@
 use Rattle.std.specs.Prelude.{◌≡◌, ℕ, false, List, [], map, filter, flat_map}
 use Rattle.design_model.specs.Geometry.{Rectangle}
 use Rattle.shape_rules.specs.Meeting.{meets, pairs_of}
-use Rattle.design_rules.specs.Families.{pair_lines}
+use Rattle.design_model.specs.Families.{pair_lines}
 use Rattle.line_laws.specs.Lines.{SameLines, SameThings}
 
 module _ {A : Type 0} (box : A → Rectangle) where
