@@ -8,7 +8,7 @@ ghost use Rattle.def_grammar.specs.Records.{read_def};
 ghost use Rattle.design_rules.specs.Edits.{change_of};
 ghost use Rattle.design_rules.specs.Runs.{Answers, design_edit, text_edit};
 ghost use Rattle.report_lines.specs.Kinds.{HaveTheirKinds};
-ghost use Rattle.edit_session.specs.Sessions.{EditsText, KeepsTheRest, OpensAs, ReadsEdited, ReplacesText, Reports, Views};
+ghost use Rattle.edit_session.specs.Sessions.{EditsText, HasParts, KeepsTheRest, OpensAs, ReadsEdited, ReplacesText, Reports, Views};
 
 use crate::report::report;
 use crate::view::{View, view_of};
