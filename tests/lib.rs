@@ -10,6 +10,7 @@ mod heaps;
 mod lef_events;
 mod library_macros;
 mod meeting_pairs;
+mod part_places;
 mod piece_lines;
 mod pin_shapes;
 mod session_calls;
