@@ -430,3 +430,21 @@ END DESIGN
     assert_eq!(rt; sums_by(rt.alloc(), def)?, wanted);
     Ok(())
 }
+
+#[test]
+fn a_table_of_70000_vias(rt: HostRuntime) -> Result<(), Fail> {
+    let alloc = rt.alloc();
+    let mut def = Vec::new(alloc);
+    def.extend_from_slice(b"UNITS DISTANCE MICRONS 1000 ;\nVIAS 70000 ;\n")?;
+    for k in 0..70000 {
+        let via = format!(in alloc; "- v{k} + RECT met1 ( 0 0 ) ( {k} 1 ) ;\n")?;
+        def.extend_from_slice(via.as_bytes())?;
+    }
+    def.extend_from_slice(
+        b"END VIAS\nNETS 1 ;\n- n + ROUTED met1 ( 0 0 ) v69999 ;\nEND NETS\nEND DESIGN\n",
+    )?;
+    let lines = lines_by(alloc, b"", def.as_slice())?;
+    let wanted = b"n\nvia v69999 0 0 met1 0 0 69999 1\nstays v69999\n";
+    assert_eq!(rt; lines.as_slice(), wanted);
+    Ok(())
+}

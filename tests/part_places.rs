@@ -40,11 +40,11 @@ fn terminals_stand_in_turn(rt: HostRuntime) -> Result<(), Fail> {
         pins[count] = place_of(terminal.pin);
         count += 1;
     }
-    assert_eq!(count, 2);
-    assert_eq!(spans[0], Span { lo: 5, hi: 13 });
-    assert_eq!(spans[1], Span { lo: 14, hi: 22 });
-    assert_eq!(pins[0], (10, 11));
-    assert_eq!(pins[1], (19, 20));
+    assert_eq!(rt; count, 2);
+    assert_eq!(rt; spans[0], Span { lo: 5, hi: 13 });
+    assert_eq!(rt; spans[1], Span { lo: 14, hi: 22 });
+    assert_eq!(rt; pins[0], (10, 11));
+    assert_eq!(rt; pins[1], (19, 20));
     Ok(())
 }
 
@@ -53,8 +53,8 @@ fn name_and_macro_of_the_same_bytes(rt: HostRuntime) -> Result<(), Fail> {
     let Entry::Component(parts) = entry_of(Section::Components, b"- INV INV ;")? else {
         return Err(Fail::from("it is no component"));
     };
-    assert_eq!(place_of(parts.name), (2, 5));
-    assert_eq!(place_of(parts.cell), (6, 9));
+    assert_eq!(rt; place_of(parts.name), (2, 5));
+    assert_eq!(rt; place_of(parts.cell), (6, 9));
     Ok(())
 }
 
@@ -63,8 +63,8 @@ fn numbers_of_the_same_bytes(rt: HostRuntime) -> Result<(), Fail> {
     let mut events = LefEvents::new(b"MACRO m SIZE 1 BY 1 ; END m");
     while let Ok(Some(statement)) = events.next() {
         if let LefStatement::InMacro(MacroStatement::Size(width, height)) = statement {
-            assert_eq!(place_of(width), (13, 14));
-            assert_eq!(place_of(height), (18, 19));
+            assert_eq!(rt; place_of(width), (13, 14));
+            assert_eq!(rt; place_of(height), (18, 19));
             return Ok(());
         }
     }
