@@ -37,9 +37,12 @@ first_in text w s = (s.0, s.1 ++ kind_words w, s.2, subst (λ (ps : List Token).
 
 pub others_in : (text : List ℕ) (w : Wiring) → StandsIn WiringAt text w → StandsIn PartsAt text w.others
 others_in text w s =
-    let words = spell wire (wire_view w.first) in
-    (s.0, (s.1 ++ kind_words w) ++ words, s.2,
-    s.3.1 ∙ sym (behind_append (s.1 ++ kind_words w) words (pieces_of s.0) ∙ ap (behind words) (behind_append s.1 (kind_words w) (pieces_of s.0))))
+    let words = spell wire (wire_view w.first) in (
+      s.0,
+      (s.1 ++ kind_words w) ++ words,
+      s.2,
+      s.3.1 ∙ sym (behind_append (s.1 ++ kind_words w) words (pieces_of s.0) ∙ ap (behind words) (behind_append s.1 (kind_words w) (pieces_of s.0))),
+    )
 
 pub special_first_in : (text : List ℕ) (w : SpecialWires) → StandsIn SpecialWiresAt text w → StandsIn SpecialWireAt text w.first
 special_first_in text w s = (s.0, s.1, s.2, s.3.0)
