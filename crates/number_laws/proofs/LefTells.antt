@@ -1,10 +1,16 @@
 -- The statements of a LEF text: what they tell of their numbers, in each block.
-use Rattle.std.proofs.Common.{◌≡◌, ℕ, Bool, true, false, List, [], ◌∷◌, None, codes, refl}
+use Rattle.std.proofs.Common.{◌≡◌, ℕ, Bool, true, false, cond, List, [], ◌∷◌, None, Result, Ok, Err, codes, length, refl}
+use Rattle.std.specs.Prelude.{nat_lt}
 use Rattle.std.proofs.lemmas.List.Elements.{All-weaker}
+use Rattle.design_model.specs.declared.TheConstants.{MAX_TEXT}
+use Rattle.design_model.specs.declared.fault.Fault.{Fault}
+use Rattle.design_model.specs.declared.fault.FaultCode.TheVariants.{TooLong}
+use Rattle.statement_model.specs.Reading.{fault_at, read_text}
+use Rattle.statement_model.specs.Tokens.{Lexed, tokens}
 use Rattle.statement_model.specs.Form.{Fits, number, ◌◂◌, ◌⨟◌}
 use Rattle.lef_grammar.specs.Extents.{is_distance, is_extent, is_array_count, Point, enclosed, bare, point, Corners, masked, unmasked, two_points, corners, to_end, kept_statement, size_statement}
 use Rattle.lef_grammar.specs.LayerBlock.{LayerRecord, layer_width, layer_spacing, type_statement, width_statement, spacing_statement, layer_statement}
-use Rattle.lef_grammar.specs.LefRecords.{Block, LefRecord, outside, in_layer, in_site, in_via, in_rule, in_rule_layer, in_macro, in_pin, in_port, in_kept, lef_statement, lef}
+use Rattle.lef_grammar.specs.LefRecords.{Block, LefRecord, outside, in_layer, in_site, in_via, in_rule, in_rule_layer, in_macro, in_pin, in_port, in_kept, lef_statement, lef, read_lef, with_fault}
 use Rattle.lef_grammar.specs.LefRecords.Block.{outermost, layer, site, via, rule, rule_layer, macro, pin, port, kept}
 use Rattle.lef_grammar.specs.MacroBlock.{MacroRecord, end_macro, class, size, origin, macro_site, opens_pin, opens_obstruction, opens_density, kept_in_macro, class_statement, origin_statement, macro_site_statement, inner_header, macro_statement}
 use Rattle.lef_grammar.specs.PortBlock.{PortRecord, end_port, port_layer, port_array, masked_port_array, port_rect, rect_in_port, port_shape, kept_in_port, port_rect_statement, port_rect_where, port_statement}
@@ -287,5 +293,17 @@ no_lef_number_is_left_out b r p = record_good b r [] p
 good_tells : (r : LefRecord) → HasNoBadNumber lef r → LefRecordNumbers r
 good_tells r g = record_tells g.mode r [] g.fits g.good
 
+-- a text that reads has the records that its grammar gives
+no_fault : (l : Lexed) (r : Result (List LefRecord) Fault) (recs : List LefRecord) → with_fault l r ≡ Ok recs → r ≡ Ok recs
+no_fault l (Ok xs) recs e = e
+no_fault l (Err f) recs e = cc
+
+short : (is_long : Bool) (f : Fault) (r : Result (List LefRecord) Fault) (recs : List LefRecord) → cond is_long (Err f) r ≡ Ok recs → r ≡ Ok recs
+short true f r recs e = cc
+short false f r recs e = e
+
+reads : (text : List ℕ) (recs : List LefRecord) → read_lef text ≡ Ok recs → read_text lef outermost text ≡ Ok recs
+reads text recs e = no_fault (tokens text) (read_text lef outermost text) recs (short (nat_lt MAX_TEXT (length text)) (fault_at TooLong 0) _ recs e)
+
 pub lef_numbers_pass : LefNumbersPass
-lef_numbers_pass text recs e = All-weaker (HasNoBadNumber lef) LefRecordNumbers good_tells recs (no_number_is_bad lef outermost text recs e)
+lef_numbers_pass text recs e = All-weaker (HasNoBadNumber lef) LefRecordNumbers good_tells recs (no_number_is_bad lef outermost text recs (reads text recs e))
