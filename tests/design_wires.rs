@@ -444,7 +444,7 @@ fn a_table_of_70000_vias(rt: HostRuntime) -> Result<(), Fail> {
         b"END VIAS\nNETS 1 ;\n- n + ROUTED met1 ( 0 0 ) v69999 ;\nEND NETS\nEND DESIGN\n",
     )?;
     let lines = lines_by(alloc, b"", def.as_slice())?;
-    let wanted = b"n\nvia v69999 0 0 met1 0 0 69999 1\nstays v69999\n";
+    let wanted = b"n\nvia v69999 0 0 met1 0 0 69999 1\nstays v69999\n".as_slice();
     assert_eq!(rt; lines.as_slice(), wanted);
     Ok(())
 }

@@ -26,7 +26,7 @@ pub fn add_line(list: &mut Vec<u8>, alloc: Global, piece: Piece<'_>) -> Result<(
             list.extend_from_slice(b"rectangle")?;
             add_shape(list, alloc, shape)?;
         }
-        Piece::ViaShape { via, at, shape } => {
+        Piece::ViaShape { via, at, shape, .. } => {
             list.extend_from_slice(b"via ")?;
             list.extend_from_slice(via)?;
             let place = format!(in alloc; " {} {}", at.x, at.y)?;
