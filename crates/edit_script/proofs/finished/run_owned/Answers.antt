@@ -5,4 +5,4 @@ pub returns-clause-ok : goal.returns-clause-ok
 returns-clause-ok g c = ok_so _ _ c.finish_over.result (λ t h. (c.in-Ok.library, c.in-Ok.ensures, h)) c.finish_over.ensures.ok
 
 pub returns-clause-fault : goal.returns-clause-fault
-returns-clause-fault g c = err_so _ _ c.finish_over.result (λ e h. stops_by _ c.in-Ok.library _ _ _ _ _ _ e c.in-Ok.ensures h) c.finish_over.ensures.fault
+returns-clause-fault g c = err_so _ _ c.finish_over.result (λ e h. stops_by c.args.lefs.now c.in-Ok.library _ _ _ _ _ _ e c.in-Ok.ensures h) c.finish_over.ensures.fault
