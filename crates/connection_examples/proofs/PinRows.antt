@@ -41,3 +41,33 @@ turned_components : (turned (codes "FS") (codes "+ RECT met1 ( 600 1720 ) ( 600 
     × (turned (codes "W") (codes "+ RECT met1 ( 1520 600 ) ( 1520 600 ) + RECT met1 ( 1720 801 ) ( 1720 801 )") ≡ codes "short a c met1 1520 600 1520 600" ∷ codes "floating c 2" ∷ [])
 unfolding net_words
 turned_components = (refl, refl)
+
+-- a pin of the design with these clauses
+abbrev pin_with : List ℕ → List ℕ
+pin_with clauses = codes "PINS 1 ;\n- p" ++ clauses ++ codes " ;\nEND PINS\n"
+
+-- a port is turned about the pin's origin, and then moved there; so is a via in it, which stands at a point of the port
+abbrev beside : List ℕ → List ℕ → List (List ℕ)
+beside clauses rectangles = lines_in (pin_with clauses ++ codes "NETS 1 ;\n- a ;\nEND NETS\nSPECIALNETS 1 ;\n- c " ++ rectangles ++ codes " ;\nEND SPECIALNETS\n")
+
+turned_ports : (beside (codes " + NET a + LAYER met1 ( 0 0 ) ( 100 10 ) + PLACED ( 1000 1000 ) W") (codes "+ RECT met1 ( 990 1100 ) ( 990 1100 ) + RECT met1 ( 1001 1010 ) ( 1100 1010 )") ≡ codes "short a c met1 990 1100 990 1100" ∷ codes "floating c 2" ∷ [])
+    × (beside (codes " + NET a + VIA M1M2 ( 50 300 ) + PLACED ( 1000 0 ) W") (codes "+ RECT met1 ( 800 150 ) ( 800 150 )") ≡ codes "short a c met1 800 150 800 150" ∷ codes "floating c 1" ∷ [])
+unfolding net_words
+turned_ports = (refl, refl)
+
+-- a pin of the design counts where it has a shape, placed or not; one whose shapes connect nothing doesn't
+abbrev with_an_inverter : List ℕ → List (List ℕ)
+with_an_inverter clauses = lines_in (codes "COMPONENTS 1 ;\n- u1 INV + PLACED ( 0 0 ) N ;\nEND COMPONENTS\n" ++ pin_with clauses ++ codes "NETS 2 ;\n- a ( u1 Y ) ;\n- b ;\nEND NETS\n")
+
+pins_that_count : (with_an_inverter (codes " + NET a + LAYER met1 ( 0 0 ) ( 1 1 )") ≡ codes "unrouted a 2" ∷ [])
+    × (with_an_inverter (codes " + NET a + VIA M1M2 ( 0 0 )") ≡ codes "unrouted a 2" ∷ [])
+    × (with_an_inverter (codes " + NET a + LAYER nwell ( 0 0 ) ( 1 1 ) + PLACED ( 5000 0 ) N") ≡ [])
+    × (with_an_inverter (codes " + NET a + POLYGON met1 ( 0 0 ) ( 1 0 ) ( 1 1 ) + PLACED ( 5000 0 ) N") ≡ [])
+unfolding net_words
+pins_that_count = (refl, refl, refl, refl)
+
+-- a pin is of the net of its first NET alone, whatever port that stands in
+first_net_of_a_pin : (with_an_inverter (codes " + NET b + LAYER met1 ( 0 0 ) ( 1 1 ) + PLACED ( 5000 0 ) N + PORT + NET a") ≡ [])
+    × (with_an_inverter (codes " + LAYER met1 ( 0 0 ) ( 1 1 ) + PLACED ( 5000 0 ) N + PORT + NET a + NET b") ≡ codes "unrouted a 2" ∷ [])
+unfolding net_words
+first_net_of_a_pin = (refl, refl)

@@ -42,3 +42,23 @@ blockages_that_count = (refl, refl)
 pins_where_routing_is_blocked : lines_in (codes "COMPONENTS 1 ;\n- u1 INV + PLACED ( 0 0 ) N ;\nEND COMPONENTS\nBLOCKAGES 1 ;\n- LAYER met1 RECT ( 0 0 ) ( 900 3000 ) ;\nEND BLOCKAGES\nNETS 1 ;\n- n ( u1 Y ) ;\nEND NETS\n") ≡ []
 unfolding net_words
 pins_where_routing_is_blocked = refl
+
+-- any entry of a net makes it one of power, by its first USE
+power_of_another_entry : (lines_in (blocked [] [] ++ codes "NETS 1 ;\n- P + USE GROUND ;\nEND NETS\n") ≡ codes "floating P 1" ∷ [])
+    × (lines_in (codes "NETS 1 ;\n- P + USE POWER ;\nEND NETS\n" ++ blocked [] (codes " + USE SIGNAL")) ≡ codes "floating P 1" ∷ [])
+    × (lines_in (blocked [] [] ++ codes "NETS 1 ;\n- P + USE CLOCK + USE POWER ;\nEND NETS\n") ≡ codes "routeblock P met1 60 50 70 60" ∷ codes "floating P 1" ∷ [])
+    × (lines_in (blocked [] [] ++ codes "NETS 1 ;\n- Q + USE POWER ;\nEND NETS\n") ≡ codes "routeblock P met1 60 50 70 60" ∷ codes "floating P 1" ∷ [])
+unfolding net_words
+power_of_another_entry = (refl, refl, refl, refl)
+
+-- what lies on a layer of cuts touches as on one of routing; what lies on another layer is no part
+on_a_layer_of_cuts : lines_in (codes "SPECIALNETS 3 ;\n- a + RECT via1 ( 0 0 ) ( 10 10 ) + RECT via1 ( 10 0 ) ( 20 10 ) ;\n- b + RECT via1 ( 20 10 ) ( 30 30 ) ;\n- c + RECT nwell ( 0 0 ) ( 30 30 ) ;\nEND SPECIALNETS\n")
+    ≡ codes "short a b via1 20 10 20 10" ∷ codes "floating a 1" ∷ codes "floating b 1" ∷ []
+unfolding net_words
+on_a_layer_of_cuts = refl
+
+-- the points of vias by themselves are a row, in which a * repeats the coordinate of the point before
+vias_at_stars : lines_in (codes "SPECIALNETS 2 ;\n- a + VIA M1M2 ( 100 500 ) ( 900 * ) ( * 1500 ) ;\n- b + RECT met1 ( 1000 600 ) ( 1000 600 ) + RECT met2 ( 1000 1600 ) ( 1000 1600 ) ;\nEND SPECIALNETS\n")
+    ≡ codes "short a b met1 1000 600 1000 600" ∷ codes "short a b met2 1000 1600 1000 1600" ∷ codes "floating a 3" ∷ codes "floating b 2" ∷ []
+unfolding net_words
+vias_at_stars = refl
