@@ -43,10 +43,11 @@ pub record Barrier : Type 0 where
   pub box : Rectangle
   pub spares_power : Bool
 
-module _ (layers : List lef.Layer) where
+-- by a layer's name
+module _ (name_of : ℕ → List ℕ) where
   -- `short a b l x1 y1 x2 y2`, a before b: shapes of two nets touch; what they share
   abbrev pub short_line : List ℕ → List ℕ → ℕ → Rectangle → List ℕ
-  short_line a b layer box = line_text Short (lesser a b ∷ greater a b ∷ layer_name layers layer ∷ []) (corners_of box)
+  short_line a b layer box = line_text Short (lesser a b ∷ greater a b ∷ name_of layer ∷ []) (corners_of box)
 
   abbrev pub short_of : NetShape → NetShape → List (List ℕ)
   short_of a b =
@@ -60,7 +61,7 @@ module _ (layers : List lef.Layer) where
   -- `routeblock n l x1 y1 x2 y2`: what they share
   abbrev pub routeblock_of : NetShape → Barrier → List (List ℕ)
   routeblock_of s b =
-      if is_barred s b then line_text RouteBlock (s.net ∷ layer_name layers b.layer ∷ []) (corners_of (shared s.shape.box b.box)) ∷ []
+      if is_barred s b then line_text RouteBlock (s.net ∷ name_of b.layer ∷ []) (corners_of (shared s.shape.box b.box)) ∷ []
       else []
 
 -- a line that names a net and a number, where the number is greater than another
@@ -108,5 +109,5 @@ module _ (library : Library) (design : List Record) (u : ℕ) where
   -- the families of lines on nets: of all pairs of shapes, of each shape with each barrier, and of each net
   abbrev pub net_lines : List (List ℕ)
   net_lines =
-      pair_lines (short_of library.layers) net_shapes
-      ++ (cross_lines (routeblock_of library.layers) net_shapes barriers ++ flat_map class_lines (all_nets library design u))
+      pair_lines (short_of (layer_name library.layers)) net_shapes
+      ++ (cross_lines (routeblock_of (layer_name library.layers)) net_shapes barriers ++ flat_map class_lines (all_nets library design u))

@@ -1,6 +1,6 @@
 -- A run as the program ends it.
 use Rattle.std.specs.Prelude.{◌≡◌, ℕ, List, [], Some}
-use Rattle.design_rules.specs.Output.{Counts}
+use Rattle.report_rules.specs.Output.{Counts}
 use Rattle.edit_script.specs.declared.run.RunFault.{RunFault}
 use Rattle.edit_script.specs.Ends.{Known, RunsWhole, StopsBy}
 use Rattle.defedit_program.specs.Statuses.{whole_ends}

@@ -5,7 +5,7 @@ use Rattle.clap.specs.declared.error.kind.ErrorKind.{ErrorKind}
 use Rattle.clap.specs.declared.error.kind.ErrorKind.TheVariants.{OutOfMemory}
 use Rattle.counted_devices.specs.declared.input.InputError.{InputError}
 use Rattle.counted_devices.specs.declared.input.InputError.TheVariants as inputs
-use Rattle.design_rules.specs.Output.{Counts}
+use Rattle.report_rules.specs.Output.{Counts}
 use Rattle.edit_script.specs.declared.run.RunFault.{RunFault}
 use Rattle.edit_script.specs.declared.run.RunFault.TheVariants as faults
 use Rattle.defedit_program.specs.declared.outcome.Outcome.{Outcome}

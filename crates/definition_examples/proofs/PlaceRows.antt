@@ -8,7 +8,7 @@ use Rattle.lef_grammar.specs.Library.{Library, empty_library}
 use Rattle.place_rules.specs.Covering.{is_covered}
 use Rattle.place_rules.specs.Patterns.{matches}
 use Rattle.place_rules.specs.Sites.{holds, is_on_sites, spans}
-use Rattle.design_rules.specs.Diagnostics.{diagnostics}
+use Rattle.report_rules.specs.Diagnostics.{diagnostics}
 use Rattle.definition_examples.proofs.Computing.{def_texts}
 
 abbrev two_microns : Distance

@@ -9,7 +9,7 @@ use Rattle.design_model.specs.declared.mode.Section.TheVariants.{Components, Pin
 use Rattle.design_model.specs.EnumWords.{section_word}
 use Rattle.def_grammar.specs.Records.{Record, read_def}
 use Rattle.lef_grammar.specs.Library.{empty_library}
-use Rattle.design_rules.specs.Output.{answer_to, asked_line, asked_counts, no_lines}
+use Rattle.report_rules.specs.Output.{answer_to, asked_line, asked_counts, no_lines}
 use Rattle.design_rules.specs.Script.{shown, bad, ask, order_of, script_lines}
 use Rattle.definition_examples.proofs.Computing.{def_texts}
 use Rattle.definition_examples.proofs.DefRows.{units_line}

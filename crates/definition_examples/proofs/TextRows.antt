@@ -18,7 +18,7 @@ use Rattle.def_grammar.specs.Top.{units, header, end_design}
 use Rattle.def_grammar.specs.Records.{Record, top, end_section, entry, component, read_def}
 use Rattle.lef_grammar.specs.Library.{Library, empty_library}
 use Rattle.design_rules.specs.Boxes.{Boxed}
-use Rattle.design_rules.specs.Diagnostics.{diagnostics}
+use Rattle.report_rules.specs.Diagnostics.{diagnostics}
 use Rattle.design_rules.specs.Edits.{place}
 use Rattle.design_model.specs.Families.{pair_lines}
 use Rattle.design_rules.specs.OverlapLines.{overlap_of}

@@ -1,9 +1,7 @@
 pub mod Boxes
 pub mod ComponentEdits
 pub mod CountLines
-pub mod Diagnostics
 pub mod Edits
-pub mod Output
 pub mod OverlapLines
 pub mod PlaceLines
 pub mod Plans

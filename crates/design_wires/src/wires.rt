@@ -80,7 +80,7 @@ impl<'a, 'l: 'a, 'r: 'a, 't: 'a, A: Allocator + Copy> DesignWires<'a, 'l, 'r, 't
     }
 
     /// The shapes of a via about its origin; none where it isn't known.
-    pub(crate) fn via_shapes(&self, via: &[u8]) -> KnownShapes<'_, 'a>
+    pub fn via_shapes(&self, via: &[u8]) -> KnownShapes<'_, 'a>
         ensures { known_left result ≡ via_shapes self.now.library self.now.design (scale self.now.design) via.now }
     {
         let Some(known) = self.vias.get(via) else {

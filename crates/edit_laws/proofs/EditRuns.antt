@@ -11,7 +11,7 @@ use Rattle.lef_grammar.specs.Library.{Library}
 use Rattle.design_rules.specs.Edits.{applied, is_long}
 use Rattle.design_rules.specs.Runs.{Step, design_edit, text_edit, Answers, Run, in_range, if_it_reads, new_text}
 use Rattle.design_rules.specs.Script.{Order, nothing, make, refuse, ask, bad, order_of}
-use Rattle.design_rules.specs.Output.{Counts, LineAnswers}
+use Rattle.report_rules.specs.Output.{Counts, LineAnswers}
 use Rattle.edit_laws.specs.EditLaws.{EditsAreApplied}
 use Rattle.edit_laws.specs.RunningLaws.{asked, edits_of, OutputsAreRuns, RunsKeepReading}
 

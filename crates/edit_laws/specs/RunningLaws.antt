@@ -6,7 +6,7 @@ use Rattle.def_grammar.specs.Records.{read_def}
 use Rattle.lef_grammar.specs.Library.{Library}
 use Rattle.design_rules.specs.Runs.{Step, Run}
 use Rattle.design_rules.specs.Script.{Order, nothing, make, refuse, ask, bad, order_of}
-use Rattle.design_rules.specs.Output.{Counts, Output}
+use Rattle.report_rules.specs.Output.{Counts, Output}
 
 -- the edit that a line asks for
 abbrev pub asked : Order → List Step

@@ -6,7 +6,7 @@ use Rattle.std.proofs.KnownBytes.{Appends-nil}
 use Rattle.lef_grammar.specs.Library.{Library, library_of}
 use Rattle.def_grammar.specs.Records.{read_def}
 use Rattle.design_rules.specs.Script.{script_lines}
-use Rattle.design_rules.specs.Output.{Counts}
+use Rattle.report_rules.specs.Output.{Counts}
 use Rattle.edit_script.specs.declared.run.RunFault.{RunFault}
 use Rattle.edit_script.specs.declared.run.RunFault.TheVariants as faults
 use Rattle.edit_script.specs.Ends.{Known, WritesNothing, WritesRun, WritesRunPart, AnswersCut, StopsBy, StopsOver, StopsUnread}

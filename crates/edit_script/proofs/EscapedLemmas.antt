@@ -5,7 +5,7 @@ use Rattle.design_model.specs.declared.edit.Done.{Done}
 use Rattle.design_model.specs.declared.edit.EditRefusal.{EditRefusal}
 use Rattle.lef_grammar.specs.Library.{Library}
 use Rattle.design_rules.specs.Script.{Order, unescaped}
-use Rattle.design_rules.specs.Output.{Counts, LineAnswers, counted, reply_line}
+use Rattle.report_rules.specs.Output.{Counts, LineAnswers, counted, reply_line}
 use Rattle.script_lines.specs.Escapes.{SpellsSome}
 use Rattle.script_lines.specs.Orders.{text_seen}
 use Rattle.edit_script.specs.Answered.{AnswersText}

@@ -21,7 +21,7 @@ use Rattle.def_grammar.specs.Records.{Record}
 use Rattle.def_grammar.specs.Records.{read_def}
 use Rattle.design_rules.specs.Runs.{Step, design_edit, text_edit, Answers, Makes, new_text}
 use Rattle.design_rules.specs.Script.{Order, nothing, make, refuse, ask, bad, order_of, trimmed_lines, script_lines}
-use Rattle.design_rules.specs.Output.{Counts, LineAnswers, Output, reply_line, refusal_line, counted, answer_to, asked_counts, asked_line, bad_line, no_lines}
+use Rattle.report_rules.specs.Output.{Counts, LineAnswers, Output, reply_line, refusal_line, counted, answer_to, asked_counts, asked_line, bad_line, no_lines}
 use Rattle.edit_script.specs.Ends.{WritesRun, WritesRunPart}
 
 abbrev Lines : Type 0

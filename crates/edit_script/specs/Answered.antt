@@ -4,7 +4,7 @@ use Rattle.design_model.specs.declared.edit.Done.{Done}
 use Rattle.design_model.specs.declared.edit.EditRefusal.{EditRefusal}
 use Rattle.design_rules.specs.Runs.{Answers, text_edit}
 use Rattle.lef_grammar.specs.Library.{Library}
-use Rattle.design_rules.specs.Output.{Counts}
+use Rattle.report_rules.specs.Output.{Counts}
 use Rattle.edit_script.specs.declared.run.Tally.{Tally}
 
 abbrev pub counts_of : Tally → Counts

@@ -5,7 +5,7 @@ use Rattle.std.specs.Io.KnownBytes.{Appends}
 use Rattle.counted_devices.specs.Counting.{one_more}
 use Rattle.lef_grammar.specs.Library.{Library, library_of}
 use Rattle.def_grammar.specs.Records.{read_def}
-use Rattle.design_rules.specs.Output.{Counts, Output, IsRun, no_lines}
+use Rattle.report_rules.specs.Output.{Counts, Output, IsRun, no_lines}
 use Rattle.edit_script.specs.declared.run.RunFault.{RunFault}
 use Rattle.edit_script.specs.declared.run.RunFault.TheVariants.{Lef, Def, Memory, Read, Write, TooLong, Endless}
 use Rattle.edit_script.specs.declared.run.Stop.{Stop}

@@ -2,7 +2,7 @@
 
 ghost use Rattle.std.specs.Prelude.{◌≡◌, ◌+◌, ◌<◌, ◌≤◌, ◌^◌, ◌⊎◌, IfErr, IfOk, IsErrOf, IsOk, OnErr, length};
 ghost use Rattle.counted_devices.specs.Counting.{HasFailed};
-ghost use Rattle.design_rules.specs.Output.{LineAnswers, counted, reply_line};
+ghost use Rattle.report_rules.specs.Output.{LineAnswers, counted, reply_line};
 ghost use Rattle.design_rules.specs.Script.{ask, order_of, script_lines, unescaped};
 ghost use Rattle.def_grammar.specs.Records.{read_def};
 ghost use Rattle.edit_script.specs.Answered.{AnswersText, Grows, HasRoom, RefusesText, counts_of};

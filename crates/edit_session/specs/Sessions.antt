@@ -15,7 +15,7 @@ use Rattle.statement_model.specs.Reading.{pos_of, read_at}
 use Rattle.statement_model.specs.Tokens.{Token, Lexed, left_from}
 use Rattle.def_grammar.specs.Records.{Entry, Record, def, entry, read_def}
 use Rattle.lef_grammar.specs.Library.{Library}
-use Rattle.design_rules.specs.Diagnostics.{diagnostics}
+use Rattle.report_rules.specs.Diagnostics.{diagnostics}
 use Rattle.design_rules.specs.Edits.{Change, applied, is_long}
 use Rattle.def_grammar.specs.Located.{located, bytes_of, entry_at}
 use Rattle.design_rules.specs.Runs.{Makes, WantsMemory, new_text, text_outcome}

@@ -4,7 +4,7 @@ ghost use Rattle.std.specs.Prelude.{◌≡◌, ◌++◌, ◌<◌, ◌≤◌, IfO
 ghost use Rattle.def_grammar.specs.Records.{read_def};
 ghost use Rattle.def_reader.specs.StatementViews.{record_view};
 ghost use Rattle.design_rules.specs.Boxes.{scale};
-ghost use Rattle.design_rules.specs.Diagnostics.{statement_lines};
+ghost use Rattle.report_rules.specs.Diagnostics.{statement_lines};
 ghost use Rattle.design_rules.specs.OverlapLines.{overlap_lines};
 ghost use Rattle.design_rules.specs.PlaceLines.{place_lines};
 ghost use Rattle.line_laws.specs.Lines.{SameLines};

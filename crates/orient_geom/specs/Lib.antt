@@ -1,3 +1,4 @@
 pub mod Covering
 pub mod Laws
+pub mod Meeting
 pub mod Strips

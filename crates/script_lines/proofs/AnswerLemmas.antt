@@ -4,7 +4,7 @@ use Rattle.std.specs.Prelude.{codes}
 use Rattle.std.proofs.lemmas.List.{length-map, drop_all}
 use Rattle.design_model.specs.declared.diagnostic.DiagLine.{DiagLine}
 use Rattle.design_model.specs.Order.{texts}
-use Rattle.design_rules.specs.Output.{report_lines}
+use Rattle.report_rules.specs.Output.{report_lines}
 
 abbrev ended : List ℕ → List ℕ
 ended l = l ++ 10 ∷ []

@@ -2,7 +2,7 @@
 
 ghost use Rattle.std.specs.Prelude.{◌≡◌, ◌++◌, ◌∷◌, [], IfOk, OnOk, decimal};
 ghost use Rattle.design_model.specs.Order.{texts};
-ghost use Rattle.design_rules.specs.Output.{bad_line, refusal_line, reply_line, report_lines};
+ghost use Rattle.report_rules.specs.Output.{bad_line, refusal_line, reply_line, report_lines};
 
 use design_model::diagnostic::DiagLines;
 use design_model::edit::{Done, EditRefusal};

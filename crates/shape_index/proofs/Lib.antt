@@ -1,4 +1,3 @@
-pub mod SharedPoints
 pub mod SlabEntries
 pub mod MetSteps
 pub mod Pushed

@@ -16,7 +16,7 @@ use Rattle.shape_index.specs.declared.tile.Step.TheVariants.{From, End}
 use Rattle.shape_index.specs.Shapes.{is_met}
 use Rattle.shape_index.specs.Tiles.{key, is_near, is_within, near_count, offset, size_of, side}
 use Rattle.shape_index.specs.TileOrder.{Before, AreInOrder, IsNear, Leads}
-use Rattle.shape_index.proofs.SharedPoints.{bounds}
+use Rattle.orient_geom.proofs.SharedPoints.{bounds}
 use Rattle.shape_index.proofs.TileSizes.{offset_rises, offset_below, least_some, lower, ends_next}
 
 abbrev Entry : Type 0

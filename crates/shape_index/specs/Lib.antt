@@ -1,4 +1,3 @@
-pub mod Laws
 pub mod Pushing
 pub mod Shapes
 pub mod TileLaws

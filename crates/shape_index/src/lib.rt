@@ -1,20 +1,18 @@
-//! Sets of shapes that are searched by layer and rectangle, and rectangles that meet.
+//! Sets of shapes that are searched by layer and rectangle.
 //!
 //! Begin with `TiledShapes::new`, a set that is searched by tiles, or `PlainShapes::new`, one that is searched from end to end;
 //! both are a `ShapeSet`. Make room by `reserve`; `insert_reserved` then takes no memory and picks a number, and `remove` gives
 //! the shape under a number back and keeps its room. `met_of` lists the shapes on a layer that meet a rectangle, and `for_met`
-//! folds over them. `meets` says whether two rectangles share a point, where touching is enough, and `common` what they share.
+//! folds over them. Rectangles meet that share a point (`orient_geom::meets`), where touching is enough.
 //!
 //! What a set holds is `Shapes` of `specs/Shapes`, what a search finds `met_by` there, and how many shapes it compares
-//! `near_count` of `specs/Tiles`, or all. `meets` and `common` are those of `shape_rules/specs/Meeting`. The laws of `specs/Laws`
-//! and `specs/TileLaws` say what these mean.
+//! `near_count` of `specs/Tiles`, or all. The laws of `specs/TileLaws` say what tiles mean.
 //!
 //! Shapes and rectangles are copied, and nothing is lent but to the closure of `for_met`. Coordinates are in database units, any
 //! that 64 bits hold. Want of memory is `AllocError`, of `reserve` and of `met_of`, and leaves the shapes as they were.
 #![tactic(auto)]
 
 mod laws;
-mod meeting;
 mod met;
 mod plain;
 mod shape;
@@ -22,11 +20,7 @@ mod tile;
 mod tile_order;
 mod tiled;
 
-pub use laws::{
-    common_has_shared_points, common_is_symmetric, meeting_is_symmetric, met_is_near,
-    none_is_apart, sizes_are_least, tiles_are_floors,
-};
-pub use meeting::{common, meets};
+pub use laws::{met_is_near, sizes_are_least, tiles_are_floors};
 pub use met::met_of;
 pub use plain::PlainShapes;
 pub use shape::{Shape, ShapeSet};

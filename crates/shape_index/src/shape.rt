@@ -5,9 +5,9 @@ ghost use Rattle.std.specs.List.{FoldsTo};
 ghost use Rattle.line_laws.specs.Lines.{SameThings};
 ghost use Rattle.shape_index.specs.Shapes.{Shapes, at, is_met, met_by};
 
-use crate::meeting::meets;
 use design_model::geometry::Rect;
 use design_model::identifier::{LayerId, ShapeId};
+use orient_geom::meets;
 use std::alloc::AllocError;
 
 /// A rectangle on a layer, in database units, with a number of the caller's.

@@ -3,7 +3,8 @@
 ghost use Rattle.std.specs.Prelude.{filter, map};
 ghost use Rattle.shape_pairs.specs.Pairs.{CallsLead, is_meeting, meeting_pairs, one_if};
 
-use crate::pairs::{Numbered, meets};
+use crate::pairs::Numbered;
+use orient_geom::meets;
 
 /// Calls `f` at the numbers of two rectangles, if they are to be told.
 pub(crate) fn tell_if<B, F: Fn(B, usize, usize) -> B>(
@@ -32,7 +33,7 @@ fn for_pairs_with<B, F: Fn(B, usize, usize) -> B>(
     let mut acc = acc;
     let mut rest = others;
     while let Some((other, later)) = rest.split_first() {
-        acc = tell_if(meets(&first.rect, &other.rect), first, other, acc, f);
+        acc = tell_if(meets(first.rect, other.rect), first, other, acc, f);
         rest = later;
     }
     acc

@@ -1,10 +1,7 @@
 //! The pairs of a list that meet.
 
-ghost use Rattle.std.specs.Prelude.{◌≡◌, ◌&&◌, IfOk};
-ghost use Rattle.std.specs.Int.Signed.{le_z};
-ghost use Rattle.design_model.specs.Views.{rectangle_of};
+ghost use Rattle.std.specs.Prelude.{IfOk};
 ghost use Rattle.shape_pairs.specs.Pairs.{LeadsOverMeetingPairs};
-ghost use Rattle.shape_rules.specs.Meeting.{meets};
 
 use crate::direct::for_pairs_directly;
 use crate::entries::entries_in_order;
@@ -21,27 +18,6 @@ const FEW: usize = 64;
 pub struct Numbered {
     pub rect: Rect,
     pub id: usize,
-}
-
-/// Whether two closed rectangles have an x coordinate in common.
-fn meet_across(a: &Rect, b: &Rect) -> bool
-    ensures { result ≡ (le_z a.now.x1 b.now.x2 && le_z b.now.x1 a.now.x2) }
-{
-    a.x1 <= b.x2 && b.x1 <= a.x2
-}
-
-/// Whether they have a y coordinate in common.
-fn meet_upwards(a: &Rect, b: &Rect) -> bool
-    ensures { result ≡ (le_z a.now.y1 b.now.y2 && le_z b.now.y1 a.now.y2) }
-{
-    a.y1 <= b.y2 && b.y1 <= a.y2
-}
-
-/// Whether they share a point.
-pub(crate) fn meets(a: &Rect, b: &Rect) -> bool
-    ensures { result ≡ meets (rectangle_of a.now) (rectangle_of b.now) }
-{
-    meet_across(a, b) && meet_upwards(a, b)
 }
 
 /// Folds `f` over the pairs of rectangles that meet, bin by bin of a grid.

@@ -9,13 +9,14 @@ ghost use Rattle.shape_pairs.specs.declared.pairs.Numbered.{Numbered};
 use crate::direct::tell_if;
 use crate::entries::{Entry, item_at};
 use crate::grid::Grid;
-use crate::pairs::{Numbered, meets};
+use crate::pairs::Numbered;
+use orient_geom::meets;
 
 /// Whether two rectangles meet and are at home in a bin.
 fn meet_at_home(grid: &Grid, bin: usize, a: &Numbered, b: &Numbered) -> bool
     ensures { result ≡ meet_at_home grid.now bin a.now b.now }
 {
-    meets(&a.rect, &b.rect) && grid.home(&a.rect, &b.rect) == bin
+    meets(a.rect, b.rect) && grid.home(&a.rect, &b.rect) == bin
 }
 
 /// Folds `f` over the pairs that the rectangle of an entry has with those of later ones of its bin.

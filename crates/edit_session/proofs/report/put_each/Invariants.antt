@@ -1,6 +1,6 @@
 use Rattle.std.proofs.Common.{◌≡◌, ◌++◌, drop, flat_map, map}
 use Rattle.def_reader.specs.StatementViews.{record_view}
-use Rattle.design_rules.specs.Diagnostics.{statement_lines}
+use Rattle.report_rules.specs.Diagnostics.{statement_lines}
 use Rattle.edit_session.proofs.report.put_each.Given as goal
 
 abbrev pub invariant-loop-statement : goal.invariant-loop-statement

@@ -1,7 +1,7 @@
 use Rattle.std.proofs.Common.{◌∙◌, flat_map, map}
 use Rattle.def_reader.specs.StatementViews.{record_view}
 use Rattle.design_rules.specs.CountLines.{count_lines}
-use Rattle.design_rules.specs.Diagnostics.{statement_lines}
+use Rattle.report_rules.specs.Diagnostics.{statement_lines}
 use Rattle.design_rules.specs.OverlapLines.{overlap_lines}
 use Rattle.design_rules.specs.PlaceLines.{place_lines}
 use Rattle.entry_rules.specs.Unchecked.{unchecked_in_library}

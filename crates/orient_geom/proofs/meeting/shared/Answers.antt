@@ -2,8 +2,8 @@ use Rattle.std.proofs.Common.{arith, ap}
 use Rattle.std.proofs.lemmas.Int.{ints}
 use Rattle.design_model.specs.declared.geometry.Point.{Point}
 use Rattle.design_model.specs.Views.{rectangle_of}
-use Rattle.shape_index.proofs.SharedPoints.{bounds, shared_in_order}
-use Rattle.shape_index.proofs.meeting.shared.Goals as goal
+use Rattle.orient_geom.proofs.SharedPoints.{bounds, shared_in_order}
+use Rattle.orient_geom.proofs.meeting.shared.Goals as goal
 
 pub invariant_of-result : goal.invariant_of-result
 invariant_of-result c =

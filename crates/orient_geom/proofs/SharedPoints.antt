@@ -7,7 +7,7 @@ use Rattle.std.proofs.lemmas.Int.{ints, clamps}
 use Rattle.std.proofs.lemmas.Bool.{and_parts, and_from}
 use Rattle.design_model.specs.Geometry.{Rectangle}
 use Rattle.shape_rules.specs.Meeting.{meets, shared}
-use Rattle.shape_index.specs.Laws.{HasPoint, IsOrdered, MeetingIsSymmetric, CommonIsSymmetric, CommonHasSharedPoints, NoneIsApart}
+use Rattle.orient_geom.specs.Meeting.{HasPoint, IsOrdered, MeetingIsSymmetric, CommonIsSymmetric, CommonHasSharedPoints, NoneIsApart}
 
 max_comm : (a b : ℤ) → int_max a b ≡ int_max b a
 max_comm a b = omega (arith, ints, clamps)

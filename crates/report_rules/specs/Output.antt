@@ -9,7 +9,7 @@ use Rattle.design_model.specs.Codes.{fault_number, refusal_number}
 use Rattle.statement_model.specs.Tokens.{Token}
 use Rattle.def_grammar.specs.Records.{Record, read_def}
 use Rattle.lef_grammar.specs.Library.{Library}
-use Rattle.design_rules.specs.Diagnostics.{diagnostics}
+use Rattle.report_rules.specs.Diagnostics.{diagnostics}
 use Rattle.def_grammar.specs.Located.{located, bytes_of, entry_at}
 use Rattle.design_rules.specs.Runs.{Answers}
 use Rattle.design_rules.specs.Script.{Question, report, shown, Order, nothing, make, refuse, ask, bad, script_lines, order_of}

@@ -1,5 +1,0 @@
-use Rattle.shape_index.proofs.SharedPoints.{common_has_shared_points}
-use Rattle.shape_index.proofs.laws.common_has_shared_points.Goals as goal
-
-pub returns : goal.returns
-returns c = common_has_shared_points
