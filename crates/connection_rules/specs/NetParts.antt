@@ -84,11 +84,16 @@ pin_part p = record { is_pin = true; shapes = p.shapes }
 abbrev pub has_shapes : Part → Bool
 has_shapes p = is_some_shape p.shapes
 
--- the parts of a net by its entries: its pins that count, and what is drawn on layers of TYPE ROUTING or CUT
+-- the pins of a net that count, by its entries, and what these draw on layers of TYPE ROUTING or CUT
+abbrev pub pin_parts : PinsByName → List ℕ → List Wired → List Part
+pin_parts pins name ws = map pin_part (filter (λ (p : NetPin). p.counts) (net_pins pins name (flat_map (λ (w : Wired). w.terminals) ws)))
+
+abbrev pub drawn_parts : List lef.Layer → List Wired → List Part
+drawn_parts layers ws = filter has_shapes (map (drawn_part layers) (flat_map (λ (w : Wired). drawn w.pieces) ws))
+
+-- the parts of a net by its entries
 abbrev pub parts_of : List lef.Layer → PinsByName → List ℕ → List Wired → List Part
-parts_of layers pins name ws =
-    map pin_part (filter (λ (p : NetPin). p.counts) (net_pins pins name (flat_map (λ (w : Wired). w.terminals) ws)))
-    ++ filter has_shapes (map (drawn_part layers) (flat_map (λ (w : Wired). drawn w.pieces) ws))
+parts_of layers pins name ws = pin_parts pins name ws ++ drawn_parts layers ws
 
 abbrev pub net_of : List lef.Layer → PinsByName → List ℕ → List Wired → Net
 net_of layers pins name ws = record { name = name; is_power = list_any (λ (w : Wired). w.is_power) ws; parts = parts_of layers pins name ws }
