@@ -70,3 +70,38 @@ kept_out : (lines_of kept_free (codes "( 6 0 ) N") ≡ Some (codes "blocked c 6 
     × (lines_of kept_free (codes "( 6 2 ) S") ≡ Some (codes "unknown LAYER l BLOCKAGES -" ∷ []))
 unfolding def_texts is_covered holds spans is_on_sites
 kept_out = (refl, refl)
+
+-- of two regions that a component names, its box is of the first; of two rows that lie over one another, one that is right is enough;
+-- and a row of any of a macro's sites holds it
+abbrev two_fences : List ℕ
+two_fences = codes "REGIONS 2 ;\n- F ( 0 0 ) ( 2 2 ) + TYPE FENCE ;\n- G ( 4 0 ) ( 6 2 ) + TYPE FENCE ;\nEND REGIONS\n"
+
+first_region : (lines_of two_fences (codes "( 0 0 ) N + REGION F + REGION G") ≡ Some [])
+    × (lines_of two_fences (codes "( 4 0 ) N + REGION F + REGION G") ≡ Some (codes "fence c F" ∷ codes "intruder c G" ∷ []))
+unfolding def_texts is_covered holds spans is_on_sites
+first_region = (refl, refl)
+
+abbrev row_over : List ℕ → List ℕ
+row_over row = codes "ROW o s " ++ (row ++ codes " ;\n")
+
+in_two_rows : (lines_of (row_over (codes "1 0 S DO 3 BY 1 STEP 2 0")) (codes "( 3 0 ) S") ≡ Some [])
+    × (lines_of (row_over (codes "1 0 N DO 3 BY 1 STEP 2 0")) (codes "( 3 0 ) S") ≡ Some (codes "flip c" ∷ []))
+    × (lines_of (row_over (codes "0 0 S DO 4 BY 1 STEP 2 0")) (codes "( 4 0 ) S") ≡ Some [])
+    × (lines_of (row_over (codes "0 0 S DO 4 BY 1 STEP 2 0")) (codes "( 4 0 ) N") ≡ Some [])
+    × (lines_of (row_over (codes "0 0 S DO 4 BY 1 STEP 2 0")) (codes "( 3 0 ) S") ≡ Some (codes "offsite c" ∷ []))
+unfolding def_texts is_covered holds spans is_on_sites
+in_two_rows = (refl, refl, refl, refl, refl)
+
+-- the same library, whose macro stands in rows of another site too, which comes first
+abbrev library_of_two_sites : Library
+library_of_two_sites = record square_library {
+  macros = record { name = codes "M"; class = Some (codes "CORE"); size = Some (two_microns, two_microns); origin = None; sites = codes "t" ∷ codes "s" ∷ []; pins = [] } ∷ [];
+}
+
+abbrev two_site_lines_if : Result (List Record) Fault → Option (List (List ℕ))
+two_site_lines_if (Ok design) = Some (diagnostics library_of_two_sites design)
+two_site_lines_if (Err fault) = None
+
+second_site : (two_site_lines_if (read_def (standing [] (codes "( 4 0 ) N"))) ≡ Some []) × (two_site_lines_if (read_def (standing [] (codes "( 4 1 ) N"))) ≡ Some (codes "offrow c" ∷ []))
+unfolding def_texts is_covered holds spans is_on_sites
+second_site = (refl, refl)
