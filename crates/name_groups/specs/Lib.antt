@@ -1,0 +1,3 @@
+pub mod GroupViews
+pub mod Groups
+pub mod Laws
