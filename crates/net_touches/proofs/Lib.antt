@@ -1,0 +1,6 @@
+pub mod BoolLemmas
+pub mod LineLemmas
+pub mod PairLemmas
+pub mod MeetingLemmas
+pub mod NameLemmas
+pub mod StepLemmas

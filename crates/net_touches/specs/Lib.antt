@@ -1,0 +1,5 @@
+pub mod Barriers
+pub mod Laws
+pub mod ShapeViews
+pub mod ThingViews
+pub mod Things
