@@ -1,0 +1,9 @@
+pub mod Joins
+pub mod PartOrder
+pub mod Parted
+pub mod PieceLemmas
+pub mod Runs
+pub mod ShortLemmas
+pub mod ShortSums
+pub mod Steps
+pub mod Sums
