@@ -3,7 +3,7 @@
 //!
 //! Begin with `boxes::boxes_of`, the components that take part, and `sweep::sort_boxes`, which puts them into the order of a sweep
 //! from below. Then `overlap::overlaps_of` puts a line for each pair of them that share area, `blocked::blocked_of` one for
-//! each that lies on a rectangle of `keep_outs::keep_outs_of`, and `place_lines::lines_of` those on rows, the die and fences:
+//! each that lies on a rectangle of `keep_outs::keep_outs_of`, whose rectangles are those of `blocked_shapes`, and `place_lines::lines_of` those on rows, the die and fences:
 //! `rows` looks rows up by their lower edge (`row_index`), and `fences` the groups of a component by its name
 //! (`assignment_table`), passing over fences whose hull is apart from its box (`hull`). `count::counts_of` puts a line for each
 //! section whose header says another number. Who follows a change asks for the lines of one component in what
@@ -20,6 +20,7 @@
 pub mod assigned;
 pub mod assignment_table;
 pub mod blocked;
+pub mod blocked_shapes;
 pub mod boxes;
 mod corners;
 pub mod count;

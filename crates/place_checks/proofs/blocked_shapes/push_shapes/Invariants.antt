@@ -3,7 +3,7 @@ use Rattle.std.specs.List.{filter_map}
 use Rattle.design_model.specs.Views.{rectangle_of}
 use Rattle.place_parts.specs.BlockageViews.{blockage_shapes_of}
 use Rattle.entry_rules.specs.Blocked.{rectangle_of_shape}
-use Rattle.place_checks.proofs.keep_outs.push_shapes.Given as goal
+use Rattle.place_checks.proofs.blocked_shapes.push_shapes.Given as goal
 
 abbrev pub invariant-loop-shape : goal.invariant-loop-shape
 invariant-loop-shape g l =
