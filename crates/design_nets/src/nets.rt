@@ -1,0 +1,62 @@
+//! The nets of a design.
+
+ghost use Rattle.std.specs.Prelude.{◌≡◌, ◌++◌, ◌∷◌, ◌<◌, ◌≤◌, [], IfOk, OnOk, map};
+ghost use Rattle.std.specs.List.{filter_map};
+ghost use Rattle.design_rules.specs.Boxes.{scale};
+ghost use Rattle.net_entries.specs.NetEntries.{entry_lent};
+ghost use Rattle.connection_rules.specs.NetParts.{all_nets, net_of, wired_of};
+ghost use Rattle.connection_rules.specs.Terminals.{pins_by_name};
+
+use cell_library::library::Library;
+use design_names::names::Names;
+use design_wires::wires::DesignWires;
+use drawn_parts::put_drawn;
+use net_entries::{LentEntry, entries_by_net, is_power};
+use net_lists::{NetList, building_a_net};
+use net_pins::Pins;
+use std::alloc::{AllocError, Allocator};
+
+/// Puts the net of a name and of its entries behind the others.
+fn put_net<'v, 'a, 'l: 'a, 'r: 'a, 't: 'a, A: Allocator + Copy>(
+    alloc: A,
+    pins: &Pins<'v, 'a, 'l, 'r, 't, A>,
+    library: &Library<'_, A>,
+    wires: &DesignWires<'a, 'l, 'r, 't, A>,
+    name: &'t [u8],
+    entries: &[LentEntry<'_, 't>],
+    nets: &mut NetList<'t, A>,
+) -> Result<(), AllocError>
+    requires library { library.now ≡ wires.now.library }
+    requires pins { pins.now ≡ wires.now }
+    ensures { let design = wires.now.design in let u = scale design in
+        OnOk result (nets.new ≡ nets.old ++ net_of library.now.layers (pins_by_name library.now design u) name.now (filter_map (wired_of library.now design u) (map entry_lent entries.now)) ∷ []) }
+{
+    building_a_net();
+    nets.begin_net(name, is_power(entries))?;
+    pins.put_pins(alloc, name, entries, nets)?;
+    put_drawn(library, wires, entries, nets)?;
+    Ok(())
+}
+
+/// The nets of a design, in the order in which their names come first. The vias are those of the same library and the same design,
+/// whose text reads, so that its scale is in range.
+pub fn nets_of<'a, 'l: 'a, 'r: 'a, 't: 'a, A: Allocator + Copy>(
+    alloc: A,
+    library: &'a Library<'l, A>,
+    names: &'a Names<'r, 't, A>,
+    wires: &DesignWires<'a, 'l, 'r, 't, A>,
+) -> Result<NetList<'t, A>, AllocError>
+    requires some { 0 < scale names.now }
+    requires few { scale names.now ≤ 100000 }
+    requires same { wires.now ≡ record { library = library.now; design = names.now } }
+    ensures { IfOk result (λ nets. nets ≡ all_nets library.entry.now names.entry.now (scale names.entry.now)) }
+{
+    let groups = entries_by_net(alloc, names.records())?;
+    let pins = Pins::new(alloc, library, names, wires)?;
+    let mut nets = NetList::new(alloc);
+    for place in 0..groups.len() {
+        let (name, entries) = groups.at(place);
+        put_net(alloc, &pins, library, wires, name, entries, &mut nets)?;
+    }
+    Ok(nets)
+}

@@ -1,0 +1,17 @@
+use Rattle.std.proofs.Common.{flat_map}
+use Rattle.net_rules.specs.WirePieces.{special_net_pieces}
+use Rattle.connection_rules.specs.NetParts.{clause_pieces, wired_special}
+use Rattle.design_rules.specs.Boxes.{scale}
+use Rattle.wire_parts.specs.SpecialNetViews.{special_net_view}
+use Rattle.drawn_parts.proofs.EntryLemmas.{put_apart, put_twice}
+use Rattle.drawn_parts.proofs.entries.put_special_net.Goals as goal
+
+pub returns-clause-ok : goal.returns-clause-ok
+returns-clause-ok g c =
+    let layers = c.args.library.now.layers in
+    let library = c.args.wires.now.library in
+    let design = c.args.wires.now.design in
+    let n = special_net_view c.args.parts.now in
+    put_apart layers (wired_special library design (scale design) n) c.args.nets.now _
+    (put_twice layers (special_net_pieces library design (scale design) n) (flat_map (clause_pieces library design (scale design)) n.clauses) _ _ _ c.in_ok-put_special_wires.ensures.ok
+    (rw c.again.ensures at c.in_ok-put_clauses.ensures.ok))

@@ -1,0 +1,82 @@
+//! Pieces that are put into a list of nets as parts of its last net.
+
+ghost use Rattle.std.specs.Prelude.{◌≡◌, [], ◌∷◌, OnOk, option_map};
+ghost use Rattle.std.specs.Option.{option_to_list};
+ghost use Rattle.connection_rules.specs.NetParts.{goes_on, shapes_of};
+ghost use Rattle.wire_shapes.specs.PieceViews.{piece_view};
+ghost use Rattle.wire_shapes.specs.RuleViews.{shape_view};
+ghost use Rattle.drawn_parts.specs.Drawing.{IsReady, drawing, named_shapes, put_named, put_piece};
+
+use cell_library::library::Library;
+use checked_layers::checked_layer;
+use net_lists::NetList;
+use std::alloc::{AllocError, Allocator};
+use wire_shapes::{LayerShape, Piece};
+
+/// What is drawn at present: whether its part stands in the list, where it comes with its first shape.
+#[derive(Clone, Copy)]
+pub(crate) struct Walk {
+    pub(crate) is_begun: bool,
+}
+
+/// Whether a piece is a further shape of the via before it.
+fn is_further(piece: &Piece<'_>) -> bool
+    ensures { result ≡ goes_on (piece_view piece.now ∷ []) }
+{
+    match piece {
+        Piece::ViaShape { is_first, .. } => !is_first,
+        _ => false,
+    }
+}
+
+/// The shape of a piece, if it has one.
+fn shape_of<'p>(piece: &Piece<'p>) -> Option<LayerShape<'p>>
+    ensures { named_shapes result ≡ shapes_of (piece_view piece.now) }
+{
+    match piece {
+        Piece::Segment { shape, .. } | Piece::Rectangle(shape) | Piece::ViaShape { shape, .. } =>
+            Some(*shape),
+        Piece::Diagonal | Piece::UnknownVia(_) | Piece::ViaOffLayer(_) => None,
+    }
+}
+
+/// Puts a shape into the present part, where its layer is of TYPE ROUTING or CUT.
+pub(crate) fn put_shape<A: Allocator + Copy>(
+    library: &Library<'_, A>,
+    shape: &LayerShape<'_>,
+    walk: &mut Walk,
+    nets: &mut NetList<'_, A>,
+) -> Result<(), AllocError>
+    requires { IsReady (drawing walk.old nets.old) }
+    ensures ok { OnOk result (drawing walk.new nets.new ≡ put_named library.now.layers (shape_view shape.now ∷ []) (drawing walk.old nets.old)) }
+    ensures ready { OnOk result (IsReady (drawing walk.new nets.new)) }
+{
+    let Some(layer) = checked_layer(library, shape.layer) else {
+        return Ok(());
+    };
+    if !walk.is_begun {
+        nets.begin_part(false)?;
+        walk.is_begun = true;
+    }
+    nets.push_shape(layer, shape.rect)
+}
+
+/// Puts a piece into the present part where it is a further shape of the via before it, and else into a part of its own.
+pub(crate) fn put_piece<A: Allocator + Copy>(
+    library: &Library<'_, A>,
+    piece: &Piece<'_>,
+    walk: &mut Walk,
+    nets: &mut NetList<'_, A>,
+) -> Result<(), AllocError>
+    requires { IsReady (drawing walk.old nets.old) }
+    ensures ok { OnOk result (drawing walk.new nets.new ≡ put_piece library.now.layers (piece_view piece.now) (drawing walk.old nets.old)) }
+    ensures ready { OnOk result (IsReady (drawing walk.new nets.new)) }
+{
+    if !is_further(piece) {
+        walk.is_begun = false;
+    }
+    match shape_of(piece) {
+        Some(shape) => put_shape(library, &shape, walk, nets),
+        None => Ok(()),
+    }
+}

@@ -1,0 +1,111 @@
+//! What entries of a net draw, put into a list of nets.
+
+ghost use Rattle.std.specs.Prelude.{◌≡◌, ◌<◌, length, map, OnOk};
+ghost use Rattle.std.specs.List.{filter_map};
+ghost use Rattle.connection_rules.specs.NetParts.{drawn_parts, wired_net, wired_of, wired_special};
+ghost use Rattle.def_reader.specs.EntryViews.{entry_view};
+ghost use Rattle.design_rules.specs.Boxes.{scale};
+ghost use Rattle.net_lists.specs.Building.{with_parts};
+ghost use Rattle.wire_parts.specs.NetViews.{net_entry_view, net_view};
+ghost use Rattle.wire_parts.specs.SpecialNetViews.{special_net_view};
+ghost use Rattle.def_grammar.specs.Records.{net};
+ghost use Rattle.drawn_parts.specs.EntryParts.{parts_drawn, parts_if};
+ghost use Rattle.net_entries.specs.NetEntries.{entry_lent};
+
+use crate::clauses::put_clauses;
+use crate::drawing::Walk;
+use crate::entry_pieces::{put_net_wires, put_special_wires};
+use cell_library::library::Library;
+use def_reader::entry::Entry;
+use design_wires::wires::DesignWires;
+use net_entries::LentEntry;
+use net_lists::NetList;
+use std::alloc::{AllocError, Allocator};
+use wire_parts::nets::{NetEntry, NetParts};
+use wire_parts::special_nets::SpecialNetParts;
+
+/// Puts the parts that a net draws.
+fn put_net<'a, 'l: 'a, 'r: 'a, 't: 'a, A: Allocator + Copy>(
+    library: &Library<'_, A>,
+    wires: &DesignWires<'a, 'l, 'r, 't, A>,
+    parts: &NetParts<'_>,
+    nets: &mut NetList<'_, A>,
+) -> Result<(), AllocError>
+    requires { 0 < length nets.old }
+    ensures ok { OnOk result (nets.new ≡ with_parts (parts_drawn library.now.layers (wired_net wires.now.library wires.now.design (scale wires.now.design) (net_view parts.now))) nets.old) }
+    ensures net { OnOk result (0 < length nets.new) }
+{
+    let mut walk = Walk { is_begun: false };
+    put_net_wires(library, wires, parts, &mut walk, nets)?;
+    Ok(())
+}
+
+/// Puts the parts that a special net draws: those of its wires, and then those of its clauses.
+fn put_special_net<'p, 'a, 'l: 'a, 'r: 'a, 't: 'a, A: Allocator + Copy>(
+    library: &Library<'_, A>,
+    wires: &DesignWires<'a, 'l, 'r, 't, A>,
+    parts: &SpecialNetParts<'p>,
+    nets: &mut NetList<'_, A>,
+) -> Result<(), AllocError>
+    requires { 0 < length nets.old }
+    ensures ok { OnOk result (nets.new ≡ with_parts (parts_drawn library.now.layers (wired_special wires.now.library wires.now.design (scale wires.now.design) (special_net_view parts.now))) nets.old) }
+    ensures net { OnOk result (0 < length nets.new) }
+{
+    let mut walk = Walk { is_begun: false };
+    put_special_wires(library, wires, parts, &mut walk, nets)?;
+    put_clauses(library, wires, parts.clauses.again(), &mut walk, nets)?;
+    Ok(())
+}
+
+/// Puts the parts that an entry of NETS draws. One of MUSTJOIN draws none.
+fn put_net_entry<'a, 'l: 'a, 'r: 'a, 't: 'a, A: Allocator + Copy>(
+    library: &Library<'_, A>,
+    wires: &DesignWires<'a, 'l, 'r, 't, A>,
+    entry: &NetEntry<'_>,
+    nets: &mut NetList<'_, A>,
+) -> Result<(), AllocError>
+    requires { 0 < length nets.old }
+    ensures ok { OnOk result (nets.new ≡ with_parts (parts_if library.now.layers (wired_of wires.now.library wires.now.design (scale wires.now.design) (net (net_entry_view entry.now)))) nets.old) }
+    ensures net { OnOk result (0 < length nets.new) }
+{
+    match entry {
+        NetEntry::MustJoin(_) => Ok(()),
+        NetEntry::Net(parts) => put_net(library, wires, parts, nets),
+    }
+}
+
+/// Puts the parts that an entry draws, if it is one of NETS or SPECIALNETS.
+fn put_entry<'a, 'l: 'a, 'r: 'a, 't: 'a, A: Allocator + Copy>(
+    library: &Library<'_, A>,
+    wires: &DesignWires<'a, 'l, 'r, 't, A>,
+    entry: &Entry<'_>,
+    nets: &mut NetList<'_, A>,
+) -> Result<(), AllocError>
+    requires { 0 < length nets.old }
+    ensures ok { OnOk result (nets.new ≡ with_parts (parts_if library.now.layers (wired_of wires.now.library wires.now.design (scale wires.now.design) (entry_view entry.now))) nets.old) }
+    ensures net { OnOk result (0 < length nets.new) }
+{
+    match entry {
+        Entry::Net(net) => put_net_entry(library, wires, net, nets),
+        Entry::SpecialNet(parts) => put_special_net(library, wires, parts, nets),
+        _ => Ok(()),
+    }
+}
+
+/// Puts the parts that entries of a net draw behind those of the last net.
+pub fn put_drawn<'a, 'l: 'a, 'r: 'a, 't: 'a, A: Allocator + Copy>(
+    library: &Library<'_, A>,
+    wires: &DesignWires<'a, 'l, 'r, 't, A>,
+    entries: &[LentEntry<'_, '_>],
+    nets: &mut NetList<'_, A>,
+) -> Result<(), AllocError>
+    requires library { library.now ≡ wires.now.library }
+    requires net { 0 < length nets.old }
+    ensures ok { let design = wires.now.design in OnOk result (nets.new ≡ with_parts (drawn_parts library.now.layers (filter_map (wired_of library.now design (scale design)) (map entry_lent entries.now))) nets.old) }
+    ensures net { OnOk result (0 < length nets.new) }
+{
+    for lent in entries {
+        put_entry(library, wires, lent.entry, nets)?;
+    }
+    Ok(())
+}

@@ -1,0 +1,85 @@
+//! The pieces of the wires of an entry, put into a list of nets.
+
+ghost use Rattle.std.specs.Prelude.{◌≡◌, OnOk};
+ghost use Rattle.net_rules.specs.WirePieces.{net_pieces, special_net_pieces};
+ghost use Rattle.design_rules.specs.Boxes.{scale};
+ghost use Rattle.wire_parts.specs.NetViews.{net_view};
+ghost use Rattle.wire_parts.specs.SpecialNetViews.{special_net_view};
+ghost use Rattle.wire_reading.specs.EntryLeft.{entry_left};
+ghost use Rattle.drawn_parts.specs.Drawing.{IsReady, drawing, put_pieces};
+
+use crate::drawing::{Walk, put_piece};
+use cell_library::library::Library;
+use design_wires::makings_of_design::DesignMakings;
+use design_wires::wires::DesignWires;
+use net_lists::NetList;
+use std::alloc::{AllocError, Allocator};
+use wire_parts::nets::NetParts;
+use wire_parts::special_nets::SpecialNetParts;
+use wire_reading::{EntryPieces, MadeWires, net_pieces, pieces_of_design, special_net_pieces};
+use wire_shapes::{LayerShapes, PathItems, WiringMakings};
+
+/// Puts the pieces that are left of the wires of an entry, one after the other.
+fn put_pieces<'a, W, I, R, S, A>(
+    library: &Library<'_, A>,
+    pieces: EntryPieces<'a, W, I, R, S>,
+    walk: &mut Walk,
+    nets: &mut NetList<'_, A>,
+) -> Result<(), AllocError>
+where
+    I: PathItems<'a>,
+    S: LayerShapes<'a>,
+    R: WiringMakings<'a, Shapes = S>,
+    W: MadeWires<'a, I, R, S>,
+    A: Allocator + Copy,
+    requires { IsReady (drawing walk.old nets.old) }
+    ensures ok { OnOk result (drawing walk.new nets.new ≡ put_pieces library.now.layers (entry_left W.pieces I.items R.rules S.shapes pieces.entry) (drawing walk.old nets.old)) }
+    ensures ready { OnOk result (IsReady (drawing walk.new nets.new)) }
+{
+    for piece in pieces {
+        put_piece(library, &piece, walk, nets)?;
+    }
+    Ok(())
+}
+
+/// Puts the pieces of the wires of a net.
+pub(crate) fn put_net_wires<'a, 'l: 'a, 'r: 'a, 't: 'a, A: Allocator + Copy>(
+    library: &Library<'_, A>,
+    wires: &DesignWires<'a, 'l, 'r, 't, A>,
+    parts: &NetParts<'_>,
+    walk: &mut Walk,
+    nets: &mut NetList<'_, A>,
+) -> Result<(), AllocError>
+    requires { IsReady (drawing walk.old nets.old) }
+    ensures ok { OnOk result (drawing walk.new nets.new ≡ put_pieces library.now.layers (net_pieces wires.now.library wires.now.design (scale wires.now.design) (net_view parts.now)) (drawing walk.old nets.old)) }
+    ensures ready { OnOk result (IsReady (drawing walk.new nets.new)) }
+{
+    pieces_of_design();
+    put_pieces(
+        library,
+        net_pieces(parts, DesignMakings { wires }),
+        walk,
+        nets,
+    )
+}
+
+/// Puts the pieces of the wires of a special net.
+pub(crate) fn put_special_wires<'a, 'l: 'a, 'r: 'a, 't: 'a, A: Allocator + Copy>(
+    library: &Library<'_, A>,
+    wires: &DesignWires<'a, 'l, 'r, 't, A>,
+    parts: &SpecialNetParts<'_>,
+    walk: &mut Walk,
+    nets: &mut NetList<'_, A>,
+) -> Result<(), AllocError>
+    requires { IsReady (drawing walk.old nets.old) }
+    ensures ok { OnOk result (drawing walk.new nets.new ≡ put_pieces library.now.layers (special_net_pieces wires.now.library wires.now.design (scale wires.now.design) (special_net_view parts.now)) (drawing walk.old nets.old)) }
+    ensures ready { OnOk result (IsReady (drawing walk.new nets.new)) }
+{
+    pieces_of_design();
+    put_pieces(
+        library,
+        special_net_pieces(parts, DesignMakings { wires }),
+        walk,
+        nets,
+    )
+}

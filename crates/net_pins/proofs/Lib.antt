@@ -1,0 +1,10 @@
+pub mod ClauseLemmas
+pub mod ComponentLemmas
+pub mod MacroLemmas
+pub mod NamingLemmas
+pub mod NearLemmas
+pub mod PinNames
+pub mod PortLemmas
+pub mod PutLemmas
+pub mod SeenLemmas
+pub mod ShapeLemmas

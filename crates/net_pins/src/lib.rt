@@ -1,0 +1,27 @@
+//! The pins of a net that count, as parts of a `NetList`.
+//!
+//! Begin with `Pins::new`, which reads once which pins of a design name a net, and `put_pins`, which puts those of a net that count
+//! behind the parts of the last net: those that its entries list, and those of the design that name it, each once. What pins a net
+//! has is said in `connection_rules/specs`: `Terminals` (`net_pins`), `PinShapes` and `NetParts` (`pin_parts`). A pin counts where
+//! it has a shape on a layer of TYPE ROUTING or CUT, placed or not.
+//!
+//! `specs/Counting` says what one pin more does to the nets and to the pins that were seen, `specs/MacroPins` and `specs/PortsLeft`
+//! have the shapes of pins layer by layer and clause by clause. `Pins` is seen as its library and its design, which it borrows, with
+//! the names in them. A call looks up what the entries name, and goes over all components only where a terminal is of each of them.
+//!
+//! The one error is `AllocError`; then pins of the net may be missing.
+#![tactic(auto)]
+
+mod cell_place;
+mod component_pins;
+mod design_pins;
+mod lent_pin;
+mod listed_pins;
+mod macro_pins;
+mod pins;
+mod port_place;
+mod ports;
+mod seen_pins;
+mod sources;
+
+pub use pins::Pins;

@@ -1,0 +1,240 @@
+//! The pins that the terminals of entries stand for (LEF/DEF 5.8 Language Reference, "Nets" and "Special Nets").
+
+ghost use Rattle.std.specs.Prelude.{◌≡◌, ◌<◌, ◌∷◌, [], ℕ, OnOk, flat_map, length};
+ghost use Rattle.std.specs.List.{filter_map};
+ghost use Rattle.std.specs.Option.{option_map, option_to_list};
+ghost use Rattle.form_meanings.specs.Firsts.{find_named};
+ghost use Rattle.def_grammar.specs.Pins.{Pin};
+ghost use Rattle.def_grammar.specs.Records.{component_of};
+ghost use Rattle.lef_grammar.specs.Library.{Library as TheLibrary};
+ghost use Rattle.connection_rules.specs.Terminals.{design_pin, design_pins, pin_of_component, pins_of};
+ghost use Rattle.place_parts.specs.ComponentViews.{component_view};
+ghost use Rattle.place_parts.specs.PinViews.{pin_view};
+ghost use Rattle.wire_parts.specs.TerminalViews.{terminal_view, terminals_of};
+ghost use Rattle.def_reader.specs.EntryViews.{entry_view};
+ghost use Rattle.def_reader.specs.StatementViews.{record_view, records_view};
+ghost use Rattle.design_wires.specs.Scales.{units_of};
+ghost use Rattle.net_pins.specs.Counting.{with_pins};
+ghost use Rattle.net_pins.specs.EntryPins.{borrowed_pin, listed, pin_of_entry, pin_of_record, pins_in};
+
+use crate::component_pins::{MacroPin, put_component_pin};
+use crate::design_pins::put_design_pin;
+use crate::seen_pins::SeenPins;
+use crate::sources::Sources;
+use cell_library::library::Library;
+use def_reader::entry::Entry;
+use def_reader::statement::Statement;
+use design_model::mode::Section;
+use design_names::names::Names;
+use design_wires::scale::Scale;
+use net_lists::NetList;
+use place_parts::component_parts::ComponentParts;
+use place_parts::pins::PinParts;
+use statement_reader::parts::Parts;
+use std::alloc::{AllocError, Allocator};
+use wire_parts::nets::NetEntry;
+use wire_parts::terminals::Terminal;
+
+/// Puts the pin of this name of a component, where it has that and it counts, unless it was seen.
+fn put_pin_of<'t, A: Allocator + Copy>(
+    library: &Library<'_, A>,
+    scale: Scale,
+    component: &ComponentParts<'t>,
+    pin: &'t [u8],
+    seen: &mut SeenPins<'t, A>,
+    nets: &mut NetList<'_, A>,
+) -> Result<(), AllocError>
+    requires { 0 < length nets.old }
+    ensures ok { OnOk result ((seen.new, nets.new) ≡ with_pins (option_to_list (pin_of_component library.now (units_of scale) pin.entry.now (component_view component.now))) (seen.old, nets.old)) }
+    ensures net { OnOk result (0 < length nets.new) }
+{
+    let Some(cell) = library.macro_of(component.cell.bytes) else {
+        return Ok(());
+    };
+    let Some(found) = cell.pin(pin) else {
+        return Ok(());
+    };
+    if !seen.note((Some(component.name.bytes), pin))? {
+        return Ok(());
+    }
+    let pin = MacroPin {
+        library,
+        cell,
+        name: pin,
+        pin: found,
+    };
+    put_component_pin(pin, scale, component, nets)
+}
+
+/// Puts a pin of the design, where it counts, unless it was seen.
+pub(crate) fn put_pin<'a, 'l: 'a, 'r: 'a, 't: 'a, A: Allocator + Copy>(
+    of: &Sources<'_, 'a, 'l, 'r, 't, A>,
+    pin: &PinParts<'t>,
+    seen: &mut SeenPins<'t, A>,
+    nets: &mut NetList<'_, A>,
+) -> Result<(), AllocError>
+    requires { 0 < length nets.old }
+    ensures ok { OnOk result ((seen.new, nets.new) ≡ with_pins (design_pin of.now.library.now of.now.names.now (units_of of.now.scale) (pin_view pin.now) ∷ []) (seen.old, nets.old)) }
+    ensures net { OnOk result (0 < length nets.new) }
+{
+    if seen.note((None, pin.name.bytes))? {
+        put_design_pin(of, pin, nets)
+    } else {
+        Ok(())
+    }
+}
+
+/// Puts the pin of this name of the component that a statement is.
+fn put_pin_of_statement<'t, A: Allocator + Copy>(
+    library: &Library<'_, A>,
+    scale: Scale,
+    statement: &Statement<'t>,
+    pin: &'t [u8],
+    seen: &mut SeenPins<'t, A>,
+    nets: &mut NetList<'_, A>,
+) -> Result<(), AllocError>
+    requires { 0 < length nets.old }
+    ensures ok { OnOk result ((seen.new, nets.new) ≡ with_pins (option_to_list (pin_of_record library.now (units_of scale) pin.entry.now (record_view statement.now))) (seen.old, nets.old)) }
+    ensures net { OnOk result (0 < length nets.new) }
+{
+    match statement {
+        Statement::Entry(Entry::Component(component)) => {
+            put_pin_of(library, scale, component, pin, seen, nets)
+        }
+        _ => Ok(()),
+    }
+}
+
+/// Puts the pin of this name of each component that has it.
+fn put_pins_of_all<'t, A: Allocator + Copy>(
+    library: &Library<'_, A>,
+    scale: Scale,
+    records: &[Statement<'t>],
+    pin: &'t [u8],
+    seen: &mut SeenPins<'t, A>,
+    nets: &mut NetList<'_, A>,
+) -> Result<(), AllocError>
+    requires { 0 < length nets.old }
+    ensures ok { OnOk result ((seen.new, nets.new) ≡ with_pins (filter_map (pin_of_component library.now (units_of scale) pin.entry.now) (filter_map component_of (records_view records.now))) (seen.old, nets.old)) }
+    ensures net { OnOk result (0 < length nets.new) }
+{
+    for statement in records {
+        put_pin_of_statement(library, scale, statement, pin, seen, nets)?;
+    }
+    Ok(())
+}
+
+/// The pin of the design that an entry is.
+fn pin_of<'r, 't>(entry: &'r Entry<'t>) -> Option<&'r PinParts<'t>>
+    ensures { option_map borrowed_pin result ≡ pin_of_entry (entry_view entry.entry.now) }
+{
+    match entry {
+        Entry::Pin(parts) => Some(parts),
+        _ => None,
+    }
+}
+
+/// The first pin of the design with this name.
+#[tactic(auto, using(crate::proofs::PinNames::pin_picked))]
+fn pin_named<'r, 't, A: Allocator + Copy>(
+    names: &Names<'r, 't, A>,
+    name: &[u8],
+) -> Option<&'r PinParts<'t>>
+    ensures { (library : TheLibrary) (u : ℕ) → option_map borrowed_pin result ≡ find_named (λ (p : Pin). p.name) (design_pins library names.now u) name.now }
+{
+    pin_of(names.entry(Section::Pins, name)?)
+}
+
+/// Puts the first pin of the design with this name.
+fn put_pin_named<'a, 'l: 'a, 'r: 'a, 't: 'a, A: Allocator + Copy>(
+    of: &Sources<'_, 'a, 'l, 'r, 't, A>,
+    name: &[u8],
+    seen: &mut SeenPins<'t, A>,
+    nets: &mut NetList<'_, A>,
+) -> Result<(), AllocError>
+    requires { 0 < length nets.old }
+    ensures ok { OnOk result ((seen.new, nets.new) ≡ with_pins ((pins_in of.now).of_design name.now) (seen.old, nets.old)) }
+    ensures net { OnOk result (0 < length nets.new) }
+{
+    match pin_named(of.names, name) {
+        Some(pin) => put_pin(of, pin, seen, nets),
+        None => Ok(()),
+    }
+}
+
+/// Puts the pin of this name of the first component with this name.
+fn put_pin_of_named<'a, 'l: 'a, 'r: 'a, 't: 'a, A: Allocator + Copy>(
+    of: &Sources<'_, 'a, 'l, 'r, 't, A>,
+    component: &[u8],
+    pin: &'t [u8],
+    seen: &mut SeenPins<'t, A>,
+    nets: &mut NetList<'_, A>,
+) -> Result<(), AllocError>
+    requires { 0 < length nets.old }
+    ensures ok { OnOk result ((seen.new, nets.new) ≡ with_pins ((pins_in of.now).of_component component.now pin.entry.now) (seen.old, nets.old)) }
+    ensures net { OnOk result (0 < length nets.new) }
+{
+    match of.names.component(component) {
+        Some(parts) => put_pin_of(of.library, of.scale, parts, pin, seen, nets),
+        None => Ok(()),
+    }
+}
+
+/// Puts the pins that a terminal stands for.
+fn put_terminal<'a, 'l: 'a, 'r: 'a, 't: 'a, A: Allocator + Copy>(
+    of: &Sources<'_, 'a, 'l, 'r, 't, A>,
+    terminal: &Terminal<'t>,
+    seen: &mut SeenPins<'t, A>,
+    nets: &mut NetList<'_, A>,
+) -> Result<(), AllocError>
+    requires { 0 < length nets.old }
+    ensures ok { OnOk result ((seen.new, nets.new) ≡ with_pins (pins_of (pins_in of.now) (terminal_view terminal.now)) (seen.old, nets.old)) }
+    ensures net { OnOk result (0 < length nets.new) }
+{
+    let pin = terminal.pin.bytes;
+    if terminal.is_virtual() {
+        Ok(())
+    } else if terminal.is_of_all() {
+        put_pins_of_all(of.library, of.scale, of.names.records(), pin, seen, nets)
+    } else if terminal.is_of_design() {
+        put_pin_named(of, pin, seen, nets)
+    } else {
+        put_pin_of_named(of, terminal.owner.bytes, pin, seen, nets)
+    }
+}
+
+/// Puts the pins that terminals stand for.
+fn put_terminals<'a, 'l: 'a, 'r: 'a, 't: 'a, A: Allocator + Copy>(
+    of: &Sources<'_, 'a, 'l, 'r, 't, A>,
+    terminals: &Parts<'t, Terminal<'t>>,
+    seen: &mut SeenPins<'t, A>,
+    nets: &mut NetList<'_, A>,
+) -> Result<(), AllocError>
+    requires { 0 < length nets.old }
+    ensures ok { OnOk result ((seen.new, nets.new) ≡ with_pins (flat_map (pins_of (pins_in of.now)) (terminals_of terminals.now)) (seen.old, nets.old)) }
+    ensures net { OnOk result (0 < length nets.new) }
+{
+    let mut left = terminals.again();
+    while let Some(terminal) = left.next() {
+        put_terminal(of, &terminal, seen, nets)?;
+    }
+    Ok(())
+}
+
+/// Puts the pins that an entry lists: none for one of `MUSTJOIN`, or of another section.
+pub(crate) fn put_listed<'a, 'l: 'a, 'r: 'a, 't: 'a, A: Allocator + Copy>(
+    of: &Sources<'_, 'a, 'l, 'r, 't, A>,
+    entry: &Entry<'t>,
+    seen: &mut SeenPins<'t, A>,
+    nets: &mut NetList<'_, A>,
+) -> Result<(), AllocError>
+    requires { 0 < length nets.old }
+    ensures ok { OnOk result ((seen.new, nets.new) ≡ with_pins (flat_map (pins_of (pins_in of.now)) (listed (entry_view entry.now))) (seen.old, nets.old)) }
+    ensures net { OnOk result (0 < length nets.new) }
+{
+    match entry {
+        Entry::Net(NetEntry::Net(parts)) => put_terminals(of, &parts.terminals, seen, nets),
+        Entry::SpecialNet(parts) => put_terminals(of, &parts.terminals, seen, nets),
+        _ => Ok(()),
+    }
+}

@@ -1,0 +1,96 @@
+//! The shapes of a pin of a macro on layers of TYPE ROUTING or CUT (LEF/DEF 5.8 Language Reference, "Macro Pin Statement").
+
+ghost use Rattle.std.specs.Prelude.{◌≡◌, ℕ, OnOk, map};
+ghost use Rattle.design_model.specs.declared.geometry.Point.{Point as ThePoint};
+ghost use Rattle.connection_rules.specs.Terminals.{is_some_shape};
+ghost use Rattle.net_lists.specs.Building.{with_shapes};
+ghost use Rattle.cell_library.specs.Numbers.{rectangle_view};
+ghost use Rattle.cell_library.specs.ShapeViews.{shapes_view};
+ghost use Rattle.net_pins.specs.MacroPins.{all_checked, all_placed, layer_checked, layer_placed, rectangles_placed};
+ghost use Rattle.net_pins.specs.Putting.{HasPart};
+
+use crate::cell_place::CellPlace;
+use cell_library::library::Library;
+use cell_library::numbers::MicronRect;
+use cell_library::shapes::LayerShapes;
+use checked_layers::checked_layer;
+use design_model::identifier::LayerId;
+use net_lists::NetList;
+use std::alloc::{AllocError, Allocator};
+
+/// Whether there is a rectangle on a layer, and the layer is such a one.
+fn layer_has_shape<A: Allocator + Copy>(
+    library: &Library<'_, A>,
+    layer: &LayerShapes<'_, A>,
+) -> bool
+    ensures { (u : ℕ) (o : ThePoint) → result ≡ is_some_shape (layer_checked u o library.now.layers (shapes_view layer.now)) }
+{
+    let is_bare = layer.rectangles.as_slice().is_empty();
+    !is_bare && checked_layer(library, layer.layer).is_some()
+}
+
+/// Whether there is a shape on such a layer.
+pub(crate) fn has_shape<A: Allocator + Copy>(
+    library: &Library<'_, A>,
+    shapes: &[LayerShapes<'_, A>],
+) -> bool
+    ensures { (u : ℕ) (o : ThePoint) → result ≡ is_some_shape (all_checked u o library.now.layers (map shapes_view shapes.now)) }
+{
+    for layer in shapes {
+        if layer_has_shape(library, layer) {
+            return true;
+        }
+    }
+    false
+}
+
+/// Puts rectangles on a layer, where they lie for a component, into the last part.
+fn put_rectangles<A: Allocator + Copy>(
+    place: CellPlace,
+    layer: LayerId,
+    rectangles: &[MicronRect],
+    nets: &mut NetList<'_, A>,
+) -> Result<(), AllocError>
+    requires { HasPart nets.old }
+    ensures ok { OnOk result (nets.new ≡ with_shapes (rectangles_placed place (map rectangle_view rectangles.now) layer.0) nets.old) }
+    ensures part { OnOk result (HasPart nets.new) }
+{
+    for rectangle in rectangles {
+        nets.push_shape(layer, place.place(*rectangle))?;
+    }
+    Ok(())
+}
+
+/// Puts the shapes on a layer, where it is such a one, into the last part.
+fn put_layer<A: Allocator + Copy>(
+    library: &Library<'_, A>,
+    place: CellPlace,
+    layer: &LayerShapes<'_, A>,
+    nets: &mut NetList<'_, A>,
+) -> Result<(), AllocError>
+    requires { HasPart nets.old }
+    ensures ok { OnOk result (nets.new ≡ with_shapes (layer_placed place library.now.layers (shapes_view layer.now)) nets.old) }
+    ensures part { OnOk result (HasPart nets.new) }
+{
+    match checked_layer(library, layer.layer) {
+        Some(id) => put_rectangles(place, id, layer.rectangles.as_slice(), nets),
+        None => Ok(()),
+    }
+}
+
+/// Puts the shapes on such layers, where they lie for a component, into the last part.
+pub(crate) fn put_shapes<A: Allocator + Copy>(
+    library: &Library<'_, A>,
+    place: CellPlace,
+    shapes: &[LayerShapes<'_, A>],
+    nets: &mut NetList<'_, A>,
+) -> Result<(), AllocError>
+    requires { HasPart nets.old }
+    ensures ok { OnOk result (nets.new ≡ with_shapes (all_placed place library.now.layers (map shapes_view shapes.now)) nets.old) }
+    ensures part { OnOk result (HasPart nets.new) }
+{
+    for layer in shapes {
+        put_layer(library, place, layer, nets)?;
+    }
+    Ok(())
+}
