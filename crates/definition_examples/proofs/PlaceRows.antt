@@ -9,7 +9,7 @@ use Rattle.place_rules.specs.Covering.{is_covered}
 use Rattle.place_rules.specs.Patterns.{matches}
 use Rattle.place_rules.specs.Sites.{holds, is_on_sites, spans}
 use Rattle.report_rules.specs.Diagnostics.{diagnostics}
-use Rattle.definition_examples.proofs.Computing.{def_texts}
+use Rattle.connection_examples.proofs.NetTexts.{net_words}
 
 abbrev two_microns : Distance
 two_microns = record { value = pos 2; places = 0 }
@@ -50,25 +50,25 @@ lines_of sections so = lines_if (read_def (standing sections so))
 in_rows : (lines_of [] (codes "( 4 0 ) N") ≡ Some []) × (lines_of [] (codes "( 4 0 ) FN") ≡ Some []) × (lines_of [] (codes "( 4 2 ) FS") ≡ Some [])
     × (lines_of [] (codes "( 4 0 ) S") ≡ Some (codes "flip c" ∷ [])) × (lines_of [] (codes "( 3 0 ) S") ≡ Some (codes "offsite c" ∷ []))
     × (lines_of [] (codes "( 4 1 ) N") ≡ Some (codes "offrow c" ∷ []))
-unfolding def_texts is_covered holds spans is_on_sites
+unfolding net_words is_covered holds spans is_on_sites
 in_rows = (refl, refl, refl, refl, refl, refl)
 
 -- past the last site, which is the edge of the die
 out_of_the_die : lines_of [] (codes "( 7 0 ) N") ≡ Some (codes "offrow c" ∷ codes "outside c" ∷ [])
-unfolding def_texts is_covered holds spans is_on_sites
+unfolding net_words is_covered holds spans is_on_sites
 out_of_the_die = refl
 
 -- a component of a fence that both its rectangles cover, and one that they don't; by a group; and one that isn't the fence's
 in_fences : (lines_of fenced (codes "( 2 0 ) N + REGION F") ≡ Some []) × (lines_of fenced (codes "( 4 0 ) N + REGION F") ≡ Some (codes "fence c F" ∷ []))
     × (lines_of grouped (codes "( 4 0 ) N") ≡ Some (codes "fence c F" ∷ [])) × (lines_of fenced (codes "( 4 0 ) N") ≡ Some (codes "intruder c F" ∷ []))
     × (lines_of fenced (codes "( 6 0 ) N") ≡ Some []) × (lines_of guided (codes "( 6 0 ) N + REGION F") ≡ Some [])
-unfolding def_texts is_covered holds spans is_on_sites matches
+unfolding net_words is_covered holds spans is_on_sites matches
 in_fences = (refl, refl, refl, refl, refl, refl)
 
 -- a rectangle with its corners in order; a soft one and one of a layer keep nothing out
 kept_out : (lines_of kept_free (codes "( 6 0 ) N") ≡ Some (codes "blocked c 6 0 7 1" ∷ codes "unknown LAYER l BLOCKAGES -" ∷ []))
     × (lines_of kept_free (codes "( 6 2 ) S") ≡ Some (codes "unknown LAYER l BLOCKAGES -" ∷ []))
-unfolding def_texts is_covered holds spans is_on_sites
+unfolding net_words is_covered holds spans is_on_sites
 kept_out = (refl, refl)
 
 -- of two regions that a component names, its box is of the first; of two rows that lie over one another, one that is right is enough;
@@ -78,7 +78,7 @@ two_fences = codes "REGIONS 2 ;\n- F ( 0 0 ) ( 2 2 ) + TYPE FENCE ;\n- G ( 4 0 )
 
 first_region : (lines_of two_fences (codes "( 0 0 ) N + REGION F + REGION G") ≡ Some [])
     × (lines_of two_fences (codes "( 4 0 ) N + REGION F + REGION G") ≡ Some (codes "fence c F" ∷ codes "intruder c G" ∷ []))
-unfolding def_texts is_covered holds spans is_on_sites
+unfolding net_words is_covered holds spans is_on_sites
 first_region = (refl, refl)
 
 abbrev row_over : List ℕ → List ℕ
@@ -89,7 +89,7 @@ in_two_rows : (lines_of (row_over (codes "1 0 S DO 3 BY 1 STEP 2 0")) (codes "( 
     × (lines_of (row_over (codes "0 0 S DO 4 BY 1 STEP 2 0")) (codes "( 4 0 ) S") ≡ Some [])
     × (lines_of (row_over (codes "0 0 S DO 4 BY 1 STEP 2 0")) (codes "( 4 0 ) N") ≡ Some [])
     × (lines_of (row_over (codes "0 0 S DO 4 BY 1 STEP 2 0")) (codes "( 3 0 ) S") ≡ Some (codes "offsite c" ∷ []))
-unfolding def_texts is_covered holds spans is_on_sites
+unfolding net_words is_covered holds spans is_on_sites
 in_two_rows = (refl, refl, refl, refl, refl)
 
 -- the same library, whose macro stands in rows of another site too, which comes first
@@ -103,5 +103,5 @@ two_site_lines_if (Ok design) = Some (diagnostics library_of_two_sites design)
 two_site_lines_if (Err fault) = None
 
 second_site : (two_site_lines_if (read_def (standing [] (codes "( 4 0 ) N"))) ≡ Some []) × (two_site_lines_if (read_def (standing [] (codes "( 4 1 ) N"))) ≡ Some (codes "offrow c" ∷ []))
-unfolding def_texts is_covered holds spans is_on_sites
+unfolding net_words is_covered holds spans is_on_sites
 second_site = (refl, refl)

@@ -24,7 +24,8 @@ use Rattle.design_model.specs.Families.{pair_lines}
 use Rattle.design_rules.specs.OverlapLines.{overlap_of}
 use Rattle.design_rules.specs.Runs.{design_edit, text_edit, text_outcome}
 use Rattle.design_rules.specs.Script.{report, nothing, make, refuse, ask, bad, order_of, script_lines, unescaped}
-use Rattle.definition_examples.proofs.Computing.{def_texts}
+use Rattle.connection_examples.proofs.NetTexts as net_texts
+use Rattle.connection_examples.proofs.NetTexts.{net_words}
 use Rattle.place_rules.specs.Covering.{is_covered}
 use Rattle.definition_examples.proofs.DefRows.{two}
 
@@ -51,12 +52,12 @@ report_after (Err refusal) = None
 
 -- a comment put before END DESIGN, which runs on to the line's end
 end_in_a_comment : Spoils 241 241 (codes "#") Unfinished 253
-unfolding def_texts
+unfolding net_words
 end_in_a_comment = refl
 
 -- nothing put in place of nothing
 nothing_put : text_outcome two 252 252 [] ≡ Ok two
-unfolding def_texts
+unfolding net_words
 nothing_put = refl
 
 -- a range that ends behind the text, and one whose ends are turned
@@ -65,48 +66,48 @@ out_of_range = (refl, refl)
 
 -- a quote without another
 open_string : Spoils 188 188 (codes "\"") OpenString 188
-unfolding def_texts
+unfolding net_words
 open_string = refl
 
 -- END COMPONENTS taken out
 no_end : Spoils 226 240 [] NoForm 227
-unfolding def_texts
+unfolding net_words
 no_end = refl
 
 -- the first component named as the second
 same_name : Spoils 185 187 (codes "u2") NameTaken 194
-unfolding def_texts
+unfolding net_words
 same_name = refl
 
 -- the first component without its name, whose cell is read as it
 no_name : Spoils 185 187 [] NoForm 183
-unfolding def_texts
+unfolding net_words
 no_name = refl
 
 -- a ; more, which is a statement of its own
 one_more_end : Spoils 192 192 (codes "; ") NoForm 194
-unfolding def_texts
+unfolding net_words
 one_more_end = refl
 
 -- a comment that runs on over the next line, as its line feed is taken out: over the second entry, which the header still
 -- counts, and over the end of the section
 comment_runs_on : (report_after (text_outcome two 193 194 (codes " #")) ≡ Some (codes "count COMPONENTS 2 1" ∷ [])) × Spoils 225 226 (codes " # ") NoForm 243
-unfolding def_texts
+unfolding net_words
 comment_runs_on = (refl, refl)
 
 -- a # behind a byte of a word begins no comment: the two entries are one
 no_comment : report_after (text_outcome two 193 194 (codes "#")) ≡ Some (codes "count COMPONENTS 2 1" ∷ [])
-unfolding def_texts is_covered
+unfolding net_words is_covered
 no_comment = refl
 
 -- an entry that becomes two
 two_of_one : report_after (text_outcome two 188 188 (codes "INV ; - u3 ")) ≡ Some (codes "count COMPONENTS 2 3" ∷ [])
-unfolding def_texts is_covered
+unfolding net_words is_covered
 two_of_one = refl
 
 -- bytes put in anew after they were taken out
 put_back : text_outcome (take 185 two ++ drop 187 two) 185 185 (codes "u1") ≡ Ok two
-unfolding def_texts
+unfolding net_words
 put_back = refl
 
 -- a design whose header says this number of entries, and then has these
@@ -119,19 +120,19 @@ report_counting number entries = report_of (read_def (counting number entries))
 -- as many entries as the header says, however its number is written
 counted_well : (report_counting (codes "2") (codes "- a INV ;\n- b INV ;\n") ≡ Some []) × (report_counting (codes "+2") (codes "- a INV ;\n- b INV ;\n") ≡ Some [])
     × (report_counting (codes "002") (codes "- a INV ;\n- b INV ;\n") ≡ Some []) × (report_counting (codes "-0") [] ≡ Some [])
-unfolding def_texts
+unfolding net_words
 counted_well = (refl, refl, refl, refl)
 
 -- more or fewer of them, and none; the number is written without its sign and zeros
 counted_ill : (report_counting (codes "3") (codes "- a INV ;\n- b INV ;\n") ≡ Some (codes "count COMPONENTS 3 2" ∷ []))
     × (report_counting (codes "+01") (codes "- a INV ;\n- b INV ;\n") ≡ Some (codes "count COMPONENTS 1 2" ∷ []))
     × (report_counting (codes "1") [] ≡ Some (codes "count COMPONENTS 1 0" ∷ []))
-unfolding def_texts
+unfolding net_words
 counted_ill = (refl, refl, refl)
 
 -- a text without the section
 no_section : report_of (read_def (codes "UNITS DISTANCE MICRONS 1000 ;\nEND DESIGN\n")) ≡ Some []
-unfolding def_texts
+unfolding net_words
 no_section = refl
 
 -- a header's line stands before that of two components that overlap
@@ -143,7 +144,7 @@ count_first : diagnostics (record { layers = []; sites = []; vias = []; rules = 
     ∷ top end_design
     ∷ [])
     ≡ codes "count COMPONENTS 3 2" ∷ codes "overlap a b" ∷ []
-unfolding whole distance section_word digits
+unfolding net_words whole distance section_word digits
 count_first = refl
 
 -- a box of height 2 and width 2, whose left side is here
@@ -195,3 +196,14 @@ text_refusals : map order_of (script_lines (codes "text x 0\ntext 0 x\ntext -1 x
     ≡ refuse Number ∷ refuse Number ∷ refuse Number ∷ refuse Number ∷ refuse Range ∷ refuse Range ∷ make (text_edit 0 0 []) ∷ bad ∷ bad ∷ bad ∷ bad ∷ []
 unfolding whole unescaped
 text_refusals = refl
+
+-- the lines of a text's report, with a library of layers and pins
+abbrev report_on_nets : Result (List Record) Fault → Option (List (List ℕ))
+report_on_nets (Ok design) = Some (diagnostics net_texts.library design)
+report_on_nets (Err fault) = None
+
+-- two thousand units a micron: the wire ends one unit before the input
+in_the_units_of_the_text : report_on_nets (read_def (codes "UNITS DISTANCE MICRONS 2000 ;\nCOMPONENTS 2 ;\n- u1 INV + COVER ( 0 0 ) N ;\n- u2 INV + COVER ( 1840 0 ) N ;\nEND COMPONENTS\nNETS 1 ;\n- n1 ( u1 Y ) ( u2 A ) + ROUTED met1 ( 1400 2200 ) ( 1899 * ) ;\nEND NETS\nEND DESIGN\n"))
+    ≡ Some (codes "open n1 2" ∷ [])
+unfolding net_words
+in_the_units_of_the_text = refl

@@ -1,6 +1,7 @@
 -- Lines that are made by putting parts behind one another.
-use Rattle.std.proofs.Common.{◌≡◌, ℕ, List, [], ◌++◌, ap, ◌∙◌, append_assoc, append-nil, sym}
+use Rattle.std.proofs.Common.{◌≡◌, ℕ, List, [], ◌++◌, ap, ◌∙◌, append_assoc, append-nil, sym, arith}
 use Rattle.line_laws.specs.Lines.{SameLines, times}
+use Rattle.line_laws.proofs.PairSums.{times-append}
 
 abbrev Lines : Type 0
 Lines = List (List ℕ)
@@ -19,11 +20,24 @@ module _ (old : Lines) where
     often = λ q. more.often q ∙ ap (λ (l : Lines). times q (l ++ d)) (h2 ∙ ap (λ (l : Lines). l ++ b) h1) ∙ same.often q;
   }
 
--- the five families of a design, the last two in whatever order
-five_families : (n s u o p : Lines) → ((n ++ s) ++ u) ++ (o ++ p) ≡ n ++ (s ++ (u ++ (o ++ (p ++ []))))
-five_families n s u o p = append_assoc (n ++ s) u (o ++ p) ∙ append_assoc n s (u ++ (o ++ p)) ∙ ap (λ (l : Lines). n ++ (s ++ (u ++ (o ++ l)))) (sym (append-nil p))
+-- lines in whatever order, behind a part that is put exactly
+pub part_and_more : (old l1 l2 a b : Lines) → l1 ≡ old ++ a → SameLines l2 (l1 ++ b) → SameLines l2 ((old ++ a) ++ b)
+part_and_more old l1 l2 a b h1 more = record { often = λ q. more.often q ∙ ap (λ (l : Lines). times q (l ++ b)) h1 }
 
-pub all_families : (l1 l2 l3 l4 n s u o p : Lines) → l1 ≡ n → l2 ≡ l1 ++ s → l3 ≡ l2 ++ u → SameLines l4 (l3 ++ (o ++ p)) → SameLines l4 (n ++ (s ++ (u ++ (o ++ (p ++ [])))))
-all_families l1 l2 l3 l4 n s u o p h1 h2 h3 places =
-    let made = h3 ∙ ap (λ (l : Lines). l ++ u) (h2 ∙ ap (λ (l : Lines). l ++ s) h1) in
-    record { often = λ q. places.often q ∙ ap (times q) (ap (λ (l : Lines). l ++ (o ++ p)) made ∙ five_families n s u o p) }
+-- the six families of a design, in the order in which they are put
+pub all_families : (l1 l2 l3 l4 n s u o p t : Lines) → l1 ≡ n → SameLines l2 ((l1 ++ s) ++ t) → l3 ≡ l2 ++ u → SameLines l4 (l3 ++ (o ++ p))
+    → SameLines l4 (n ++ (s ++ (u ++ (o ++ (p ++ (t ++ []))))))
+all_families l1 l2 l3 l4 n s u o p t h1 named h3 places = record {
+  often = λ q.
+      let e1 : times q l1 ≡ times q n = ap (times q) h1 in
+      let e2 = named.often q in
+      let e3 : times q l3 ≡ times q (l2 ++ u) = ap (times q) h3 in
+      let e4 = places.often q in
+      let rest = times-append q n (s ++ (u ++ (o ++ (p ++ (t ++ []))))) in
+      let rest1 = times-append q s (u ++ (o ++ (p ++ (t ++ [])))) in
+      let rest2 = times-append q u (o ++ (p ++ (t ++ []))) in
+      let rest3 = times-append q o (p ++ (t ++ [])) in
+      let rest4 = times-append q p (t ++ []) in
+      let rest5 : times q (t ++ []) ≡ times q t = ap (times q) (append-nil t) in
+      omega (arith, e1, e2, e3, e4, rest, rest1, rest2, rest3, rest4, rest5, times-append q (l1 ++ s) t, times-append q l1 s, times-append q l2 u, times-append q l3 (o ++ p), times-append q o p);
+}

@@ -3,6 +3,7 @@
 ghost use Rattle.std.specs.Prelude.{◌≡◌, ◌++◌, ◌<◌, ◌≤◌, IfOk, IsOk, OnOk, flat_map, map};
 ghost use Rattle.def_grammar.specs.Records.{read_def};
 ghost use Rattle.def_reader.specs.StatementViews.{record_view};
+ghost use Rattle.connection_rules.specs.NetLines.{net_lines};
 ghost use Rattle.design_rules.specs.Boxes.{scale};
 ghost use Rattle.report_rules.specs.Diagnostics.{statement_lines};
 ghost use Rattle.design_rules.specs.OverlapLines.{overlap_lines};
@@ -25,6 +26,7 @@ use line_laws::one::components_in_any_order;
 use line_laws::same::{maps_are_same, permutations_are_same};
 use line_laws::scales::scales_are_good;
 use line_laws::sorting::same_lines_sort_alike;
+use net_checks::with_net_lines;
 use place_checks::blocked::blocked_of;
 use place_checks::boxes::boxes_of;
 use place_checks::count::counts_of;
@@ -67,22 +69,26 @@ fn put_each<'t, A: Allocator + Copy>(
     Ok(())
 }
 
-/// Puts the lines on each statement of a design by itself behind others.
-fn put_statements<'t, A: Allocator + Copy>(
+/// Puts the lines on each statement of a design by itself behind others, and those on its nets, in an order that is left open.
+fn put_named<'t, A: Allocator + Copy>(
     alloc: A,
     library: &Library<'_, A>,
     records: &[Statement<'t>],
-    lines: &mut Lines<A>,
-) -> Result<(), AllocError>
-    ensures { let design = map record_view records.entry.now in OnOk result (lines.new ≡ lines.old ++ flat_map (statement_lines library.now design) design) }
+    lines: Lines<A>,
+) -> Result<Lines<A>, AllocError>
+    requires some { 0 < scale (map record_view records.now) }
+    requires few { scale (map record_view records.now) ≤ 100000 }
+    ensures { let design = map record_view records.entry.now in
+        IfOk result (λ l. SameLines l ((lines ++ flat_map (statement_lines library.now design) design) ++ net_lines library.now design (scale design))) }
 {
     let names = names_of(alloc, records)?;
     let defined = Defined {
         library,
         names: &names,
     };
-    put_each(alloc, &defined, records, lines)?;
-    Ok(())
+    let mut lines = lines;
+    put_each(alloc, &defined, records, &mut lines)?;
+    with_net_lines(alloc, library, &names, lines)
 }
 
 /// Puts the lines on components and what they stand in behind others, in the order of a sweep over them.
@@ -125,7 +131,7 @@ pub fn report<'t, A: Allocator + Copy>(
     let records = statements_of(alloc, text)?;
     let mut lines = Lines::new(alloc);
     counts_of(&records, &mut lines)?;
-    put_statements(alloc, library, &records, &mut lines)?;
+    let mut lines = put_named(alloc, library, &records, lines)?;
     unchecked_in_library(library, &mut lines)?;
     put_places(alloc, library, &records, &mut lines)?;
     Ok(lines.into_sorted())

@@ -3,6 +3,8 @@ use Rattle.std.specs.Prelude.{ℕ, List, [], ◌∷◌, ◌++◌, flat_map}
 use Rattle.design_model.specs.Order.{sorted_by_bytes}
 use Rattle.def_grammar.specs.Records.{Record}
 use Rattle.lef_grammar.specs.Library.{Library}
+use Rattle.connection_rules.specs.NetLines.{net_lines}
+use Rattle.design_rules.specs.Boxes.{scale}
 use Rattle.design_rules.specs.CountLines.{count_lines}
 use Rattle.design_rules.specs.OverlapLines.{overlap_lines}
 use Rattle.design_rules.specs.PlaceLines.{place_lines}
@@ -25,7 +27,8 @@ design_families =
     (λ library design. count_lines design)
     ∷ (λ library design. flat_map (statement_lines library design) design)
     ∷ (λ library design. unchecked_in_library library)
-    ∷ overlap_lines ∷ place_lines ∷ []
+    ∷ overlap_lines ∷ place_lines
+    ∷ (λ library design. net_lines library design (scale design)) ∷ []
 
 -- all lines, each family after the other
 abbrev pub all_lines : Library → List Record → List (List ℕ)
