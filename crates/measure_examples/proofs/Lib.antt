@@ -1,0 +1,3 @@
+mod CellRows
+mod LengthRows
+mod Measuring

@@ -1,0 +1,4 @@
+pub mod Density
+pub mod GridCells
+pub mod Lengths
+pub mod NetBoxes
