@@ -52,9 +52,12 @@ between (l ∷ []) n = None
 between (l ∷ m ∷ ls) zero = Some (l, m)
 between (l ∷ m ∷ ls) (suc n) = between (m ∷ ls) n
 
--- the cell in a column and a row, each counted from 0, where there is one
-abbrev pub cell_at : List Record → ℕ → ℕ → Option Rectangle
-cell_at design i j = do
-  (x1, x2) ← between (columns design) i
-  (y1, y2) ← between (rows design) j
+-- the cell in a column and a row among lines, each counted from 0, where there is one
+abbrev pub cell_among : List ℤ → List ℤ → ℕ → ℕ → Option Rectangle
+cell_among columns rows i j = do
+  (x1, x2) ← between columns i
+  (y1, y2) ← between rows j
   Some (record { x1 = x1; y1 = y1; x2 = x2; y2 = y2 })
+
+abbrev pub cell_at : List Record → ℕ → ℕ → Option Rectangle
+cell_at design i j = cell_among (columns design) (rows design) i j
