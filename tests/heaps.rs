@@ -4,7 +4,7 @@ use crate::texts::TWO_INVERTERS;
 use cell_library::lef_texts::LefTexts;
 use cell_library::library::Library;
 use counted_devices::counted::Counted;
-use design_model::edit::{Done, Edit, EditRefusal};
+use edit_model::edit::{Done, Edit, EditRefusal};
 use design_model::geometry::Orient;
 use edit_script::run::{RunFault, Tally, run};
 use edit_session::session::Session;

@@ -5,7 +5,7 @@ use cell_library::lef_texts::LefTexts;
 use cell_library::library::Library;
 use counted_devices::counted::Counted;
 use design_model::diagnostic::DiagLines;
-use design_model::edit::{Done, Edit, EditCode, EditRefusal};
+use edit_model::edit::{Done, Edit, EditCode, EditRefusal};
 use design_model::geometry::Orient;
 use edit_session::session::Session;
 use std::alloc::Global;

@@ -9,8 +9,8 @@ use Rattle.std.proofs.lemmas.List.{length-map}
 use Rattle.std.proofs.lemmas.Bool.Decides.{nat_tests}
 use Rattle.design_model.specs.EnumWords.{orient_word, status_word}
 use Rattle.def_grammar.specs.Parts.{orient, point}
-use Rattle.design_model.specs.declared.edit.EditCode.{EditCode}
-use Rattle.design_model.specs.declared.edit.EditCode.TheVariants.{TooLong}
+use Rattle.edit_model.specs.declared.edit.EditCode.{EditCode}
+use Rattle.edit_model.specs.declared.edit.EditCode.TheVariants.{TooLong}
 use Rattle.design_model.specs.declared.geometry.Orient.{Orient}
 use Rattle.form_meanings.specs.Meaning.{spell_all}
 use Rattle.statement_model.specs.Tokens.{Token}
@@ -19,17 +19,17 @@ use Rattle.statement_model.specs.Form.{spell}
 use Rattle.statement_model.specs.Reading.{pos_of}
 use Rattle.def_grammar.specs.Components.{Clause, placed, unplaced, Component, clause, component_form, is_placing, placement}
 use Rattle.def_grammar.specs.Placing.{placing, is_held}
-use Rattle.design_model.specs.declared.edit.EditRefusal.{EditRefusal}
-use Rattle.design_model.specs.declared.edit.EditRefusal.TheVariants.{Refused, Unreadable, Memory}
+use Rattle.edit_model.specs.declared.edit.EditRefusal.{EditRefusal}
+use Rattle.edit_model.specs.declared.edit.EditRefusal.TheVariants.{Refused, Unreadable, Memory}
 use Rattle.lef_grammar.specs.Library.{Library}
-use Rattle.design_rules.specs.ComponentEdits.{place_at, component_plan, fixed_part, is_out, place_change, place_plan, placed_text, tokens_of}
-use Rattle.design_rules.specs.Edits.{place}
+use Rattle.edit_rules.specs.ComponentEdits.{place_at, component_plan, fixed_part, is_out, place_change, place_plan, placed_text, tokens_of}
+use Rattle.edit_rules.specs.Edits.{place}
 use Rattle.def_grammar.specs.Located.{located, component_at}
-use Rattle.design_rules.specs.Plans.{cut_of, is_long, outcome_of}
+use Rattle.edit_rules.specs.Plans.{cut_of, is_long, outcome_of}
 use Rattle.lefdef_tokens.specs.TokenViews.{end_after, pieces_of, span_of, words_of}
 use Rattle.lefdef_tokens.specs.declared.token_run.TokenRun.{TokenRun}
 use Rattle.place_parts.specs.PlacingViews.{IsPlacing}
-use Rattle.design_rules.specs.Runs.{Makes, MayWantMemory}
+use Rattle.edit_rules.specs.Runs.{Makes, MayWantMemory}
 use Rattle.def_splice.specs.SpliceViews.{clause_cut, Follows, MakesSplices}
 
 end_is : (p : Token) (ps : List Token) → end_after (end_of p) ps ≡ end_of_all (p ∷ ps)

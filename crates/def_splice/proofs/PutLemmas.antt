@@ -2,7 +2,7 @@
 use Rattle.std.proofs.Common.{◌≡◌, ℕ, suc, ◌-◌, false, not, List, [], ◌∷◌, length, Option, Some, None, arith, refl, ap, ◌∙◌}
 use Rattle.std.specs.Prelude.{slice_get, Bool}
 use Rattle.statement_model.specs.Tokens.{is_white}
-use Rattle.design_rules.specs.Plans.{ends_open}
+use Rattle.edit_rules.specs.Plans.{ends_open}
 
 -- bytes end open by this last one, if there is any
 abbrev pub open_by : Option ℕ → Bool

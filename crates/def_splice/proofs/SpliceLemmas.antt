@@ -2,7 +2,7 @@
 use Rattle.std.proofs.Common.{◌≡◌, ◌≤◌, ◌<◌, ◌+◌, ℕ, List, [], ◌∷◌, arith, length, drop, get_or, subst, sym}
 use Rattle.std.proofs.lemmas.List.{drop_more}
 use Rattle.def_splice.specs.SpliceViews.{AreInOrder}
-use Rattle.design_model.specs.declared.edit.Splice.{Splice}
+use Rattle.edit_model.specs.declared.edit.Splice.{Splice}
 
 -- splices in order from a place leave room for that place
 pub in_order-start : {A : Type 0} (at : ℕ) (ss : List (Splice A)) (n : ℕ) → AreInOrder at ss n → at ≤ n

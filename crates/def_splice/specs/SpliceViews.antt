@@ -1,19 +1,19 @@
 -- Splices of the program as cuts of the definitions.
 use Rattle.std.specs.Prelude.{◌≡◌, ◌≤◌, ◌-◌, ◌++◌, ℕ, true, false, List, [], ◌∷◌, codes, length, map, take, Option, Some, None, Result, Ok, Err}
 use Rattle.std.specs.Option.{option_map}
-use Rattle.design_model.specs.declared.edit.EditCode.TheVariants.{Fixed}
-use Rattle.design_model.specs.declared.edit.EditRefusal.{EditRefusal}
-use Rattle.design_model.specs.declared.edit.EditRefusal.TheVariants.{Refused, Unreadable, Memory}
-use Rattle.design_model.specs.declared.edit.Splice.{Splice}
+use Rattle.edit_model.specs.declared.edit.EditCode.TheVariants.{Fixed}
+use Rattle.edit_model.specs.declared.edit.EditRefusal.{EditRefusal}
+use Rattle.edit_model.specs.declared.edit.EditRefusal.TheVariants.{Refused, Unreadable, Memory}
+use Rattle.edit_model.specs.declared.edit.Splice.{Splice}
 use Rattle.statement_model.specs.Cuts.{Cut, end_of_all, with_cuts}
 use Rattle.statement_model.specs.Reading.{pos_of}
 use Rattle.statement_model.specs.Tokens.{Token}
 use Rattle.def_grammar.specs.Components.{Clause}
 use Rattle.def_grammar.specs.Placing.{is_held}
 use Rattle.lef_grammar.specs.Library.{Library}
-use Rattle.design_rules.specs.Edits.{Change}
-use Rattle.design_rules.specs.Plans.{Plan, outcome_of, put_apart}
-use Rattle.design_rules.specs.Runs.{Makes, MayWantMemory, WantsMemory}
+use Rattle.edit_rules.specs.Edits.{Change}
+use Rattle.edit_rules.specs.Plans.{Plan, outcome_of, put_apart}
+use Rattle.edit_rules.specs.Runs.{Makes, MayWantMemory, WantsMemory}
 
 abbrev pub cut_view : {A : Type 0} → Splice A → Cut
 cut_view s = record { lo = s.lo; hi = s.hi; put = s.put }

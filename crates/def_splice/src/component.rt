@@ -3,14 +3,14 @@
 ghost use Rattle.std.specs.Prelude.{◌≡◌, ◌≤◌, length, IfOk, IsOk};
 ghost use Rattle.design_model.specs.declared.TheConstants.{MAX_TEXT};
 ghost use Rattle.def_grammar.specs.Records.{read_def};
-ghost use Rattle.design_rules.specs.Edits.{change_of, place};
+ghost use Rattle.edit_rules.specs.Edits.{change_of, place};
 ghost use Rattle.def_splice.specs.SpliceViews.{AreInOrder, MakesSplices};
 
 use crate::lookups::component_entry;
 use crate::place::place_splice;
 use cell_library::library::Library;
 use design_model::MAX_TEXT;
-use design_model::edit::{Edit, EditCode, EditRefusal, Splices};
+use edit_model::edit::{Edit, EditCode, EditRefusal, Splices};
 use design_model::geometry::Orient;
 use design_model::sequence::Sequence;
 use std::alloc::Allocator;

@@ -4,7 +4,7 @@ ghost use Rattle.std.specs.Prelude.{◌≡◌, ◌≤◌, ◌∷◌, [], length,
 ghost use Rattle.def_splice.specs.SpliceViews.{made, AreInOrder};
 
 use crate::spliced::spliced;
-use design_model::edit::{Splice, Splices};
+use edit_model::edit::{Splice, Splices};
 use std::alloc::{AllocError, Allocator};
 
 /// Makes one splice: only the bytes behind it are moved. A refused growth leaves the text as it was.

@@ -7,8 +7,8 @@ ghost use Rattle.statement_model.specs.Cuts.{with_cuts};
 ghost use Rattle.statement_model.specs.Form.{spell};
 ghost use Rattle.def_grammar.specs.Components.{component_form};
 ghost use Rattle.def_grammar.specs.Placing.{is_held};
-ghost use Rattle.design_rules.specs.ComponentEdits.{is_out, place_plan};
-ghost use Rattle.design_rules.specs.Plans.{is_long};
+ghost use Rattle.edit_rules.specs.ComponentEdits.{is_out, place_plan};
+ghost use Rattle.edit_rules.specs.Plans.{is_long};
 ghost use Rattle.lefdef_tokens.specs.Views.{pieces_of, words_of};
 ghost use Rattle.place_parts.specs.ClauseViews.{clause_view};
 ghost use Rattle.place_parts.specs.ComponentViews.{component_view};
@@ -16,7 +16,7 @@ ghost use Rattle.def_splice.specs.SpliceViews.{clause_cut, cut_view, Follows, Mo
 
 use crate::put::{placed_text, put_apart};
 use design_model::MAX_TEXT;
-use design_model::edit::{EditCode, EditRefusal, Splice};
+use edit_model::edit::{EditCode, EditRefusal, Splice};
 use design_model::geometry::{Orient, Status};
 use lefdef_tokens::TokenRun;
 use place_parts::component_parts::ComponentParts;

@@ -3,11 +3,11 @@
 ghost use Rattle.std.specs.Prelude.{◌≡◌, ◌≤◌, ◌++◌, drop, length, IfOk};
 ghost use Rattle.statement_model.specs.Cuts.{space_before};
 ghost use Rattle.statement_model.specs.Tokens.{is_white};
-ghost use Rattle.design_rules.specs.ComponentEdits.{placed_text};
-ghost use Rattle.design_rules.specs.Plans.{ends_open, put_apart, space_between};
+ghost use Rattle.edit_rules.specs.ComponentEdits.{placed_text};
+ghost use Rattle.edit_rules.specs.Plans.{ends_open, put_apart, space_between};
 ghost use Rattle.def_splice.specs.SpliceViews.{cut_view};
 
-use design_model::edit::Splice;
+use edit_model::edit::Splice;
 use design_model::geometry::Orient;
 use design_model::sequence::Sequence;
 use itoa::Buffer;

@@ -3,7 +3,7 @@
 ghost use Rattle.std.specs.Prelude.{◌≡◌, ◌≤◌, length, IfOk};
 ghost use Rattle.def_splice.specs.SpliceViews.{made, AreInOrder};
 
-use design_model::edit::Splice;
+use edit_model::edit::Splice;
 use std::alloc::{AllocError, Allocator};
 
 /// Room for the text with the splices made, so that it is not grown by doubling.

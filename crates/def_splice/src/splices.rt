@@ -3,13 +3,13 @@
 ghost use Rattle.std.specs.Prelude.{◌≡◌, ◌≤◌, length, IfOk, IsOk};
 ghost use Rattle.design_model.specs.declared.TheConstants.{MAX_TEXT};
 ghost use Rattle.def_grammar.specs.Records.{read_def};
-ghost use Rattle.design_rules.specs.Edits.{change_of};
+ghost use Rattle.edit_rules.specs.Edits.{change_of};
 ghost use Rattle.def_splice.specs.SpliceViews.{AreInOrder, MakesSplices};
 
 use crate::component::component_splices;
 use cell_library::library::Library;
 use design_model::MAX_TEXT;
-use design_model::edit::{Edit, EditRefusal, Splices};
+use edit_model::edit::{Edit, EditRefusal, Splices};
 use std::alloc::Allocator;
 
 /// The splices of an edit of a text that reads, in the order of their places, or why the edit is refused: the lowest

@@ -1,8 +1,8 @@
 -- Worked rows of edits of a design, by computing.
 use Rattle.std.proofs.Common.{◌≡◌, ◌++◌, true, false, List, ℕ, [], ◌∷◌, Ok, Err, Result, Option, Some, None, refl, codes, pos, negsuc}
 use Rattle.design_model.specs.declared.fault.Fault.{Fault}
-use Rattle.design_model.specs.declared.edit.EditCode.{EditCode}
-use Rattle.design_model.specs.declared.edit.EditCode.TheVariants.{UnknownName, Fixed, Number}
+use Rattle.edit_model.specs.declared.edit.EditCode.{EditCode}
+use Rattle.edit_model.specs.declared.edit.EditCode.TheVariants.{UnknownName, Fixed, Number}
 use Rattle.design_model.specs.declared.geometry.Orient.TheVariants.{N, FN}
 use Rattle.form_meanings.specs.Words.{Rest, start}
 use Rattle.statement_model.specs.Tokens.{lex, tokens}
@@ -12,9 +12,9 @@ use Rattle.statement_model.specs.Form.{read}
 use Rattle.def_grammar.specs.Components.{Component, component_form}
 use Rattle.def_grammar.specs.Records.{Record, read_def}
 use Rattle.lef_grammar.specs.Library.{empty_library}
-use Rattle.design_rules.specs.ComponentEdits.{place_change}
-use Rattle.design_rules.specs.Edits.{Change, place, cuts_of, applied}
-use Rattle.design_rules.specs.Plans.{cut_of, lowest}
+use Rattle.edit_rules.specs.ComponentEdits.{place_change}
+use Rattle.edit_rules.specs.Edits.{Change, place, cuts_of, applied}
+use Rattle.edit_rules.specs.Plans.{cut_of, lowest}
 use Rattle.definition_examples.proofs.Computing.{def_texts}
 
 -- a design of one component with these clauses

@@ -1,8 +1,8 @@
 -- Worked rows of showing an entry, by computing.
 use Rattle.std.proofs.Common.{◌≡◌, ◌++◌, List, ℕ, [], ◌∷◌, Ok, Err, Result, refl, codes, map}
 use Rattle.std.specs.Fmt.{digits}
-use Rattle.design_model.specs.declared.edit.EditCode.{EditCode}
-use Rattle.design_model.specs.declared.edit.EditCode.TheVariants.{UnknownName}
+use Rattle.edit_model.specs.declared.edit.EditCode.{EditCode}
+use Rattle.edit_model.specs.declared.edit.EditCode.TheVariants.{UnknownName}
 use Rattle.design_model.specs.declared.fault.Fault.{Fault}
 use Rattle.design_model.specs.declared.mode.Section.{Section}
 use Rattle.design_model.specs.declared.mode.Section.TheVariants.{Components, Pins, Nets, Blockages, Fills}
@@ -10,7 +10,7 @@ use Rattle.design_model.specs.EnumWords.{section_word}
 use Rattle.def_grammar.specs.Records.{Record, read_def}
 use Rattle.lef_grammar.specs.Library.{empty_library}
 use Rattle.report_rules.specs.Output.{answer_to, asked_line, asked_counts, no_lines}
-use Rattle.design_rules.specs.Script.{shown, bad, ask, order_of, script_lines}
+use Rattle.edit_rules.specs.Script.{shown, bad, ask, order_of, script_lines}
 use Rattle.definition_examples.proofs.Computing.{def_texts}
 use Rattle.definition_examples.proofs.DefRows.{units_line}
 

@@ -4,9 +4,9 @@ use Rattle.std.specs.Fmt.{digits}
 use Rattle.design_model.specs.declared.fault.Fault.{Fault}
 use Rattle.design_model.specs.declared.fault.FaultCode.{FaultCode}
 use Rattle.design_model.specs.declared.fault.FaultCode.TheVariants.{OpenString, NoForm, Unfinished, NameTaken}
-use Rattle.design_model.specs.declared.edit.EditCode.TheVariants.{Number, Range}
-use Rattle.design_model.specs.declared.edit.EditRefusal.{EditRefusal}
-use Rattle.design_model.specs.declared.edit.EditRefusal.TheVariants.{Refused, Unreadable}
+use Rattle.edit_model.specs.declared.edit.EditCode.TheVariants.{Number, Range}
+use Rattle.edit_model.specs.declared.edit.EditRefusal.{EditRefusal}
+use Rattle.edit_model.specs.declared.edit.EditRefusal.TheVariants.{Refused, Unreadable}
 use Rattle.design_model.specs.declared.geometry.Orient.TheVariants.{N}
 use Rattle.design_model.specs.declared.geometry.Status.TheVariants.{Placed}
 use Rattle.design_model.specs.declared.mode.Section.TheVariants.{Components}
@@ -19,11 +19,11 @@ use Rattle.def_grammar.specs.Records.{Record, top, end_section, entry, component
 use Rattle.lef_grammar.specs.Library.{Library, empty_library}
 use Rattle.design_rules.specs.Boxes.{Boxed}
 use Rattle.report_rules.specs.Diagnostics.{diagnostics}
-use Rattle.design_rules.specs.Edits.{place}
+use Rattle.edit_rules.specs.Edits.{place}
 use Rattle.design_model.specs.Families.{pair_lines}
 use Rattle.design_rules.specs.OverlapLines.{overlap_of}
-use Rattle.design_rules.specs.Runs.{design_edit, text_edit, text_outcome}
-use Rattle.design_rules.specs.Script.{report, nothing, make, refuse, ask, bad, order_of, script_lines, unescaped}
+use Rattle.edit_rules.specs.Runs.{design_edit, text_edit, text_outcome}
+use Rattle.edit_rules.specs.Script.{report, nothing, make, refuse, ask, bad, order_of, script_lines, unescaped}
 use Rattle.connection_examples.proofs.NetTexts as net_texts
 use Rattle.connection_examples.proofs.NetTexts.{net_words}
 use Rattle.place_rules.specs.Covering.{is_covered}

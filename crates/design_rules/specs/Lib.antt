@@ -1,10 +1,5 @@
 pub mod Boxes
-pub mod ComponentEdits
 pub mod CountLines
-pub mod Edits
 pub mod OverlapLines
 pub mod PlaceLines
-pub mod Plans
-pub mod Runs
-pub mod Script
 pub mod Surroundings

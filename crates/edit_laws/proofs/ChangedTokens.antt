@@ -6,7 +6,7 @@ use Rattle.statement_model.specs.Tokens.{Token, left_from}
 use Rattle.statement_model.specs.Boundaries.{words}
 use Rattle.statement_model.specs.Cuts.{Cut, cut_from, end_of, end_of_all}
 use Rattle.statement_model.specs.Reading.{pos_of}
-use Rattle.design_rules.specs.Plans.{StatementChange, taken_tokens, tokens_before, put_apart, cut_of, cuts_for}
+use Rattle.edit_rules.specs.Plans.{StatementChange, taken_tokens, tokens_before, put_apart, cut_of, cuts_for}
 use Rattle.lefdef_tokens.specs.Laws.{BeginsApart}
 use Rattle.splicing_laws.specs.KeepingLaws.{AreInOrder}
 use Rattle.splicing_laws.specs.SplicingLaws.{AreTokens, HasWords, TokensBegin, TokensEnd, TokensArePut}

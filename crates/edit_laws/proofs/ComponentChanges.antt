@@ -3,7 +3,7 @@ use Rattle.std.proofs.Common.{◌≡◌, inl, inr, ℕ, Bool, true, false, ◌||
 use Rattle.std.specs.Str.{bytes_eq}
 use Rattle.std.proofs.lemmas.Bool.{cases_Bool as cases, or_parts}
 use Rattle.std.proofs.lemmas.Slice.Eq.{bytes_eq-Decides}
-use Rattle.design_model.specs.declared.edit.EditCode.TheVariants.{Fixed, Number}
+use Rattle.edit_model.specs.declared.edit.EditCode.TheVariants.{Fixed, Number}
 use Rattle.design_model.specs.declared.mode.Mode.TheVariants.{Top}
 use Rattle.design_model.specs.declared.mode.Section.TheVariants.{Components}
 use Rattle.statement_model.specs.Tokens.{Token}
@@ -14,10 +14,10 @@ use Rattle.def_grammar.specs.Components.{Clause, Component}
 use Rattle.def_grammar.specs.Placing.{placing, is_held}
 use Rattle.def_grammar.specs.Records.{Entry, component, Record, top, in_properties, end_section, entry, entry_key, key_of, read_def}
 use Rattle.lef_grammar.specs.Library.{Library}
-use Rattle.design_rules.specs.ComponentEdits.{ComponentChange, place_at, placed_component, placing_change, place_change, is_out, edited_component, entry_plan, component_plan}
-use Rattle.design_rules.specs.Edits.{of_component, on_component, on_entry, applied}
+use Rattle.edit_rules.specs.ComponentEdits.{ComponentChange, place_at, placed_component, placing_change, place_change, is_out, edited_component, entry_plan, component_plan}
+use Rattle.edit_rules.specs.Edits.{of_component, on_component, on_entry, applied}
 use Rattle.def_grammar.specs.Located.{located, component_at}
-use Rattle.design_rules.specs.Plans.{StatementChange, lowest}
+use Rattle.edit_rules.specs.Plans.{StatementChange, lowest}
 use Rattle.edit_laws.specs.ComponentLaws.{ComponentsAreFound, ComponentPlansAreMade, ComponentPlansAreOne}
 use Rattle.edit_laws.specs.EntryLaws.{IsWritten, IsEditOf, EntriesAreWritten, OneIsEdited}
 use Rattle.edit_laws.specs.PlacingLaws.{PlacingsAreChanges}

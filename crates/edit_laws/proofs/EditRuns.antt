@@ -1,16 +1,16 @@
 -- Runs of edits, from outputs and over texts that read.
 use Rattle.std.proofs.Common.{◌≡◌, ℕ, ◌+◌, Bool, true, false, List, [], ◌∷◌, ◌++◌, Result, Ok, Err, refl, sym, subst, if◌then◌else◌}
 use Rattle.std.specs.Prelude.{IsOk}
-use Rattle.design_model.specs.declared.edit.Done.{Done}
-use Rattle.design_model.specs.declared.edit.EditCode.TheVariants as codes_of
-use Rattle.design_model.specs.declared.edit.EditRefusal.{EditRefusal}
-use Rattle.design_model.specs.declared.edit.EditRefusal.TheVariants.{Refused, Unreadable, Memory}
+use Rattle.edit_model.specs.declared.edit.Done.{Done}
+use Rattle.edit_model.specs.declared.edit.EditCode.TheVariants as codes_of
+use Rattle.edit_model.specs.declared.edit.EditRefusal.{EditRefusal}
+use Rattle.edit_model.specs.declared.edit.EditRefusal.TheVariants.{Refused, Unreadable, Memory}
 use Rattle.design_model.specs.declared.fault.Fault.{Fault}
 use Rattle.def_grammar.specs.Records.{Record, read_def}
 use Rattle.lef_grammar.specs.Library.{Library}
-use Rattle.design_rules.specs.Edits.{applied, is_long}
-use Rattle.design_rules.specs.Runs.{Step, design_edit, text_edit, Answers, Run, in_range, if_it_reads, new_text}
-use Rattle.design_rules.specs.Script.{Order, nothing, make, refuse, ask, bad, order_of}
+use Rattle.edit_rules.specs.Edits.{applied, is_long}
+use Rattle.edit_rules.specs.Runs.{Step, design_edit, text_edit, Answers, Run, in_range, if_it_reads, new_text}
+use Rattle.edit_rules.specs.Script.{Order, nothing, make, refuse, ask, bad, order_of}
 use Rattle.report_rules.specs.Output.{Counts, LineAnswers}
 use Rattle.edit_laws.specs.EditLaws.{EditsAreApplied}
 use Rattle.edit_laws.specs.RunningLaws.{asked, edits_of, OutputsAreRuns, RunsKeepReading}

@@ -1,8 +1,8 @@
 -- A text with the cuts of an accepted edit made reads as the edited design, and keeps its other bytes.
 use Rattle.std.proofs.Common.{◌≡◌, List, [], ◌∷◌, length, sym, ap, subst, ◌∙◌}
 use Rattle.statement_model.specs.Cuts.{Cut}
-use Rattle.design_rules.specs.Edits.{of_component, plan_of, applied}
-use Rattle.design_rules.specs.Plans.{cut_of, cuts_for}
+use Rattle.edit_rules.specs.Edits.{of_component, plan_of, applied}
+use Rattle.edit_rules.specs.Plans.{cut_of, cuts_for}
 use Rattle.splicing_laws.specs.KeepingLaws.{IsOneCut, OneCutKeepsTheRest, AreInOrder}
 use Rattle.edit_laws.specs.ComponentLaws.{ComponentPlansAreMade, ComponentPlansAreOne}
 use Rattle.edit_laws.specs.EditLaws.{EditsAreApplied, EditsKeepTheRest}

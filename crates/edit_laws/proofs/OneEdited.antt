@@ -9,7 +9,7 @@ use Rattle.statement_model.specs.Boundaries.{statements}
 use Rattle.statement_model.specs.Grammar.{Key}
 use Rattle.statement_model.specs.Reading.{same_words}
 use Rattle.def_grammar.specs.Records.{Entry, section_of, Record, top, in_properties, end_section, entry, def_ending, entry_key, key_of, def}
-use Rattle.design_rules.specs.Edits.{on_entry}
+use Rattle.edit_rules.specs.Edits.{on_entry}
 use Rattle.edit_laws.specs.EntryLaws.{OneIsEdited}
 use Rattle.edit_laws.proofs.Keys.{Apart, stands_once}
 use Rattle.edit_laws.proofs.Stands.{seconds, split, whole_text}

@@ -13,7 +13,7 @@ use Rattle.def_grammar.specs.Numbers.{passes, is_int}
 use Rattle.def_grammar.specs.Parts.{as_point, point, orient}
 use Rattle.def_grammar.specs.Components.{is_status, Clause, placement, clause, component_form}
 use Rattle.def_grammar.specs.Placing.{placing, before_placing, after_placing, with_placing}
-use Rattle.design_rules.specs.ComponentEdits.{placement_at, is_out}
+use Rattle.edit_rules.specs.ComponentEdits.{placement_at, is_out}
 use Rattle.splicing_laws.specs.WordLaws.{PrintedNumbersAreWords, PrintedNumbersAreRead}
 use Rattle.edit_laws.specs.PlacingLaws.{PlacedComponentsFit}
 use Rattle.edit_laws.proofs.Moves.{Alike, Moves, word_moves, number_moves, one_of_moves, upto_moves, behind_moves, before_moves, closed_moves, seq_moves, alt_moves, seen_moves, neither, none_of, others_behind, fit_behind, others_good, good_behind}

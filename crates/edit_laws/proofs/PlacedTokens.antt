@@ -8,7 +8,7 @@ use Rattle.design_model.specs.EnumWords.{orient_word, status_word}
 use Rattle.statement_model.specs.Form.{spell}
 use Rattle.def_grammar.specs.Parts.{point, orient}
 use Rattle.def_grammar.specs.Components.{clause, placement}
-use Rattle.design_rules.specs.ComponentEdits.{placement_at, placed_text}
+use Rattle.edit_rules.specs.ComponentEdits.{placement_at, placed_text}
 use Rattle.splicing_laws.specs.SplicingLaws.{AreTokens}
 use Rattle.splicing_laws.specs.WordLaws.{is_one_word, spaced, SpacedAreTokens, PrintedNumbersAreWords}
 use Rattle.edit_laws.specs.PlacingLaws.{PlacementsAreTokens}

@@ -11,8 +11,8 @@ use Rattle.def_grammar.specs.Parts.{point, orient}
 use Rattle.def_grammar.specs.Components.{Clause, placed, unplaced, region, other, placement, clause, Component, component_form}
 use Rattle.def_grammar.specs.Placing.{placing, before_placing, after_placing, with_placing}
 use Rattle.def_grammar.specs.Records.{component, entry, entries_form}
-use Rattle.design_rules.specs.ComponentEdits.{fixed_part, placement_at, placed_component, placing_change, is_out}
-use Rattle.design_rules.specs.Plans.{StatementChange}
+use Rattle.edit_rules.specs.ComponentEdits.{fixed_part, placement_at, placed_component, placing_change, is_out}
+use Rattle.edit_rules.specs.Plans.{StatementChange}
 use Rattle.edit_laws.specs.EntryLaws.{IsWritten}
 use Rattle.edit_laws.specs.PlacingLaws.{PlacementsAreTokens, PlacedComponentsFit, PlacingsAreChanges}
 use Rattle.edit_laws.specs.StatementLaws.{changed_words, IsChange}

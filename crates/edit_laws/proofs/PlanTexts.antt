@@ -1,15 +1,15 @@
 -- A text with the cuts of an accepted plan made reads as the new design.
 use Rattle.std.proofs.Common.{◌≡◌, ℕ, Bool, true, false, List, [], ◌∷◌, ◌++◌, length, Option, Some, None, Result, Ok, arith, refl, subst, ⊎_elim}
 use Rattle.std.proofs.lemmas.Bool.{cases_Bool as cases}
-use Rattle.design_model.specs.declared.edit.EditCode.{EditCode}
-use Rattle.design_model.specs.declared.edit.EditCode.TheVariants.{TooLong}
+use Rattle.edit_model.specs.declared.edit.EditCode.{EditCode}
+use Rattle.edit_model.specs.declared.edit.EditCode.TheVariants.{TooLong}
 use Rattle.design_model.specs.declared.fault.Fault.{Fault}
 use Rattle.design_model.specs.declared.mode.Mode.TheVariants.{Top}
 use Rattle.statement_model.specs.Tokens.{tokens}
 use Rattle.statement_model.specs.Cuts.{Cut, with_cuts}
 use Rattle.statement_model.specs.Reading.{read_from, read_text}
 use Rattle.def_grammar.specs.Records.{Record, def, read_def}
-use Rattle.design_rules.specs.Plans.{Plan, cuts_for, lowest, unless, is_long, outcome_of}
+use Rattle.edit_rules.specs.Plans.{Plan, cuts_for, lowest, unless, is_long, outcome_of}
 use Rattle.splicing_laws.specs.KeepingLaws.{AreInOrder}
 use Rattle.edit_laws.specs.PlanLaws.{PlansAreApplied, PlansStandInOrder}
 use Rattle.edit_laws.specs.StatementLaws.{StatementsAreChanged, ChangesStandInOrder}

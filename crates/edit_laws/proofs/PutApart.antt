@@ -5,7 +5,7 @@ use Rattle.statement_model.specs.Tokens.{Open, Token, next_open, is_white, close
 use Rattle.statement_model.specs.Tokens.Open.{between, comment, word, string}
 use Rattle.statement_model.specs.Boundaries.{words}
 use Rattle.statement_model.specs.Cuts.{space_before}
-use Rattle.design_rules.specs.Plans.{ends_open, space_between}
+use Rattle.edit_rules.specs.Plans.{ends_open, space_between}
 use Rattle.lefdef_tokens.specs.Laws.{state_after, IsClosed, BeginsApart}
 use Rattle.splicing_laws.specs.SplicingLaws.{AreTokens, HasWords, TokensArePut}
 use Rattle.splicing_laws.proofs.SplicingWords.{space_first}

@@ -10,7 +10,7 @@ use Rattle.statement_model.specs.Folds.{all_from}
 use Rattle.statement_model.specs.Grammar.{Key}
 use Rattle.statement_model.specs.Reading.{read_one, at_last, read_from}
 use Rattle.def_grammar.specs.Records.{Record, def_ending, def}
-use Rattle.design_rules.specs.Plans.{StatementChange, cuts_for}
+use Rattle.edit_rules.specs.Plans.{StatementChange, cuts_for}
 use Rattle.splicing_laws.specs.SplicingLaws.{HasWords, TokensBegin, TokensEnd, TokensArePut}
 use Rattle.splicing_laws.proofs.SplicingWords.{HasWordsAt, at_place}
 use Rattle.edit_laws.specs.StatementLaws.{changed_words, forms, AreSaid, Make, StatementsAreChanged, ChangesStandInOrder, SameKeysAreOnce}

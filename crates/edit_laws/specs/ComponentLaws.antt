@@ -4,10 +4,10 @@ use Rattle.statement_model.specs.Tokens.{Token}
 use Rattle.def_grammar.specs.Components.{Component}
 use Rattle.def_grammar.specs.Records.{component, Record, entry, read_def}
 use Rattle.lef_grammar.specs.Library.{Library}
-use Rattle.design_rules.specs.ComponentEdits.{ComponentChange}
-use Rattle.design_rules.specs.Edits.{of_component, plan_of, applied}
+use Rattle.edit_rules.specs.ComponentEdits.{ComponentChange}
+use Rattle.edit_rules.specs.Edits.{of_component, plan_of, applied}
 use Rattle.def_grammar.specs.Located.{component_at}
-use Rattle.design_rules.specs.Plans.{StatementChange, lowest}
+use Rattle.edit_rules.specs.Plans.{StatementChange, lowest}
 use Rattle.edit_laws.specs.PlanLaws.{Plans}
 use Rattle.edit_laws.specs.StatementLaws.{StandsAmong}
 

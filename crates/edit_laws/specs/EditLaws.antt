@@ -3,7 +3,7 @@ use Rattle.std.specs.Prelude.{◌≡◌, ℕ, List, Ok}
 use Rattle.statement_model.specs.Cuts.{Cut, with_cuts}
 use Rattle.def_grammar.specs.Records.{Record, read_def}
 use Rattle.lef_grammar.specs.Library.{Library}
-use Rattle.design_rules.specs.Edits.{Change, cuts_of, applied}
+use Rattle.edit_rules.specs.Edits.{Change, cuts_of, applied}
 use Rattle.splicing_laws.specs.KeepingLaws.{IsOneCut}
 
 -- A text that reads, with the cuts of an accepted edit made, reads as the edited design.

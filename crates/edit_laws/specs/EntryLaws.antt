@@ -7,7 +7,7 @@ use Rattle.statement_model.specs.Grammar.{Key}
 use Rattle.statement_model.specs.Reading.{same_words, read_from}
 use Rattle.design_model.specs.declared.mode.Mode.{Mode}
 use Rattle.def_grammar.specs.Records.{Entry, section_of, name_of, Record, entry, entries_form, key_of, def}
-use Rattle.design_rules.specs.Edits.{on_entry}
+use Rattle.edit_rules.specs.Edits.{on_entry}
 use Rattle.edit_laws.specs.StatementLaws.{located_from, records, StandsAmong}
 
 -- words are those that an entry is spelled with, and it stands in the form of its section and has no invalid number

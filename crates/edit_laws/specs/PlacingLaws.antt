@@ -6,7 +6,7 @@ use Rattle.statement_model.specs.Boundaries.{words}
 use Rattle.statement_model.specs.Form.{spell, Fits}
 use Rattle.def_grammar.specs.Components.{Component, clause, component_form}
 use Rattle.def_grammar.specs.Records.{component, entry}
-use Rattle.design_rules.specs.ComponentEdits.{placement_at, placed_text, placed_component, place_change, is_out}
+use Rattle.edit_rules.specs.ComponentEdits.{placement_at, placed_text, placed_component, place_change, is_out}
 use Rattle.splicing_laws.specs.SplicingLaws.{AreTokens}
 use Rattle.edit_laws.specs.EntryLaws.{IsWritten}
 use Rattle.edit_laws.specs.StatementLaws.{IsChange}

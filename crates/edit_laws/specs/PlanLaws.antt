@@ -3,7 +3,7 @@ use Rattle.std.specs.Prelude.{◌≡◌, ℕ, List, [], length, None, Ok}
 use Rattle.statement_model.specs.Cuts.{Cut, with_cuts}
 use Rattle.def_grammar.specs.Records.{Record, read_def}
 use Rattle.def_grammar.specs.Located.{located}
-use Rattle.design_rules.specs.Plans.{Plan, lowest, outcome_of}
+use Rattle.edit_rules.specs.Plans.{Plan, lowest, outcome_of}
 use Rattle.splicing_laws.specs.KeepingLaws.{AreInOrder}
 use Rattle.edit_laws.specs.StatementLaws.{Make, AreOnce}
 

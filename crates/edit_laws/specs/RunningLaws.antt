@@ -1,11 +1,11 @@
 -- Laws of runs of edits.
 use Rattle.std.specs.Prelude.{ℕ, List, [], ◌∷◌, Result, IsOk, flat_map}
-use Rattle.design_model.specs.declared.edit.Done.{Done}
-use Rattle.design_model.specs.declared.edit.EditRefusal.{EditRefusal}
+use Rattle.edit_model.specs.declared.edit.Done.{Done}
+use Rattle.edit_model.specs.declared.edit.EditRefusal.{EditRefusal}
 use Rattle.def_grammar.specs.Records.{read_def}
 use Rattle.lef_grammar.specs.Library.{Library}
-use Rattle.design_rules.specs.Runs.{Step, Run}
-use Rattle.design_rules.specs.Script.{Order, nothing, make, refuse, ask, bad, order_of}
+use Rattle.edit_rules.specs.Runs.{Step, Run}
+use Rattle.edit_rules.specs.Script.{Order, nothing, make, refuse, ask, bad, order_of}
 use Rattle.report_rules.specs.Output.{Counts, Output}
 
 -- the edit that a line asks for

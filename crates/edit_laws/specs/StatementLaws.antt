@@ -8,7 +8,7 @@ use Rattle.statement_model.specs.Cuts.{cut_from}
 use Rattle.statement_model.specs.Grammar.{Key, Grammar}
 use Rattle.statement_model.specs.Reading.{repeats, with_key, read_form, read_from}
 use Rattle.def_grammar.specs.Records.{Record, def_ending, key_of, without_units, def}
-use Rattle.design_rules.specs.Plans.{StatementChange, cuts_for}
+use Rattle.edit_rules.specs.Plans.{StatementChange, cuts_for}
 use Rattle.statement_laws.specs.ReadingLaws.{ReadsAs}
 use Rattle.splicing_laws.specs.SplicingLaws.{AreTokens}
 use Rattle.splicing_laws.specs.KeepingLaws.{AreInOrder}

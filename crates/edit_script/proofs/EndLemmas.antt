@@ -5,7 +5,7 @@ use Rattle.counted_devices.specs.Known.{WritesPart}
 use Rattle.std.proofs.KnownBytes.{Appends-nil}
 use Rattle.lef_grammar.specs.Library.{Library, library_of}
 use Rattle.def_grammar.specs.Records.{read_def}
-use Rattle.design_rules.specs.Script.{script_lines}
+use Rattle.edit_rules.specs.Script.{script_lines}
 use Rattle.report_rules.specs.Output.{Counts}
 use Rattle.edit_script.specs.declared.run.RunFault.{RunFault}
 use Rattle.edit_script.specs.declared.run.RunFault.TheVariants as faults

@@ -1,10 +1,10 @@
 -- Bytes that are written with good escapes: how many there are, and the answer to the edit that puts them.
 use Rattle.std.proofs.Common.{◌≡◌, ℕ, List, length, Option, Some, None, Result, refl, subst, ap, sym, ◌∙◌}
 use Rattle.form_meanings.specs.Words.{◌>>=◌}
-use Rattle.design_model.specs.declared.edit.Done.{Done}
-use Rattle.design_model.specs.declared.edit.EditRefusal.{EditRefusal}
+use Rattle.edit_model.specs.declared.edit.Done.{Done}
+use Rattle.edit_model.specs.declared.edit.EditRefusal.{EditRefusal}
 use Rattle.lef_grammar.specs.Library.{Library}
-use Rattle.design_rules.specs.Script.{Order, unescaped}
+use Rattle.edit_rules.specs.Script.{Order, unescaped}
 use Rattle.report_rules.specs.Output.{Counts, LineAnswers, counted, reply_line}
 use Rattle.script_lines.specs.Escapes.{SpellsSome}
 use Rattle.script_lines.specs.Orders.{text_seen}

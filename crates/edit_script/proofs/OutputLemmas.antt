@@ -9,18 +9,18 @@ use Rattle.std.proofs.lemmas.List.Sums.{count_by-le-length}
 use Rattle.counted_devices.specs.Known.{WritesPart}
 use Rattle.std.proofs.KnownBytes.{Appends-nil, Appends-trans}
 use Rattle.design_model.specs.declared.fault.Fault.{Fault}
-use Rattle.design_model.specs.declared.edit.Done.{Done}
-use Rattle.design_model.specs.declared.edit.EditCode.TheVariants.{Range, TooLong}
-use Rattle.design_model.specs.declared.edit.EditRefusal.{EditRefusal}
-use Rattle.design_model.specs.declared.edit.EditRefusal.TheVariants.{Refused, Memory}
-use Rattle.design_model.specs.declared.edit.EditCode.{EditCode}
+use Rattle.edit_model.specs.declared.edit.Done.{Done}
+use Rattle.edit_model.specs.declared.edit.EditCode.TheVariants.{Range, TooLong}
+use Rattle.edit_model.specs.declared.edit.EditRefusal.{EditRefusal}
+use Rattle.edit_model.specs.declared.edit.EditRefusal.TheVariants.{Refused, Memory}
+use Rattle.edit_model.specs.declared.edit.EditCode.{EditCode}
 use Rattle.statement_model.specs.Cuts.{Cut}
-use Rattle.design_rules.specs.Edits.{Change, cuts_of, is_long}
+use Rattle.edit_rules.specs.Edits.{Change, cuts_of, is_long}
 use Rattle.lef_grammar.specs.Library.{Library}
 use Rattle.def_grammar.specs.Records.{Record}
 use Rattle.def_grammar.specs.Records.{read_def}
-use Rattle.design_rules.specs.Runs.{Step, design_edit, text_edit, Answers, Makes, new_text}
-use Rattle.design_rules.specs.Script.{Order, nothing, make, refuse, ask, bad, order_of, trimmed_lines, script_lines}
+use Rattle.edit_rules.specs.Runs.{Step, design_edit, text_edit, Answers, Makes, new_text}
+use Rattle.edit_rules.specs.Script.{Order, nothing, make, refuse, ask, bad, order_of, trimmed_lines, script_lines}
 use Rattle.report_rules.specs.Output.{Counts, LineAnswers, Output, reply_line, refusal_line, counted, answer_to, asked_counts, asked_line, bad_line, no_lines}
 use Rattle.edit_script.specs.Ends.{WritesRun, WritesRunPart}
 

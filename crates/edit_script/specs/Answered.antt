@@ -1,8 +1,8 @@
 -- What the answer to one line says.
 use Rattle.std.specs.Prelude.{◌≡◌, ◌≤◌, ◌<◌, ◌+◌, ◌^◌, ℕ, List, Option, Some, Result, Err, length}
-use Rattle.design_model.specs.declared.edit.Done.{Done}
-use Rattle.design_model.specs.declared.edit.EditRefusal.{EditRefusal}
-use Rattle.design_rules.specs.Runs.{Answers, text_edit}
+use Rattle.edit_model.specs.declared.edit.Done.{Done}
+use Rattle.edit_model.specs.declared.edit.EditRefusal.{EditRefusal}
+use Rattle.edit_rules.specs.Runs.{Answers, text_edit}
 use Rattle.lef_grammar.specs.Library.{Library}
 use Rattle.report_rules.specs.Output.{Counts}
 use Rattle.edit_script.specs.declared.run.Tally.{Tally}

@@ -3,7 +3,7 @@
 ghost use Rattle.std.specs.Prelude.{◌≡◌, ◌+◌, ◌<◌, ◌≤◌, ◌^◌, ◌⊎◌, IfErr, IfOk, IsErrOf, IsOk, OnErr, length};
 ghost use Rattle.counted_devices.specs.Counting.{HasFailed};
 ghost use Rattle.report_rules.specs.Output.{LineAnswers, counted, reply_line};
-ghost use Rattle.design_rules.specs.Script.{ask, order_of, script_lines, unescaped};
+ghost use Rattle.edit_rules.specs.Script.{ask, order_of, script_lines, unescaped};
 ghost use Rattle.def_grammar.specs.Records.{read_def};
 ghost use Rattle.edit_script.specs.Answered.{AnswersText, Grows, HasRoom, RefusesText, counts_of};
 ghost use Rattle.script_lines.specs.Orders.{question_seen};
@@ -15,7 +15,7 @@ use counted_devices::counted::{CountedRead, CountedWrite, Failures};
 use counted_devices::input::{InputError, read_whole};
 use counted_devices::output::{MAX_INTERRUPTIONS, write_whole};
 use design_model::MAX_TEXT;
-use design_model::edit::{Done, EditCode, EditRefusal};
+use edit_model::edit::{Done, EditCode, EditRefusal};
 use design_model::fault::{Fault, ReadError};
 use edit_session::session::Session;
 use script_lines::answer::{bad_text, check_text, entry_text, reply_text};

@@ -9,8 +9,8 @@ use Rattle.statement_model.specs.Cuts.{Cut, with_cuts}
 use Rattle.statement_model.specs.Reading.{read_text}
 use Rattle.def_grammar.specs.Records.{Record, read_def}
 use Rattle.lef_grammar.specs.Library.{Library}
-use Rattle.design_rules.specs.Edits.{Change, applied}
-use Rattle.design_rules.specs.Runs.{Makes}
+use Rattle.edit_rules.specs.Edits.{Change, applied}
+use Rattle.edit_rules.specs.Runs.{Makes}
 use Rattle.edit_laws.specs.EditLaws.{EditsAreApplied, EditsKeepTheRest}
 use Rattle.edit_session.specs.Sessions.{ReadsEdited, KeepsTheRest}
 

@@ -1,18 +1,19 @@
 -- What a script's run writes (own).
 use Rattle.std.specs.Prelude.{◌≡◌, ℕ, ◌+◌, List, [], ◌∷◌, ◌++◌, length, flat_map, Option, Some, None, Result, Ok, Err, codes, decimal}
-use Rattle.design_model.specs.declared.edit.Done.{Done}
-use Rattle.design_model.specs.declared.edit.EditCode.{EditCode}
-use Rattle.design_model.specs.declared.edit.EditCode.TheVariants.{UnknownName}
-use Rattle.design_model.specs.declared.edit.EditRefusal.{EditRefusal}
-use Rattle.design_model.specs.declared.edit.EditRefusal.TheVariants.{Refused, Unreadable}
-use Rattle.design_model.specs.Codes.{fault_number, refusal_number}
+use Rattle.edit_model.specs.declared.edit.Done.{Done}
+use Rattle.edit_model.specs.declared.edit.EditCode.{EditCode}
+use Rattle.edit_model.specs.declared.edit.EditCode.TheVariants.{UnknownName}
+use Rattle.edit_model.specs.declared.edit.EditRefusal.{EditRefusal}
+use Rattle.edit_model.specs.declared.edit.EditRefusal.TheVariants.{Refused, Unreadable}
+use Rattle.design_model.specs.Codes.{fault_number}
+use Rattle.edit_model.specs.Codes.{refusal_number}
 use Rattle.statement_model.specs.Tokens.{Token}
 use Rattle.def_grammar.specs.Records.{Record, read_def}
 use Rattle.lef_grammar.specs.Library.{Library}
 use Rattle.report_rules.specs.Diagnostics.{diagnostics}
 use Rattle.def_grammar.specs.Located.{located, bytes_of, entry_at}
-use Rattle.design_rules.specs.Runs.{Answers}
-use Rattle.design_rules.specs.Script.{Question, report, shown, Order, nothing, make, refuse, ask, bad, script_lines, order_of}
+use Rattle.edit_rules.specs.Runs.{Answers}
+use Rattle.edit_rules.specs.Script.{Question, report, shown, Order, nothing, make, refuse, ask, bad, script_lines, order_of}
 
 -- the answer to an edit in line n
 abbrev pub refusal_line : ℕ → EditRefusal → List ℕ

@@ -3,7 +3,7 @@ use Rattle.std.proofs.Common.{◌≡◌, ◌≢◌, ◌<◌, ◌+◌, ◌-◌, �
 use Rattle.std.proofs.lemmas.List.{take_rest}
 use Rattle.std.proofs.lemmas.Bool.Decides.{nat_tests}
 use Rattle.form_meanings.specs.Words.{◌>>=◌}
-use Rattle.design_rules.specs.Script.{escaped, unescaped}
+use Rattle.edit_rules.specs.Script.{escaped, unescaped}
 use Rattle.script_lines.specs.Escapes.{SpellsSome}
 
 abbrev behind : List ℕ → ℕ → List ℕ

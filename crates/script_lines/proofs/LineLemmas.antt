@@ -6,7 +6,7 @@ use Rattle.std.proofs.lemmas.List.{take_rest}
 use Rattle.std.proofs.lemmas.List.Splits.{slice_split-cons_yes, slice_split-cons_no, slice_split_first, length-slice_split}
 use Rattle.std.proofs.lemmas.List.Sums.{prefix_len-le-length}
 use Rattle.std.proofs.lemmas.List.Folds.{length-prefix_len}
-use Rattle.design_rules.specs.Script.{is_blank, is_some_word, line_words, past, after_word, ends_in_return, without_last_byte, trimmed, trimmed_lines, script_lines}
+use Rattle.edit_rules.specs.Script.{is_blank, is_some_word, line_words, past, after_word, ends_in_return, without_last_byte, trimmed, trimmed_lines, script_lines}
 
 abbrev is_black : ℕ → Bool
 is_black b = not (is_blank b)

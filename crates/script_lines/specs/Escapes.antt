@@ -2,7 +2,7 @@
 use Rattle.std.specs.Prelude.{◌≡◌, ◌<◌, ◌⊎◌, ℕ, List, [], ◌∷◌, length, Option, Some, None}
 use denote.Ref.{Bor}
 use Rattle.form_meanings.specs.Words.{◌>>=◌}
-use Rattle.design_rules.specs.Script.{unescaped}
+use Rattle.edit_rules.specs.Script.{unescaped}
 
 -- these bytes are written for so many
 abbrev pub SpellsSome : List ℕ → ℕ → Type 0

@@ -2,9 +2,9 @@
 use Rattle.std.specs.Prelude.{ℕ, List, Option, Some, None}
 use Rattle.design_model.specs.Units.{whole}
 use Rattle.form_meanings.specs.Words.{◌>>=◌}
-use Rattle.design_rules.specs.Edits.{change_of}
-use Rattle.design_rules.specs.Runs.{design_edit, text_edit}
-use Rattle.design_rules.specs.Script.{Question, report, shown, Order, nothing, make, refuse, ask, bad, range_order, unescaped}
+use Rattle.edit_rules.specs.Edits.{change_of}
+use Rattle.edit_rules.specs.Runs.{design_edit, text_edit}
+use Rattle.edit_rules.specs.Script.{Question, report, shown, Order, nothing, make, refuse, ask, bad, range_order, unescaped}
 use Rattle.script_lines.specs.declared.command.Command as command
 use Rattle.script_lines.specs.declared.command.Question as code_question
 use Rattle.script_lines.specs.declared.command.Command.{Command}

@@ -1,7 +1,7 @@
 -- The first line of a text, and the first word of a line.
 use Rattle.std.specs.Prelude.{◌≡◌, ℕ, List, [], ◌∷◌, Option, Some, None}
 use denote.Ref.{Bor}
-use Rattle.design_rules.specs.Script.{script_lines, line_words, after_word}
+use Rattle.edit_rules.specs.Script.{script_lines, line_words, after_word}
 
 -- the lines of what is left of a script, where there is something
 abbrev pub lines_left : Option (Bor (List ℕ)) → List (List ℕ)

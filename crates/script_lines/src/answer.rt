@@ -5,7 +5,7 @@ ghost use Rattle.design_model.specs.Order.{texts};
 ghost use Rattle.report_rules.specs.Output.{bad_line, refusal_line, reply_line, report_lines};
 
 use design_model::diagnostic::DiagLines;
-use design_model::edit::{Done, EditRefusal};
+use edit_model::edit::{Done, EditRefusal};
 use itoa::Buffer;
 use std::alloc::{AllocError, Allocator};
 use unit_numbers::print;

@@ -2,13 +2,13 @@
 
 ghost use Rattle.std.specs.Prelude.{◌≡◌, Some, drop};
 ghost use Rattle.form_meanings.specs.Words.{Gives};
-ghost use Rattle.design_rules.specs.Script.{check_order, first_word, named_order, number_or_out, order_of, place_order, show_order, text_order, unescaped, words_order};
+ghost use Rattle.edit_rules.specs.Script.{check_order, first_word, named_order, number_or_out, order_of, place_order, show_order, text_order, unescaped, words_order};
 ghost use Rattle.design_model.specs.Units.{whole};
 ghost use Rattle.script_lines.specs.Orders.{order_seen, text_or_none};
 
 use crate::escape::{EscapedBytes, checked};
 use crate::line::{four_words, next_word, no_words, two_words};
-use design_model::edit::{Edit, EditCode};
+use edit_model::edit::{Edit, EditCode};
 use design_model::geometry::Orient;
 use design_model::mode::Section;
 use design_model::word::is_word;

@@ -1,7 +1,7 @@
 //! The bytes that a `text` command puts, which it writes with escapes.
 
 ghost use Rattle.std.specs.Prelude.{◌≡◌, IfOk, Some, length};
-ghost use Rattle.design_rules.specs.Script.{escaped, unescaped};
+ghost use Rattle.edit_rules.specs.Script.{escaped, unescaped};
 ghost use Rattle.script_lines.specs.Escapes.{Checks, IsNextByte, SpellsSome};
 
 use std::alloc::{AllocError, Allocator};

@@ -3,7 +3,7 @@
 ghost use Rattle.std.specs.Prelude.{◌≡◌, ◌≤◌, ◌==◌, length, not};
 ghost use Rattle.std.specs.List.{prefix_len};
 ghost use Rattle.form_meanings.specs.Words.{Gives};
-ghost use Rattle.design_rules.specs.Script.{four_words, is_blank, line_words, no_words, one_word, past, three_words, trimmed, two_words};
+ghost use Rattle.edit_rules.specs.Script.{four_words, is_blank, line_words, no_words, one_word, past, three_words, trimmed, two_words};
 ghost use Rattle.script_lines.specs.Parts.{IsNextLine, IsNextWord};
 
 use bstr::ByteSlice;

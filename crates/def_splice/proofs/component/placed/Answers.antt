@@ -2,10 +2,10 @@ use Rattle.std.proofs.Common.{◌≡◌, [], ◌∷◌, Ok, Err, ap, rules, sym,
 use Rattle.std.proofs.lemmas.Result.{err_from_is_err_and}
 use Rattle.std.specs.Option.{option_map}
 use Rattle.def_grammar.specs.Records.{read_def}
-use Rattle.design_rules.specs.ComponentEdits.{place_plan}
-use Rattle.design_rules.specs.Edits.{place}
-use Rattle.design_rules.specs.Plans.{outcome_of}
-use Rattle.design_rules.specs.Runs.{Makes}
+use Rattle.edit_rules.specs.ComponentEdits.{place_plan}
+use Rattle.edit_rules.specs.Edits.{place}
+use Rattle.edit_rules.specs.Plans.{outcome_of}
+use Rattle.edit_rules.specs.Runs.{Makes}
 use Rattle.def_reader.specs.RecordViews.{entry_view}
 use Rattle.def_splice.specs.SpliceViews.{cut_view, Follows}
 use Rattle.def_splice.proofs.PlaceLemmas.{design_of, makes_so, refused_so}

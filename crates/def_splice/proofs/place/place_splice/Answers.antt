@@ -2,8 +2,8 @@ use Rattle.std.proofs.Common.{◌≡◌, ◌||◌, false, length, ap, refl, sym,
 use Rattle.std.proofs.lemmas.Result.{err_from_is_err_and}
 use Rattle.std.specs.Option.{option_map}
 use Rattle.def_grammar.specs.Placing.{placing, is_held}
-use Rattle.design_rules.specs.ComponentEdits.{is_out, place_change, placed_text}
-use Rattle.design_rules.specs.Plans.{cut_of}
+use Rattle.edit_rules.specs.ComponentEdits.{is_out, place_change, placed_text}
+use Rattle.edit_rules.specs.Plans.{cut_of}
 use Rattle.lefdef_tokens.specs.Views.{pieces_of}
 use Rattle.place_parts.specs.ClauseViews.{clause_view}
 use Rattle.place_parts.specs.ComponentViews.{component_view}

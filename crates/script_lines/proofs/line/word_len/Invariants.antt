@@ -1,6 +1,6 @@
 use Rattle.std.proofs.Common.{◌≡◌, ◌+◌, not, drop}
 use Rattle.std.specs.List.{prefix_len}
-use Rattle.design_rules.specs.Script.{is_blank}
+use Rattle.edit_rules.specs.Script.{is_blank}
 use Rattle.script_lines.proofs.line.word_len.Given as goal
 
 abbrev pub invariant-loop-byte : goal.invariant-loop-byte

@@ -1,9 +1,9 @@
 -- Edits of one component of a design (own): what they make of it, and the plan of each for its entry.
 use Rattle.std.specs.Prelude.{ℕ, ◌+◌, ◌-◌, Bool, ◌||◌, List, [], ◌∷◌, ◌++◌, length, Option, Some, None, ℤ, pos, neg_ℤ, int_lt, codes}
 use Rattle.std.specs.Fmt.{signed_decimal}
-use Rattle.design_model.specs.declared.edit.Edit.{Edit}
-use Rattle.design_model.specs.declared.edit.Edit.TheVariants as edits
-use Rattle.design_model.specs.declared.edit.EditCode.TheVariants.{UnknownName, Fixed, Number}
+use Rattle.edit_model.specs.declared.edit.Edit.{Edit}
+use Rattle.edit_model.specs.declared.edit.Edit.TheVariants as edits
+use Rattle.edit_model.specs.declared.edit.EditCode.TheVariants.{UnknownName, Fixed, Number}
 use Rattle.design_model.specs.declared.geometry.Orient.{Orient}
 use Rattle.design_model.specs.declared.geometry.Status.TheVariants.{Placed}
 use Rattle.design_model.specs.EnumWords.{orient_word}
@@ -14,7 +14,7 @@ use Rattle.def_grammar.specs.Components.{Clause, placed, Component, clause}
 use Rattle.def_grammar.specs.Placing.{placing, before_placing, with_placing, is_held}
 use Rattle.def_grammar.specs.Records.{component, entry}
 use Rattle.lef_grammar.specs.Library.{Library}
-use Rattle.design_rules.specs.Plans.{StatementChange, Plan, refused_plan}
+use Rattle.edit_rules.specs.Plans.{StatementChange, Plan, refused_plan}
 
 -- what is made of a component
 pub data ComponentChange : Type 0 where

@@ -1,16 +1,16 @@
 -- Edits of a design (own): the cuts that they make in a text, and what they make of its records.
 use Rattle.std.specs.Prelude.{ℕ, List, map, Result, ℤ, if◌then◌else◌}
 use Rattle.std.specs.Str.{bytes_eq}
-use Rattle.design_model.specs.declared.edit.Edit.{Edit}
-use Rattle.design_model.specs.declared.edit.EditCode.{EditCode}
+use Rattle.edit_model.specs.declared.edit.Edit.{Edit}
+use Rattle.edit_model.specs.declared.edit.EditCode.{EditCode}
 use Rattle.design_model.specs.declared.geometry.Orient.{Orient}
 use Rattle.statement_model.specs.Cuts.{Cut}
 use Rattle.def_grammar.specs.Components.{Component}
 use Rattle.def_grammar.specs.Records.{Entry, component, Record, entry}
 use Rattle.lef_grammar.specs.Library.{Library}
-use Rattle.design_rules.specs.ComponentEdits.{ComponentChange, place_at, component_change, edited_component, component_plan}
-use Rattle.design_rules.specs.Plans.{Plan, outcome_of}
-pub use Rattle.design_rules.specs.Plans.{is_long}
+use Rattle.edit_rules.specs.ComponentEdits.{ComponentChange, place_at, component_change, edited_component, component_plan}
+use Rattle.edit_rules.specs.Plans.{Plan, outcome_of}
+pub use Rattle.edit_rules.specs.Plans.{is_long}
 use Rattle.def_grammar.specs.Located.{located, component_at}
 
 -- an edit, by the group that it is of, with its names as lists of bytes

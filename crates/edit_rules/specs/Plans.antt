@@ -1,8 +1,8 @@
 -- What an edit is to do to a text, as a value (own): why it is refused, and which statements it changes.
 use Rattle.std.specs.Prelude.{ℕ, Bool, true, false, not, ◌==◌, nat_lt, List, [], ◌∷◌, ◌++◌, length, map, take, drop, Option, Some, None, Result, Ok, Err, cond, if◌then◌else◌}
 use Rattle.design_model.specs.declared.TheConstants.{MAX_TEXT}
-use Rattle.design_model.specs.declared.edit.EditCode.{EditCode}
-use Rattle.design_model.specs.declared.edit.EditCode.TheVariants.{TooLong}
+use Rattle.edit_model.specs.declared.edit.EditCode.{EditCode}
+use Rattle.edit_model.specs.declared.edit.EditCode.TheVariants.{TooLong}
 use Rattle.statement_model.specs.Tokens.{Token, is_white}
 use Rattle.statement_model.specs.Cuts.{Cut, with_cuts, space_before, end_of_all}
 use Rattle.statement_model.specs.Reading.{pos_of}

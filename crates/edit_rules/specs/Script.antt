@@ -2,15 +2,15 @@
 use Rattle.std.specs.Prelude.{ℕ, Bool, true, false, not, ◌||◌, ◌==◌, List, [], ◌∷◌, length, filter, drop, take_while, Option, Some, None, unwrap_or, Result, Ok, Err, ℤ, pos, codes, if◌then◌else◌}
 use Rattle.std.specs.List.{slice_split}
 use Rattle.design_model.specs.declared.number.NumFault.{NumFault}
-use Rattle.design_model.specs.declared.edit.EditCode.{EditCode}
-use Rattle.design_model.specs.declared.edit.EditCode.TheVariants.{Number, Range}
+use Rattle.edit_model.specs.declared.edit.EditCode.{EditCode}
+use Rattle.edit_model.specs.declared.edit.EditCode.TheVariants.{Number, Range}
 use Rattle.design_model.specs.declared.mode.Section.{Section}
 use Rattle.design_model.specs.EnumWords.{orient_word, orients, section_word, sections}
 use Rattle.design_model.specs.Units.{whole}
 use Rattle.form_meanings.specs.Words.{◌>>=◌, first}
 use Rattle.form_meanings.specs.Meaning.{find}
-use Rattle.design_rules.specs.Edits.{place}
-use Rattle.design_rules.specs.Runs.{Step, design_edit, text_edit}
+use Rattle.edit_rules.specs.Edits.{place}
+use Rattle.edit_rules.specs.Runs.{Step, design_edit, text_edit}
 
 -- a line without the carriage return before its line feed
 abbrev pub ends_in_return : List ℕ → Bool

@@ -1,15 +1,15 @@
 -- A run of edits over a text (own).
 use Rattle.std.specs.Prelude.{◌≡◌, ℕ, ◌≤◌, Bool, false, ◌&&◌, nat_le, List, [], ◌∷◌, length, Result, Ok, Err, if◌then◌else◌}
 use Rattle.design_model.specs.declared.fault.Fault.{Fault}
-use Rattle.design_model.specs.declared.edit.Done.{Done}
-use Rattle.design_model.specs.declared.edit.EditCode.{EditCode}
-use Rattle.design_model.specs.declared.edit.EditCode.TheVariants.{Range, TooLong}
-use Rattle.design_model.specs.declared.edit.EditRefusal.{EditRefusal}
-use Rattle.design_model.specs.declared.edit.EditRefusal.TheVariants.{Refused, Unreadable, Memory}
+use Rattle.edit_model.specs.declared.edit.Done.{Done}
+use Rattle.edit_model.specs.declared.edit.EditCode.{EditCode}
+use Rattle.edit_model.specs.declared.edit.EditCode.TheVariants.{Range, TooLong}
+use Rattle.edit_model.specs.declared.edit.EditRefusal.{EditRefusal}
+use Rattle.edit_model.specs.declared.edit.EditRefusal.TheVariants.{Refused, Unreadable, Memory}
 use Rattle.statement_model.specs.Cuts.{Cut, with_cuts}
 use Rattle.def_grammar.specs.Records.{Record, read_def}
 use Rattle.lef_grammar.specs.Library.{Library}
-use Rattle.design_rules.specs.Edits.{Change, cuts_of, is_long}
+use Rattle.edit_rules.specs.Edits.{Change, cuts_of, is_long}
 
 -- an edit of the design, or bytes that take the place of those from a up to b
 pub data Step : Type 0 where

@@ -1,0 +1,5 @@
+pub mod ComponentEdits
+pub mod Edits
+pub mod Plans
+pub mod Runs
+pub mod Script
