@@ -9,7 +9,10 @@ use Rattle.design_model.specs.EnumWords.{orient_word, orients, section_word, sec
 use Rattle.design_model.specs.Units.{whole}
 use Rattle.form_meanings.specs.Words.{◌>>=◌, first}
 use Rattle.form_meanings.specs.Meaning.{find}
-use Rattle.edit_rules.specs.Edits.{place}
+use Rattle.edit_rules.specs.ComponentEdits.{remaster_as, unplace_it}
+use Rattle.edit_rules.specs.Edits.{Change, of_component, of_net, of_section, place}
+use Rattle.edit_rules.specs.NetEdits.{connect_to, disconnect_from, route_by, unroute_all}
+use Rattle.edit_rules.specs.SectionEdits.{add_blockage, add_component, remove_component}
 use Rattle.edit_rules.specs.Runs.{Step, design_edit, text_edit}
 
 -- a line without the carriage return before its line feed
@@ -82,6 +85,11 @@ four_words ws = None
 pub data Question : Type 0 where
   report : Question
   shown : Section → List ℕ → Question
+  total_length : Question
+  length_of : List ℕ → Question
+  box_of : List ℕ → Question
+  density_of : Result ℤ NumFault → Result ℤ NumFault → List ℕ → Question
+  place_density_of : Result ℤ NumFault → Result ℤ NumFault → Question
 
 -- what a line of a script asks: one with a wrong number is refused before the session is asked
 pub data Order : Type 0 where
@@ -147,9 +155,101 @@ show_order line = do
   section ← find section_word sections s
   Some (ask (shown section name))
 
+-- `length`, or `length n`
+abbrev pub length_asked : List (List ℕ) → Option Order
+length_asked [] = Some (ask total_length)
+length_asked (n ∷ []) = Some (ask (length_of n))
+length_asked _ = None
+
+abbrev pub length_order : List ℕ → Option Order
+length_order line = length_asked (line_words line)
+
+-- `box n`
+abbrev pub box_order : List ℕ → Option Order
+box_order line = one_word (line_words line) >>= λ n. Some (ask (box_of n))
+
+-- `cell i j l`
+abbrev pub cell_order : List ℕ → Option Order
+cell_order line = do
+  (i, j, layer) ← three_words (line_words line)
+  Some (ask (density_of (whole i) (whole j) layer))
+
+-- `pcell i j`
+abbrev pub place_cell_order : List ℕ → Option Order
+place_cell_order line = do
+  (i, j) ← two_words (line_words line)
+  Some (ask (place_density_of (whole i) (whole j)))
+
+-- an edit that a line asks for
+abbrev pub change_order : Change → Option Order
+change_order change = Some (make (design_edit change))
+
+-- `unplace c`
+abbrev pub unplace_order : List ℕ → Option Order
+unplace_order line = one_word (line_words line) >>= λ c. change_order (of_component c unplace_it)
+
+-- `remaster c m`
+abbrev pub remaster_order : List ℕ → Option Order
+remaster_order line = do
+  (c, m) ← two_words (line_words line)
+  change_order (of_component c (remaster_as m))
+
+-- `add c m`
+abbrev pub add_order : List ℕ → Option Order
+add_order line = do
+  (c, m) ← two_words (line_words line)
+  change_order (of_section (add_component c m))
+
+-- `remove c`
+abbrev pub remove_order : List ℕ → Option Order
+remove_order line = one_word (line_words line) >>= λ c. change_order (of_section (remove_component c))
+
+-- `connect n c p`
+abbrev pub connect_order : List ℕ → Option Order
+connect_order line = do
+  (n, c, p) ← three_words (line_words line)
+  change_order (of_net n (connect_to c p))
+
+-- `disconnect n c p`
+abbrev pub disconnect_order : List ℕ → Option Order
+disconnect_order line = do
+  (n, c, p) ← three_words (line_words line)
+  change_order (of_net n (disconnect_from c p))
+
+-- `route n WIRING`, where WIRING is all that stands from its first byte on
+abbrev pub route_to : List ℕ → List ℕ → Option Order
+route_to n [] = None
+route_to n wiring = change_order (of_net n (route_by wiring))
+
+abbrev pub route_order : List ℕ → Option Order
+route_order line = do
+  (n, later) ← first_word line
+  route_to n (past is_blank later)
+
+-- `unroute n`
+abbrev pub unroute_order : List ℕ → Option Order
+unroute_order line = one_word (line_words line) >>= λ n. change_order (of_net n unroute_all)
+
+-- `block x1 y1 x2 y2`, or with a layer before these
+abbrev pub coordinate : List ℕ → ℤ
+coordinate w = number_or_out (whole w)
+
+abbrev pub block_asked : List (List ℕ) → Option Order
+block_asked (a ∷ b ∷ c ∷ d ∷ []) = change_order (of_section (add_blockage None (coordinate a) (coordinate b) (coordinate c) (coordinate d)))
+block_asked (l ∷ a ∷ b ∷ c ∷ d ∷ []) = change_order (of_section (add_blockage (Some l) (coordinate a) (coordinate b) (coordinate c) (coordinate d)))
+block_asked _ = None
+
+abbrev pub block_order : List ℕ → Option Order
+block_order line = block_asked (line_words line)
+
 -- the commands by their names
 abbrev pub commands : List (List ℕ × (List ℕ → Option Order))
-commands = (codes "place", place_order) ∷ (codes "check", check_order) ∷ (codes "text", text_order) ∷ (codes "show", show_order) ∷ []
+commands =
+    (codes "place", place_order) ∷ (codes "check", check_order) ∷ (codes "text", text_order) ∷ (codes "show", show_order)
+    ∷ (codes "length", length_order) ∷ (codes "box", box_order) ∷ (codes "cell", cell_order) ∷ (codes "pcell", place_cell_order)
+    ∷ (codes "unplace", unplace_order) ∷ (codes "remaster", remaster_order) ∷ (codes "add", add_order) ∷ (codes "remove", remove_order)
+    ∷ (codes "connect", connect_order) ∷ (codes "disconnect", disconnect_order) ∷ (codes "route", route_order) ∷ (codes "unroute", unroute_order)
+    ∷ (codes "block", block_order) ∷ []
 
 -- a name, and what stands behind it
 abbrev pub named_order : List ℕ → List ℕ → Option Order
