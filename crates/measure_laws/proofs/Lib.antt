@@ -1,1 +1,2 @@
 pub mod NameSums
+pub mod TokenCounts
