@@ -1,2 +1,5 @@
 pub mod NameSums
 pub mod TokenCounts
+pub mod Points
+pub mod SpelledParts
+pub mod SpelledPoints
