@@ -3,3 +3,4 @@ pub mod TokenCounts
 pub mod Points
 pub mod SpelledParts
 pub mod SpelledPoints
+pub mod PathLengths
