@@ -4,3 +4,4 @@ pub mod Points
 pub mod SpelledParts
 pub mod SpelledPoints
 pub mod PathLengths
+pub mod DesignLengths

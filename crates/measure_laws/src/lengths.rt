@@ -1,8 +1,13 @@
 //! Laws of the lengths of nets.
 
-ghost use Rattle.measure_laws.specs.LengthLaws.{TotalIsOfAllEntries};
+ghost use Rattle.measure_laws.specs.LengthLaws.{LengthsFit, TotalIsOfAllEntries};
 
 /// The lengths of all nets together are those of all entries.
 pub fn total_is_of_all_entries()
     ensures { TotalIsOfAllEntries }
+{}
+
+/// The lengths of all nets of a DEF text that reads fit a `u64` together, whatever the library and the units.
+pub fn lengths_fit()
+    ensures { LengthsFit }
 {}
