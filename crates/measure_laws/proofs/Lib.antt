@@ -5,3 +5,7 @@ pub mod SpelledParts
 pub mod SpelledPoints
 pub mod PathLengths
 pub mod DesignLengths
+pub mod BoxesRound
+pub mod CommonAreas
+pub mod OrderedLines
+pub mod AxisParts

@@ -1,1 +1,5 @@
+pub mod BoxLaws
+pub mod CellLaws
+pub mod DensityLaws
 pub mod LengthLaws
+pub mod LineLaws

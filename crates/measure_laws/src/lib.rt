@@ -3,4 +3,7 @@
 //! Each law is an empty function that ensures it; call it to use it.
 #![tactic(auto)]
 
+pub mod boxes;
+pub mod densities;
+pub mod grids;
 pub mod lengths;
