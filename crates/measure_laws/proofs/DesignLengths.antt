@@ -31,11 +31,8 @@ use Rattle.measure_laws.proofs.NameSums.{total_is_of_all_entries}
 use Rattle.measure_laws.proofs.PathLengths.{lengths, no_lengths, via_none, path_within}
 use Rattle.measure_laws.proofs.Points.{wire_points, special_points, clause_points, special_clause_points, net_points, special_net_points, entry_points, record_points}
 use Rattle.measure_laws.proofs.SpelledPoints.{record_few}
+use Rattle.measure_laws.proofs.Sums.{sum_by-flat_map}
 use Rattle.measure_laws.proofs.TokenCounts.{text_is_light}
-
-sum_by-flat_map : {A B : Type 0} (w : B → ℕ) (f : A → List B) (xs : List A) → sum_by w (flat_map f xs) ≡ sum_by (λ x. sum_by w (f x)) xs
-sum_by-flat_map w f [] = refl
-sum_by-flat_map w f (x ∷ xs) = let later = sum_by-flat_map w f xs in omega (arith, later, sum_by-append w (f x) (flat_map f xs), sum_by-cons (λ x. sum_by w (f x)) x xs)
 
 -- pieces that are at most so long for each of some points
 each_within : {A : Type 0} (f : A → List Piece) (n : A → ℕ) → ((a : A) → lengths (f a) ≤ 4294967296 * n a) → (xs : List A) → lengths (flat_map f xs) ≤ 4294967296 * sum_by n xs

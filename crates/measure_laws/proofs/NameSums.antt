@@ -10,6 +10,7 @@ use Rattle.std.proofs.lemmas.Slice.Eq.{bytes_eq-Decides}
 use Rattle.form_meanings.specs.Firsts.{has_name, with_all, with_first}
 use Rattle.connection_rules.specs.NetParts.{Wired, all_wired}
 use Rattle.measure_rules.specs.Lengths.{wired_length}
+use Rattle.measure_laws.proofs.Sums.{sum_by-same, sum_by-plus, none_sum}
 use Rattle.measure_laws.specs.LengthLaws.{TotalIsOfAllEntries}
 
 same_name : (a b : List ℕ) → bytes_eq a b ≡ true → a ≡ b
@@ -76,18 +77,6 @@ one_of_sum v n (m ∷ names) apart = sum_by-cons (λ k. cond (bytes_eq n k) v 0)
     by : (b : Bool) → bytes_eq n m ≡ b → sum_by (λ k. cond (bytes_eq n k) v 0) names ≡ cond (has n names) v 0 → cond b v 0 + sum_by (λ k. cond (bytes_eq n k) v 0) names ≡ cond (bytes_eq m n || has n names) v 0
     by true e later = grind (arith, either_way m n, has_same n m names e, apart.0)
     by false e later = grind (arith, either_way m n)
-
-sum_by-same : {X : Type 0} (f g : X → ℕ) → ((x : X) → f x ≡ g x) → (xs : List X) → sum_by f xs ≡ sum_by g xs
-sum_by-same f g h [] = refl
-sum_by-same f g h (x ∷ xs) = let r = sum_by-same f g h xs in let e = h x in omega (arith, r, e, sum_by-cons f x xs, sum_by-cons g x xs)
-
-sum_by-plus : {X : Type 0} (f g : X → ℕ) (xs : List X) → sum_by (λ x. f x + g x) xs ≡ sum_by f xs + sum_by g xs
-sum_by-plus f g [] = refl
-sum_by-plus f g (x ∷ xs) = let r = sum_by-plus f g xs in omega (arith, r, sum_by-cons f x xs, sum_by-cons g x xs, sum_by-cons (λ x. f x + g x) x xs)
-
-none_sum : {X : Type 0} (xs : List X) → sum_by (λ x. 0) xs ≡ 0
-none_sum [] = refl
-none_sum (x ∷ xs) = let r = none_sum xs in omega (arith, r, sum_by-cons (λ y. 0) x xs)
 
 module _ {T : Type 0} (name_of : T → List ℕ) (weight : T → ℕ) where
   -- what the things of a name weigh
