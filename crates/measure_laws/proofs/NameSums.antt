@@ -1,5 +1,5 @@
 -- Sums over the names of things, each once, of what each has of its name, are sums over the things.
-use Rattle.std.proofs.Common.{◌≡◌, ◌+◌, ℕ, Bool, true, false, cond, ◌||◌, List, [], ◌∷◌, ◌++◌, map, refl, sym, ap, ◌∙◌, arith, sum_by, if◌then◌else◌}
+use Rattle.std.proofs.Common.{◌≡◌, ◌≤◌, ◌+◌, ℕ, Bool, true, false, cond, ◌||◌, List, [], ◌∷◌, ◌++◌, map, refl, sym, ap, ◌∙◌, arith, sum_by, if◌then◌else◌}
 use Rattle.std.specs.List.{All, filter, list_any}
 use Rattle.std.specs.Str.{bytes_eq}
 use Rattle.std.proofs.lemmas.Bool.{cases_Bool as cases}
@@ -8,10 +8,10 @@ use Rattle.std.proofs.lemmas.List.Folds.{list_any-append}
 use Rattle.std.proofs.lemmas.List.Sums.{sum_by-cons}
 use Rattle.std.proofs.lemmas.Slice.Eq.{bytes_eq-Decides}
 use Rattle.form_meanings.specs.Firsts.{has_name, with_all, with_first}
-use Rattle.connection_rules.specs.NetParts.{Wired, all_wired}
-use Rattle.measure_rules.specs.Lengths.{wired_length}
+use Rattle.connection_rules.specs.NetParts.{Wired, all_wired, is_named}
+use Rattle.measure_rules.specs.Lengths.{wired_length, length_of, total_length}
 use Rattle.measure_laws.proofs.Sums.{sum_by-same, sum_by-plus, none_sum}
-use Rattle.measure_laws.specs.LengthLaws.{TotalIsOfAllEntries}
+use Rattle.measure_laws.specs.LengthLaws.{NoneIsLonger, TotalIsOfAllEntries}
 
 same_name : (a b : List ℕ) → bytes_eq a b ≡ true → a ≡ b
 same_name a b t = grind (arith, bytes_eq-Decides)
@@ -130,3 +130,18 @@ module _ {T : Type 0} (name_of : T → List ℕ) (weight : T → ℕ) where
 
 pub total_is_of_all_entries : TotalIsOfAllEntries
 total_is_of_all_entries library design u = sum_by_names (λ (w : Wired). w.name) wired_length (all_wired library design u)
+
+-- a part of a sum
+sum_by-filter : {X : Type 0} (w : X → ℕ) (p : X → Bool) (xs : List X) → sum_by w (filter p xs) ≤ sum_by w xs
+sum_by-filter w p [] = omega arith
+sum_by-filter w p (x ∷ xs) = by (p x) (sum_by-filter w p xs)
+  where
+    by : (b : Bool) → sum_by w (filter p xs) ≤ sum_by w xs → sum_by w (cond b (x ∷ filter p xs) (filter p xs)) ≤ sum_by w (x ∷ xs)
+    by true less = omega (arith, less, sum_by-cons w x (filter p xs), sum_by-cons w x xs)
+    by false less = omega (arith, less, sum_by-cons w x xs)
+
+pub none_is_longer : NoneIsLonger
+none_is_longer library design u name =
+    let less = sum_by-filter wired_length (is_named library design u name) (all_wired library design u) in
+    let same = total_is_of_all_entries library design u in
+    omega (arith, less, same)

@@ -20,3 +20,7 @@ pub record HasSameLines (ls ms : List ℤ) : Type 0 where
 -- Lines in order rise strictly, and are the lines that there were.
 abbrev pub LinesAreInOrder : Type 0
 LinesAreInOrder = (ls : List ℤ) → Rise (in_order ls) × HasSameLines (in_order ls) ls
+
+-- Lines that rise strictly, and are the same lines, are these in order.
+abbrev pub OrderIsOne : Type 0
+OrderIsOne = (ls ms : List ℤ) → Rise ls → HasSameLines ls ms → ls ≡ in_order ms
