@@ -1,9 +1,10 @@
--- What a stretch of an axis has in common with the spaces between lines, together, is the stretch.
-use Rattle.std.proofs.Common.{◌≡◌, ℕ, zero, suc, ◌+◌, List, [], ◌∷◌, length, Option, Some, None, ℤ, pos, ◌-ℤ◌, ◌<ℤ◌, ◌≤ℤ◌, refl, ap, ◌∙◌, arith, sum_by}
+-- What a stretch of an axis has in common with the spaces between lines is, together, the stretch.
+use Rattle.std.proofs.Common.{◌≡◌, ℕ, zero, suc, ◌+◌, List, [], ◌∷◌, length, Option, ℤ, pos, ◌-ℤ◌, ◌<ℤ◌, ◌≤ℤ◌, refl, ap, ◌∙◌, arith, sum_by}
 use Rattle.std.specs.Int.{int_min, int_max}
 use Rattle.std.specs.List.{cons_option, filter_map}
 use Rattle.std.proofs.lemmas.Int.{by_lt_z, ints, clamps}
 use Rattle.std.proofs.lemmas.List.Sums.{sum_by-cons}
+use Rattle.design_model.specs.Geometry.{Rectangle}
 use Rattle.shape_rules.specs.Classes.{numbers}
 use Rattle.measure_rules.specs.Density.{extent}
 use Rattle.measure_rules.specs.GridCells.{between}
@@ -15,6 +16,10 @@ abbrev pub neighbours : List ℤ → List (ℤ × ℤ)
 neighbours [] = []
 neighbours (l ∷ []) = []
 neighbours (l ∷ m ∷ ls) = (l, m) ∷ neighbours (m ∷ ls)
+
+-- the cell between two lines and two others
+abbrev pub cell_of : ℤ × ℤ → ℤ × ℤ → Rectangle
+cell_of x y = record { x1 = x.0; y1 = y.0; x2 = x.1; y2 = y.1 }
 
 -- counting from one more, for a function that begins one later
 shifted : {A : Type 0} (f g : ℕ → Option A) → ((n : ℕ) → f (suc n) ≡ g n) → (a n : ℕ) → filter_map f (numbers (suc a) n) ≡ filter_map g (numbers a n)

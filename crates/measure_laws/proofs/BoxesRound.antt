@@ -1,13 +1,12 @@
 -- The least rectangle round others.
 use Rattle.std.proofs.Common.{◌≡◌, List, [], ◌∷◌, Option, Some, None, ℤ, ◌≤ℤ◌, refl, arith}
-use Rattle.std.specs.Prelude.{◌↔◌}
 use Rattle.std.specs.Int.{int_min, int_max}
 use Rattle.std.proofs.lemmas.Int.{ints, clamps}
 use Rattle.std.proofs.lemmas.List.Elements.{All-nil, All-cons, All-head, All-tail, All-weaker}
 use Rattle.form_meanings.proofs.Steps.{some_same}
 use Rattle.design_model.specs.Geometry.{Rectangle}
 use Rattle.measure_rules.specs.NetBoxes.{around, around_all, box_round}
-use Rattle.measure_laws.specs.BoxLaws.{LiesIn, HoldsAll, IsLeastRound, ABoxIsTheLeast, NoRectanglesNoBox}
+use Rattle.measure_laws.specs.BoxLaws.{LiesIn, IsLeastRound, ABoxIsTheLeast, NoRectanglesNoBox}
 
 min_left : (a b : ℤ) → int_min a b ≤ℤ a
 min_left a b = omega (arith, ints, clamps)

@@ -1,18 +1,17 @@
 -- What a rectangle has in common with all cells among lines, and so the densities of all cells.
-use Rattle.std.proofs.Common.{◌≡◌, ℕ, zero, suc, ◌+◌, ◌*◌, Bool, true, false, ◌==◌, List, [], ◌∷◌, ◌++◌, length, flat_map, Option, Some, None, ℤ, refl, sym, ap, ap₂, ◌∙◌, arith, sum_by, if◌then◌else◌}
-use Rattle.std.specs.Int.{int_min, int_max}
+use Rattle.std.proofs.Common.{◌≡◌, ℕ, ◌+◌, ◌*◌, Bool, true, false, ◌==◌, List, [], ◌∷◌, length, Option, Some, None, ℤ, refl, sym, ap, ap₂, ◌∙◌, arith, sum_by, if◌then◌else◌}
 use Rattle.std.specs.List.{All, cons_option, filter_map}
 use Rattle.std.proofs.lemmas.List.Elements.{All-head, All-tail}
-use Rattle.std.proofs.lemmas.List.Sums.{sum_by-cons, sum_by-append}
+use Rattle.std.proofs.lemmas.List.Sums.{sum_by-cons}
 use Rattle.design_model.specs.Geometry.{Rectangle}
 use Rattle.shape_rules.specs.Classes.{numbers}
 use Rattle.lef_grammar.specs.Measures.{Shape}
 use Rattle.form_meanings.specs.Words.{◌>>=◌}
-use Rattle.measure_rules.specs.Density.{extent, area_of, common_area, area_on, density}
+use Rattle.measure_rules.specs.Density.{area_of, common_area, area_on, density}
 use Rattle.measure_rules.specs.GridCells.{between, cell_among}
 use Rattle.measure_laws.specs.CellLaws.{cells_among, LiesAmong, CellsOfAGridAddUp, whole_area_on, DensitiesOfAGridAddUp}
 use Rattle.measure_laws.specs.LineLaws.{Rise}
-use Rattle.measure_laws.proofs.AxisParts.{neighbours, spaces, common_part, parts_add_up}
+use Rattle.measure_laws.proofs.AxisParts.{cell_of, neighbours, spaces, common_part, parts_add_up}
 use Rattle.measure_laws.proofs.Sums.{sum_by-same, sum_by-plus, none_sum, sum_by-flat_map}
 
 -- what is made of a value, where there is one
@@ -42,10 +41,6 @@ sum_times f k (x ∷ xs) = sum_by-cons (λ x. f x * k) x xs ∙ ap (λ n. f x * 
 times_sum : {A : Type 0} (k : ℕ) (f : A → ℕ) (xs : List A) → sum_by (λ x. k * f x) xs ≡ k * sum_by f xs
 times_sum k f [] = omega arith
 times_sum k f (x ∷ xs) = sum_by-cons (λ x. k * f x) x xs ∙ ap (λ n. k * f x + n) (times_sum k f xs) ∙ sym (times_plus k (f x) (sum_by f xs)) ∙ ap (λ n. k * n) (sym (sum_by-cons f x xs))
-
--- the cell between two lines and two others
-abbrev cell_of : ℤ × ℤ → ℤ × ℤ → Rectangle
-cell_of x y = record { x1 = x.0; y1 = y.0; x2 = x.1; y2 = y.1 }
 
 module _ (w : Rectangle → ℕ) (columns rows : List ℤ) where
   -- a column of cells

@@ -1,13 +1,12 @@
 -- What shapes have in common with a cell.
-use Rattle.std.proofs.Common.{◌≡◌, ◌≤◌, ℕ, ◌+◌, ◌*◌, Bool, true, false, ◌==◌, List, [], ◌∷◌, ◌++◌, length, ℤ, pos, nat_abs, ◌-ℤ◌, ◌≤ℤ◌, refl, arith, sum_by, if◌then◌else◌}
+use Rattle.std.proofs.Common.{◌≤◌, ℕ, Bool, true, false, ◌==◌, ℤ, arith, if◌then◌else◌}
 use Rattle.std.specs.Int.{int_min, int_max}
 use Rattle.std.proofs.Math.Nat.{mul-le-mul}
 use Rattle.std.proofs.lemmas.Int.{ints, clamps}
 use Rattle.std.proofs.lemmas.List.Sums.{sum_by-append, sum_by_push, sum_by-le}
 use Rattle.design_model.specs.Geometry.{Rectangle}
-use Rattle.shape_rules.specs.Meeting.{shared}
 use Rattle.lef_grammar.specs.Measures.{Shape}
-use Rattle.measure_rules.specs.Density.{extent, area_of, common_area, area_on, density}
+use Rattle.measure_rules.specs.Density.{extent, area_of, common_area, area_on}
 use Rattle.measure_laws.specs.DensityLaws.{AddedShapesAddTheirAreas, CommonIsInTheCell, DensitiesAddUp, DensitiesAreWithin}
 
 pub added_shapes_add_their_areas : AddedShapesAddTheirAreas

@@ -1,9 +1,8 @@
 -- What the entries of a design draw is at most 2 ^ 32 long for each point of their wires, so that in a text that reads it fits
 -- 64 bits.
-use Rattle.std.proofs.Common.{◌≡◌, ◌≤◌, ◌<◌, ◌^◌, inl, inr, ℕ, ◌+◌, ◌*◌, List, [], ◌∷◌, ◌++◌, flat_map, Option, Some, None, ℤ, refl, sym, ◌∙◌, arith, sum_by}
+use Rattle.std.proofs.Common.{◌≡◌, ◌≤◌, ℕ, ◌+◌, ◌*◌, List, [], ◌∷◌, flat_map, Option, Some, None, refl, arith, sum_by}
 use Rattle.std.specs.List.{cons_option, filter_map}
 use Rattle.std.proofs.lemmas.List.Sums.{sum_by-cons, sum_by-append}
-use Rattle.design_model.specs.declared.TheConstants.{MAX_TEXT}
 use Rattle.design_model.specs.declared.mode.Mode.TheVariants.{Top}
 use Rattle.form_meanings.specs.Firsts.{first_of}
 use Rattle.form_meanings.specs.Words.{◌>>=◌}
@@ -11,8 +10,8 @@ use Rattle.def_grammar.specs.Nets as nets
 use Rattle.def_grammar.specs.Nets.{rule_of_clause, must_join, is_net}
 use Rattle.def_grammar.specs.NetWires.{wires_of, net_wires}
 use Rattle.def_grammar.specs.Points.{place_of}
-use Rattle.def_grammar.specs.Records.{Entry, component, pin, region, group, blockage, net, special_net, via, rule, skipped, Record, top, in_properties, end_section, entry, entry_of, def}
-use Rattle.def_grammar.specs.SpecialNets.{PlacedVia, SpecialClause, special_subnet, special_use, special_shape_word, special_mask, special_rectangle, special_vias, special_polygon, special_has_wiring, special_kept, SpecialNet, via_points}
+use Rattle.def_grammar.specs.Records.{Entry, net, special_net, Record, entry, entry_of, def}
+use Rattle.def_grammar.specs.SpecialNets.{SpecialClause, special_rectangle, special_vias, SpecialNet, via_points}
 use Rattle.def_grammar.specs.SpecialWires.{special_wires_of, special_net_wires}
 use Rattle.def_grammar.specs.Wiring.{Wire, SpecialWire}
 use Rattle.lef_grammar.specs.Library.{Library}
@@ -24,12 +23,13 @@ use Rattle.net_rules.specs.Widths.{rule_of_wire}
 use Rattle.wire_rules.specs.Sizes.{as_size}
 use Rattle.def_grammar.specs.Numbers.{int_of}
 use Rattle.net_rules.specs.WirePieces.{net_wire_rules, wire_pieces, net_pieces, special_wire_rules, special_wire_pieces, special_net_pieces}
-use Rattle.connection_rules.specs.NetParts.{Wired, vias_at, clause_pieces, wired_net, wired_special, wired_of, all_wired}
+use Rattle.connection_rules.specs.NetParts.{Wired, clause_pieces, wired_special, wired_of}
 use Rattle.measure_rules.specs.Lengths.{wired_length, piece_length, total_length}
+use Rattle.statement_laws.specs.FormLaws.{FormsAreSpelled}
 use Rattle.measure_laws.specs.LengthLaws.{LengthsFit}
 use Rattle.measure_laws.proofs.NameSums.{total_is_of_all_entries}
 use Rattle.measure_laws.proofs.PathLengths.{lengths, no_lengths, via_none, path_within}
-use Rattle.measure_laws.proofs.Points.{wire_points, special_points, clause_points, special_clause_points, net_points, special_net_points, entry_points, record_points}
+use Rattle.measure_laws.proofs.Points.{wire_points, special_points, net_points, special_net_points, entry_points, record_points}
 use Rattle.measure_laws.proofs.SpelledPoints.{record_few}
 use Rattle.measure_laws.proofs.Sums.{sum_by-flat_map}
 use Rattle.measure_laws.proofs.TokenCounts.{text_is_light}
@@ -102,8 +102,8 @@ module _ (library : Library) (design : List Record) (u : ℕ) where
       let same = total_is_of_all_entries library design u in
       omega (arith, all, same)
 
-pub lengths_fit : LengthsFit
-lengths_fit library text design e u =
-    let few : sum_by record_points design ≤ 1073741824 = text_is_light def record_points record_few Top text design e in
+pub lengths_fit : FormsAreSpelled def → LengthsFit
+lengths_fit spelled library text design e u =
+    let few : sum_by record_points design ≤ 1073741824 = text_is_light def spelled record_points record_few Top text design e in
     let within = design_within library design u in
     omega (arith, few, within)

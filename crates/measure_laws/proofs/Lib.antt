@@ -3,6 +3,7 @@ pub mod BoxesRound
 pub mod CellSums
 pub mod CommonAreas
 pub mod DesignLengths
+pub mod GridRanges
 pub mod NameSums
 pub mod OrderedLines
 pub mod PathLengths

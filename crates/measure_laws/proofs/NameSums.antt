@@ -1,15 +1,14 @@
 -- Sums over the names of things, each once, of what each has of its name, are sums over the things.
-use Rattle.std.proofs.Common.{◌≡◌, ◌≤◌, ◌+◌, ℕ, Bool, true, false, cond, ◌||◌, List, [], ◌∷◌, ◌++◌, map, refl, sym, ap, ◌∙◌, arith, sum_by, if◌then◌else◌}
+use Rattle.std.proofs.Common.{◌≡◌, ◌≤◌, ◌+◌, ℕ, Bool, true, false, cond, ◌||◌, List, [], ◌∷◌, ◌++◌, map, refl, ap, ◌∙◌, arith, sum_by, if◌then◌else◌}
 use Rattle.std.specs.List.{All, filter, list_any}
 use Rattle.std.specs.Str.{bytes_eq}
-use Rattle.std.proofs.lemmas.Bool.{cases_Bool as cases}
 use Rattle.std.proofs.lemmas.List.Elements.{All-nil, All-cons, All-head, All-tail, All-weaker}
 use Rattle.std.proofs.lemmas.List.Folds.{list_any-append}
 use Rattle.std.proofs.lemmas.List.Sums.{sum_by-cons}
 use Rattle.std.proofs.lemmas.Slice.Eq.{bytes_eq-Decides}
 use Rattle.form_meanings.specs.Firsts.{has_name, with_all, with_first}
 use Rattle.connection_rules.specs.NetParts.{Wired, all_wired, is_named}
-use Rattle.measure_rules.specs.Lengths.{wired_length, length_of, total_length}
+use Rattle.measure_rules.specs.Lengths.{wired_length}
 use Rattle.measure_laws.proofs.Sums.{sum_by-same, sum_by-plus, none_sum}
 use Rattle.measure_laws.specs.LengthLaws.{NoneIsLonger, TotalIsOfAllEntries}
 

@@ -1,12 +1,11 @@
 -- A segment of a path is at most 2 ^ 32 long, and there are no more of them than points that the path goes to.
-use Rattle.std.proofs.Common.{◌≡◌, ◌≤◌, ℕ, zero, suc, ◌+◌, ◌*◌, Bool, true, false, List, [], ◌∷◌, ◌++◌, flat_map, Option, Some, None, Result, Ok, Err, ℤ, pos, negsuc, neg_ℤ, ◌-ℤ◌, nat_abs, refl, arith, sum_by, if◌then◌else◌}
+use Rattle.std.proofs.Common.{◌≡◌, ◌≤◌, ℕ, zero, suc, ◌*◌, Bool, true, false, List, [], ◌∷◌, flat_map, Option, Some, None, Ok, Err, ℤ, ◌-ℤ◌, nat_abs, refl, arith, sum_by, if◌then◌else◌}
 use Rattle.std.specs.Prelude.{nat_le}
 use Rattle.std.proofs.lemmas.Bool.{leb-true}
 use Rattle.std.proofs.lemmas.Int.{ints}
 use Rattle.std.proofs.lemmas.List.Sums.{sum_by-cons, sum_by-append}
 use Rattle.design_model.specs.Units.{are_digits, decimal_value, is_minus, signed, unsigned, whole}
 use Rattle.design_model.specs.declared.geometry.Point.{Point}
-use Rattle.design_model.specs.declared.number.NumFault.{NumFault}
 use Rattle.design_model.specs.declared.number.NumFault.TheVariants.{Form, Range}
 use Rattle.def_grammar.specs.Numbers.{int_of, number_or_0}
 use Rattle.def_grammar.specs.Parts.{Coordinates}
@@ -15,7 +14,7 @@ use Rattle.def_grammar.specs.Wiring as wiring
 use Rattle.def_grammar.specs.Wiring.{path_mask, path_virtual, path_rectangle, path_point, path_via, Path}
 use Rattle.wire_rules.specs.Paths.{Piece, segment, diagonal, PathPlace, ViaUse, WireMakings, same_z, along_x, along_y, segment_between, array_of, shape_at, shapes_there, one_via, off_layer, other_layer, known_via, via_pieces, segment_to, past_at, or_same, layer_over, pieces_from}
 use Rattle.wire_rules.specs.ViaShapes.{NamedShape}
-use Rattle.entry_rules.specs.WireItems.{extension_of, items_after, items_of, start_of}
+use Rattle.entry_rules.specs.WireItems.{extension_of, items_after, start_of}
 use Rattle.net_rules.specs.WirePieces.{path_pieces, place_at_start}
 use Rattle.measure_rules.specs.Lengths.{piece_length}
 use Rattle.measure_laws.proofs.Points.{item_points, path_points}
@@ -35,7 +34,7 @@ read_within true false minus n m e = omega arith
 read_within false c minus n m e = omega arith
 
 -- what a word is taken as, whatever it is
-int_within : (w : List ℕ) → nat_abs (int_of w) ≤ 2147483647
+pub int_within : (w : List ℕ) → nat_abs (int_of w) ≤ 2147483647
 unfolding whole
 int_within w = read_within (are_digits (unsigned w)) (nat_le (decimal_value (unsigned w)) 2147483647) (is_minus w) (decimal_value (unsigned w)) 2147483647 refl
 

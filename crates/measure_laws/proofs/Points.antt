@@ -1,6 +1,6 @@
 -- How many points the wires of a record go to, but for the one that each path begins with.
-use Rattle.std.proofs.Common.{ℕ, sum_by, List}
-use Rattle.def_grammar.specs.Nets.{NetClause, Net, NetEntry, must_join, is_net}
+use Rattle.std.proofs.Common.{ℕ, sum_by}
+use Rattle.def_grammar.specs.Nets.{NetClause, NetEntry, must_join, is_net}
 use Rattle.def_grammar.specs.NetWires.{wires_of}
 use Rattle.def_grammar.specs.Records.{Entry, net, special_net, Record, entry}
 use Rattle.def_grammar.specs.SpecialNets.{SpecialClause, SpecialNet}

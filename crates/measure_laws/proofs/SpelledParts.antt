@@ -1,5 +1,5 @@
 -- What a form counts of a value, where the value is spelled with no fewer words.
-use Rattle.std.proofs.Common.{◌≤◌, inl, inr, ℕ, ◌+◌, Bool, List, [], ◌∷◌, ◌++◌, length, Option, Some, None, arith, sum_by}
+use Rattle.std.proofs.Common.{◌≤◌, ℕ, ◌+◌, Bool, List, [], ◌∷◌, length, Option, Some, None, arith, sum_by}
 use Rattle.std.proofs.lemmas.List.{length-append}
 use Rattle.std.proofs.lemmas.List.Sums.{sum_by-cons}
 use Rattle.form_meanings.specs.Meaning.{Seen, Meaning, spell_all, behind_meaning, before_meaning, seq_meaning, opt_meaning, many_meaning, seen_meaning}

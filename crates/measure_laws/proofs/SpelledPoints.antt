@@ -1,9 +1,9 @@
 -- A record is spelled with a word for each point of its wires.
-use Rattle.std.proofs.Common.{◌≡◌, ◌≤◌, inl, inr, ℕ, ◌+◌, List, [], ◌∷◌, ◌++◌, length, Option, Some, None, codes, arith, sum_by}
+use Rattle.std.proofs.Common.{◌≤◌, ℕ, List, [], ◌∷◌, length, codes, arith, sum_by}
 use Rattle.std.proofs.lemmas.List.{length-append}
 use Rattle.std.proofs.lemmas.List.Sums.{sum_by-cons}
 use Rattle.design_model.specs.declared.mode.Mode.{Mode}
-use Rattle.design_model.specs.declared.mode.Mode.TheVariants.{Top, In, Props}
+use Rattle.design_model.specs.declared.mode.Mode.TheVariants.{In}
 use Rattle.design_model.specs.declared.mode.Section.{Section}
 use Rattle.design_model.specs.declared.mode.Section.TheVariants.{Nets, SpecialNets}
 use Rattle.form_meanings.specs.Words.{is_plus}

@@ -1,5 +1,5 @@
 -- A text has no more tokens than bytes, and the records of a text that reads have no more words than it has tokens.
-use Rattle.std.proofs.Common.{◌≡◌, ◌≤◌, ℕ, ◌+◌, Bool, true, false, List, [], ◌∷◌, ◌++◌, length, map, Option, Some, None, Result, Ok, Err, refl, sym, ap, ◌∙◌, ⊎_elim, arith, sum_by, if◌then◌else◌}
+use Rattle.std.proofs.Common.{◌≡◌, ◌≤◌, ℕ, ◌+◌, Bool, true, false, List, [], ◌∷◌, ◌++◌, length, Option, Some, None, Result, Ok, Err, refl, ap, ⊎_elim, arith, sum_by, if◌then◌else◌}
 use Rattle.std.specs.Prelude.{◌==◌, nat_lt}
 use Rattle.design_model.specs.declared.token_kind.TokenKind.TheVariants.{Word, Quoted}
 use Rattle.std.proofs.lemmas.Bool.{cases_Bool as cases, ltb-false}
@@ -15,7 +15,7 @@ use Rattle.statement_model.specs.Folds.{◌>>◌}
 use Rattle.statement_model.specs.Form.{Fits, spell, whole}
 use Rattle.statement_model.specs.Grammar.{Key, Grammar}
 use Rattle.statement_model.specs.Reading.{repeats, checked, formed, read_form, unless_repeated, read_one, ended, at_last, read_on, read_from, read_text}
-use Rattle.statement_laws.proofs.Whole.{whole_shows}
+use Rattle.statement_laws.specs.FormLaws.{FormsAreSpelled}
 use Rattle.number_laws.proofs.GoodRecords.{has_read, ok_same}
 
 -- a word that is open is a token more
@@ -67,12 +67,11 @@ lexed pos o (b ∷ bs) = ⊎_elim
 pub tokens_are_fewer : (text : List ℕ) → length (tokens text).pieces ≤ length text
 tokens_are_fewer text = let r = lexed 0 between text in omega (arith, r)
 
-module _ {M R : Type 0} (g : Grammar M R) (weight : R → ℕ) (light : (m : M) (r : R) → Fits (g.form m) r [] → weight r ≤ length (spell (g.form m) r)) where
+module _ {M R : Type 0} (g : Grammar M R) (spelled : FormsAreSpelled g) (weight : R → ℕ) (light : (m : M) (r : R) → Fits (g.form m) r [] → weight r ≤ length (spell (g.form m) r)) where
   -- what a statement's tokens read as weighs no more than they are
   checked_light : (m : M) (ps : List Token) (rec : R) (bad : Option ℕ) (x : R × M) → whole (g.form m) (words ps) ≡ Some (rec, bad) → checked g m ps rec bad ≡ Ok x → weight x.0 ≤ length ps
   checked_light m ps rec None x form e =
-      let p : R × Option ℕ = (rec, None) in
-      let shown = whole_shows (g.form m) (words ps) p form in
+      let shown = (spelled m).0 (words ps) rec None form in
       let y : R × M = (rec, g.after m rec) in
       let same : rec ≡ x.0 = ap (λ (z : R × M). z.0) (ok_same y x e) in
       let long : length (words ps) ≡ length (spell (g.form m) rec) = ap length shown.0 in

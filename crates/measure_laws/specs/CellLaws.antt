@@ -1,5 +1,5 @@
 -- Laws of the cells of a grid.
-use Rattle.std.specs.Prelude.{◌≡◌, ℕ, Bool, List, [], ◌∷◌, length, flat_map, ℤ, ◌≤ℤ◌, ◌==◌, if◌then◌else◌}
+use Rattle.std.specs.Prelude.{◌≡◌, ℕ, List, [], ◌∷◌, length, flat_map, ℤ, ◌≤ℤ◌, ◌==◌, if◌then◌else◌}
 use Rattle.std.specs.List.{All, filter_map, sum_by}
 use Rattle.design_model.specs.Geometry.{Rectangle}
 use Rattle.shape_rules.specs.Classes.{numbers}

@@ -3,3 +3,4 @@ pub mod CellLaws
 pub mod DensityLaws
 pub mod LengthLaws
 pub mod LineLaws
+pub mod RangeLaws

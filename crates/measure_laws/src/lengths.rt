@@ -2,6 +2,8 @@
 
 ghost use Rattle.measure_laws.specs.LengthLaws.{LengthsFit, NoneIsLonger, TotalIsOfAllEntries};
 
+use statement_laws::forms::def_forms_are_spelled;
+
 /// The lengths of all nets together are those of all entries.
 pub fn total_is_of_all_entries()
     ensures { TotalIsOfAllEntries }
@@ -15,4 +17,6 @@ pub fn none_is_longer()
 /// The lengths of all nets of a DEF text that reads fit a `u64` together, whatever the library and the units.
 pub fn lengths_fit()
     ensures { LengthsFit }
-{}
+{
+    def_forms_are_spelled();
+}
