@@ -1,12 +1,12 @@
 -- The least rectangle round others.
-use Rattle.std.proofs.Common.{◌≡◌, List, [], ◌∷◌, Option, Some, None, ℤ, ◌≤ℤ◌, refl, arith}
+use Rattle.std.proofs.Common.{◌≡◌, List, [], ◌∷◌, Option, Some, None, ℤ, ◌≤ℤ◌, refl, ap, ◌∙◌, arith}
 use Rattle.std.specs.Int.{int_min, int_max}
 use Rattle.std.proofs.lemmas.Int.{ints, clamps}
 use Rattle.std.proofs.lemmas.List.Elements.{All-nil, All-cons, All-head, All-tail, All-weaker}
 use Rattle.form_meanings.proofs.Steps.{some_same}
 use Rattle.design_model.specs.Geometry.{Rectangle}
 use Rattle.measure_rules.specs.NetBoxes.{around, around_all, box_round}
-use Rattle.measure_laws.specs.BoxLaws.{LiesIn, IsLeastRound, ABoxIsTheLeast, NoRectanglesNoBox}
+use Rattle.measure_laws.specs.BoxLaws.{LiesIn, IsLeastRound, ABoxIsTheLeast, BoxesGrow, NoRectanglesNoBox}
 
 min_left : (a b : ℤ) → int_min a b ≤ℤ a
 min_left a b = omega (arith, ints, clamps)
@@ -80,3 +80,24 @@ pub a_box_is_the_least : ABoxIsTheLeast
 unfolding box_round
 a_box_is_the_least [] b e = absurd (cc)
 a_box_is_the_least (r ∷ rs) b e = rw (← some_same (around_all r (box_round rs)) b e) (one_more r rs (box_round rs) refl (a_box_is_the_least rs))
+
+min_turned : (a b : ℤ) → int_min a b ≡ int_min b a
+min_turned a b = omega (arith, ints, clamps)
+
+max_turned : (a b : ℤ) → int_max a b ≡ int_max b a
+max_turned a b = omega (arith, ints, clamps)
+
+min_exchanged : (a b c : ℤ) → int_min a (int_min b c) ≡ int_min b (int_min a c)
+min_exchanged a b c = omega (arith, ints, clamps)
+
+max_exchanged : (a b c : ℤ) → int_max a (int_max b c) ≡ int_max b (int_max a c)
+max_exchanged a b c = omega (arith, ints, clamps)
+
+exchanged : (r s : Rectangle) (o : Option Rectangle) → around s (around_all r o) ≡ around r (around_all s o)
+exchanged r s None = rw (min_turned s.x1 r.x1, min_turned s.y1 r.y1, max_turned s.x2 r.x2, max_turned s.y2 r.y2) refl
+exchanged r s (Some b) = rw (min_exchanged s.x1 r.x1 b.x1, min_exchanged s.y1 r.y1 b.y1, max_exchanged s.x2 r.x2 b.x2, max_exchanged s.y2 r.y2 b.y2) refl
+
+pub boxes_grow : BoxesGrow
+unfolding box_round
+boxes_grow [] r = refl
+boxes_grow (s ∷ rs) r = ap (λ o. Some (around_all s o)) (boxes_grow rs r) ∙ ap Some (exchanged r s (box_round rs))

@@ -4,6 +4,7 @@ pub mod CellSums
 pub mod CommonAreas
 pub mod DesignLengths
 pub mod GridRanges
+pub mod LineMembers
 pub mod NameSums
 pub mod OrderedLines
 pub mod PathLengths

@@ -1,8 +1,8 @@
 -- Laws of the least rectangle round others.
-use Rattle.std.specs.Prelude.{◌≡◌, ◌↔◌, List, [], Some, None, ◌≤ℤ◌}
+use Rattle.std.specs.Prelude.{◌≡◌, ◌↔◌, List, [], ◌∷◌, ◌++◌, Some, None, ◌≤ℤ◌}
 use Rattle.std.specs.List.{All}
 use Rattle.design_model.specs.Geometry.{Rectangle}
-use Rattle.measure_rules.specs.NetBoxes.{box_round}
+use Rattle.measure_rules.specs.NetBoxes.{around_all, box_round}
 
 -- a rectangle lies in another: on none of the four sides does it go past it
 pub record LiesIn (r b : Rectangle) : Type 0 where
@@ -27,3 +27,7 @@ ABoxIsTheLeast = (rs : List Rectangle) (b : Rectangle) → box_round rs ≡ Some
 -- Just where there is no rectangle there is no box.
 abbrev pub NoRectanglesNoBox : Type 0
 NoRectanglesNoBox = (rs : List Rectangle) → (box_round rs ≡ None) ↔ (rs ≡ [])
+
+-- The box round rectangles and one more is the box round that one and theirs.
+abbrev pub BoxesGrow : Type 0
+BoxesGrow = (rs : List Rectangle) (r : Rectangle) → box_round (rs ++ r ∷ []) ≡ Some (around_all r (box_round rs))

@@ -1,7 +1,8 @@
 -- Laws of the lines of a grid.
-use Rattle.std.specs.Prelude.{◌≡◌, Bool, List, [], ◌∷◌, ℤ, ◌<ℤ◌}
-use Rattle.std.specs.List.{list_any}
-use Rattle.measure_rules.specs.GridCells.{in_order}
+use Rattle.std.specs.Prelude.{◌≡◌, ◌↔◌, ℕ, ◌+◌, Bool, List, [], ◌∷◌, Some, ℤ, ◌<ℤ◌}
+use Rattle.std.specs.List.{Contains, list_any, slice_get}
+use Rattle.form_meanings.specs.Words.{◌>>=◌}
+use Rattle.measure_rules.specs.GridCells.{between, in_order}
 
 -- lines that rise strictly, from above another line on
 abbrev pub RiseFrom : ℤ → List ℤ → Type 0
@@ -24,3 +25,11 @@ LinesAreInOrder = (ls : List ℤ) → Rise (in_order ls) × HasSameLines (in_ord
 -- Lines that rise strictly, and are the same lines, are these in order.
 abbrev pub OrderIsOne : Type 0
 OrderIsOne = (ls ms : List ℤ) → Rise ls → HasSameLines ls ms → ls ≡ in_order ms
+
+-- Lines are the same just where each of the first is among the others, and the other way round.
+abbrev pub SameByMembers : Type 0
+SameByMembers = (ls ms : List ℤ) → HasSameLines ls ms ↔ ((z : ℤ) → Contains ls z ↔ Contains ms z)
+
+-- The neighbours of a number are the line of that number and the next one, where there are both.
+abbrev pub NeighboursAreNext : Type 0
+NeighboursAreNext = (ls : List ℤ) (n : ℕ) → between ls n ≡ (slice_get ls n >>= λ l. (slice_get ls (n + 1) >>= λ m. Some (l, m)))
