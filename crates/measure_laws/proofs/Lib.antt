@@ -1,0 +1,15 @@
+pub mod AxisParts
+pub mod BoxesRound
+pub mod CellSums
+pub mod CommonAreas
+pub mod DesignLengths
+pub mod GridRanges
+pub mod LineMembers
+pub mod NameSums
+pub mod OrderedLines
+pub mod PathLengths
+pub mod Points
+pub mod SpelledParts
+pub mod SpelledPoints
+pub mod Sums
+pub mod TokenCounts
