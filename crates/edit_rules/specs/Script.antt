@@ -9,6 +9,7 @@ use Rattle.design_model.specs.EnumWords.{orient_word, orients, section_word, sec
 use Rattle.design_model.specs.Units.{whole}
 use Rattle.form_meanings.specs.Words.{◌>>=◌, first}
 use Rattle.form_meanings.specs.Meaning.{find}
+use Rattle.def_grammar.specs.Located.{or_later}
 use Rattle.edit_rules.specs.ComponentEdits.{remaster_as, unplace_it}
 use Rattle.edit_rules.specs.Edits.{Change, of_component, of_net, of_section, place}
 use Rattle.edit_rules.specs.NetEdits.{connect_to, disconnect_from, route_by, unroute_all}
@@ -80,6 +81,10 @@ three_words ws = None
 abbrev pub four_words : List (List ℕ) → Option (List ℕ × List ℕ × List ℕ × List ℕ)
 four_words (a ∷ b ∷ c ∷ d ∷ []) = Some (a, b, c, d)
 four_words ws = None
+
+abbrev pub five_words : List (List ℕ) → Option (List ℕ × List ℕ × List ℕ × List ℕ × List ℕ)
+five_words (a ∷ b ∷ c ∷ d ∷ e ∷ []) = Some (a, b, c, d, e)
+five_words ws = None
 
 -- what a line asks of a design
 pub data Question : Type 0 where
@@ -156,13 +161,14 @@ show_order line = do
   Some (ask (shown section name))
 
 -- `length`, or `length n`
-abbrev pub length_asked : List (List ℕ) → Option Order
-length_asked [] = Some (ask total_length)
-length_asked (n ∷ []) = Some (ask (length_of n))
-length_asked _ = None
+abbrev pub total_order : List ℕ → Option Order
+total_order line = if no_words (line_words line) then Some (ask total_length) else None
+
+abbrev pub net_length_order : List ℕ → Option Order
+net_length_order line = one_word (line_words line) >>= λ n. Some (ask (length_of n))
 
 abbrev pub length_order : List ℕ → Option Order
-length_order line = length_asked (line_words line)
+length_order line = or_later (total_order line) (net_length_order line)
 
 -- `box n`
 abbrev pub box_order : List ℕ → Option Order
@@ -230,30 +236,47 @@ route_order line = do
 abbrev pub unroute_order : List ℕ → Option Order
 unroute_order line = one_word (line_words line) >>= λ n. change_order (of_net n unroute_all)
 
--- `block x1 y1 x2 y2`, or with a layer before these
+-- `block x1 y1 x2 y2`, or `block l x1 y1 x2 y2`
 abbrev pub coordinate : List ℕ → ℤ
 coordinate w = number_or_out (whole w)
 
-abbrev pub block_asked : List (List ℕ) → Option Order
-block_asked (a ∷ b ∷ c ∷ d ∷ []) = change_order (of_section (add_blockage None (coordinate a) (coordinate b) (coordinate c) (coordinate d)))
-block_asked (l ∷ a ∷ b ∷ c ∷ d ∷ []) = change_order (of_section (add_blockage (Some l) (coordinate a) (coordinate b) (coordinate c) (coordinate d)))
-block_asked _ = None
+abbrev pub placement_order : List ℕ → Option Order
+placement_order line = do
+  (x1, y1, x2, y2) ← four_words (line_words line)
+  change_order (of_section (add_blockage None (coordinate x1) (coordinate y1) (coordinate x2) (coordinate y2)))
+
+abbrev pub layer_order : List ℕ → Option Order
+layer_order line = do
+  (layer, x1, y1, x2, y2) ← five_words (line_words line)
+  change_order (of_section (add_blockage (Some layer) (coordinate x1) (coordinate y1) (coordinate x2) (coordinate y2)))
 
 abbrev pub block_order : List ℕ → Option Order
-block_order line = block_asked (line_words line)
+block_order line = or_later (placement_order line) (layer_order line)
 
--- the commands by their names
-abbrev pub commands : List (List ℕ × (List ℕ → Option Order))
-commands =
-    (codes "place", place_order) ∷ (codes "check", check_order) ∷ (codes "text", text_order) ∷ (codes "show", show_order)
-    ∷ (codes "length", length_order) ∷ (codes "box", box_order) ∷ (codes "cell", cell_order) ∷ (codes "pcell", place_cell_order)
-    ∷ (codes "unplace", unplace_order) ∷ (codes "remaster", remaster_order) ∷ (codes "add", add_order) ∷ (codes "remove", remove_order)
-    ∷ (codes "connect", connect_order) ∷ (codes "disconnect", disconnect_order) ∷ (codes "route", route_order) ∷ (codes "unroute", unroute_order)
-    ∷ (codes "block", block_order) ∷ []
+-- the commands by their names: what is asked of a design, edits of a component, of a net, and of a section, and of the text
+abbrev pub Command : Type 0
+Command = List ℕ × (List ℕ → Option Order)
+
+abbrev pub questions : List Command
+questions =
+    (codes "check", check_order) ∷ (codes "show", show_order) ∷ (codes "length", length_order) ∷ (codes "box", box_order) ∷ (codes "cell", cell_order)
+    ∷ (codes "pcell", place_cell_order) ∷ []
+
+abbrev pub component_edits : List Command
+component_edits = (codes "place", place_order) ∷ (codes "unplace", unplace_order) ∷ (codes "remaster", remaster_order) ∷ []
+
+abbrev pub net_edits : List Command
+net_edits = (codes "connect", connect_order) ∷ (codes "disconnect", disconnect_order) ∷ (codes "route", route_order) ∷ (codes "unroute", unroute_order) ∷ []
+
+abbrev pub section_edits : List Command
+section_edits = (codes "add", add_order) ∷ (codes "remove", remove_order) ∷ (codes "block", block_order) ∷ (codes "text", text_order) ∷ []
+
+abbrev pub order_in : List Command → List ℕ → List ℕ → Option Order
+order_in commands name line = find (λ c. c.0) commands name >>= λ c. c.1 line
 
 -- a name, and what stands behind it
 abbrev pub named_order : List ℕ → List ℕ → Option Order
-named_order name line = find (λ c. c.0) commands name >>= λ c. c.1 line
+named_order name line = or_later (order_in questions name line) (or_later (order_in component_edits name line) (or_later (order_in net_edits name line) (order_in section_edits name line)))
 
 abbrev pub words_order : Option (List ℕ × List ℕ) → Order
 words_order None = nothing

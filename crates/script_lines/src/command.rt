@@ -2,16 +2,19 @@
 
 ghost use Rattle.std.specs.Prelude.{◌≡◌, Some, drop};
 ghost use Rattle.form_meanings.specs.Words.{Gives};
-ghost use Rattle.edit_rules.specs.Script.{check_order, first_word, named_order, number_or_out, order_of, place_order, show_order, text_order, unescaped, words_order};
-ghost use Rattle.design_model.specs.Units.{whole};
+ghost use Rattle.edit_rules.specs.Script.{check_order, component_edits, first_word, named_order, net_edits, number_or_out, order_in, order_of, questions, section_edits, show_order, text_order, unescaped, words_order};
 ghost use Rattle.script_lines.specs.Orders.{order_seen, text_or_none};
 
+use crate::component_edits::{place, remaster, unplace};
 use crate::escape::{EscapedBytes, checked};
-use crate::line::{four_words, next_word, no_words, two_words};
-use edit_model::edit::{Edit, EditCode};
-use design_model::geometry::Orient;
+use crate::line::{next_word, no_words, two_words};
+use crate::measures::{cell, length, net_box, place_cell};
+use crate::net_edits::{connect, disconnect, route, unroute};
+use crate::section_edits::{add, block, remove};
 use design_model::mode::Section;
+use design_model::number::NumFault;
 use design_model::word::is_word;
+use edit_model::edit::{Edit, EditCode};
 use unit_numbers::whole;
 
 /// What a line asks of a design.
@@ -21,6 +24,23 @@ pub enum Question<'a> {
     Report,
     /// The entry of a section with this name.
     Show(Section, &'a [u8]),
+    /// The lengths of all nets together.
+    TotalLength,
+    /// The length of a net.
+    Length(&'a [u8]),
+    /// The box round a net.
+    Box(&'a [u8]),
+    /// How dense a cell is on a layer.
+    Cell {
+        column: Result<i32, NumFault>,
+        row: Result<i32, NumFault>,
+        layer: &'a [u8],
+    },
+    /// How dense a cell is with components.
+    PlaceCell {
+        column: Result<i32, NumFault>,
+        row: Result<i32, NumFault>,
+    },
 }
 
 /// What a line of a script asks.
@@ -40,33 +60,6 @@ pub enum Command<'a> {
     Ask(Question<'a>),
     /// No command, or one with a wrong number of words or a word out of its form.
     Bad,
-}
-
-/// A number that no DEF text may hold: it stands for an invalid number.
-const OUT_OF_RANGE: i64 = 2147483648;
-
-/// The number that a word is, and one out of range where it is invalid.
-fn number_of(word: &[u8]) -> i64
-    ensures { result ≡ number_or_out (whole word.now) }
-{
-    match whole(word) {
-        Ok(number) => number as i64,
-        Err(_) => OUT_OF_RANGE,
-    }
-}
-
-/// `place c x y o` behind its name.
-fn place(line: &[u8]) -> Option<Command<'_>>
-    ensures { Gives order_seen result (place_order line.now) }
-{
-    let (component, x, y, orient) = four_words(line)?;
-    let orient = Orient::of_word(orient)?;
-    Some(Command::Edit(Edit::Place {
-        component,
-        x: number_of(x),
-        y: number_of(y),
-        orient,
-    }))
 }
 
 /// `check` behind its name.
@@ -126,21 +119,90 @@ fn show(line: &[u8]) -> Option<Command<'_>>
     Some(Command::Ask(Question::Show(section, name)))
 }
 
+/// A question of a name, with the line behind it.
+fn question_named<'a>(name: &[u8], line: &'a [u8]) -> Option<Command<'a>>
+    ensures { Gives order_seen result (order_in questions name.now line.now) }
+{
+    if is_word(name, b"check") {
+        check(line)
+    } else if is_word(name, b"show") {
+        show(line)
+    } else if is_word(name, b"length") {
+        length(line)
+    } else if is_word(name, b"box") {
+        net_box(line)
+    } else if is_word(name, b"cell") {
+        cell(line)
+    } else if is_word(name, b"pcell") {
+        place_cell(line)
+    } else {
+        None
+    }
+}
+
+/// An edit of a component.
+fn component_edit<'a>(name: &[u8], line: &'a [u8]) -> Option<Command<'a>>
+    ensures { Gives order_seen result (order_in component_edits name.now line.now) }
+{
+    if is_word(name, b"place") {
+        place(line)
+    } else if is_word(name, b"unplace") {
+        unplace(line)
+    } else if is_word(name, b"remaster") {
+        remaster(line)
+    } else {
+        None
+    }
+}
+
+/// An edit of a net.
+fn net_edit<'a>(name: &[u8], line: &'a [u8]) -> Option<Command<'a>>
+    ensures { Gives order_seen result (order_in net_edits name.now line.now) }
+{
+    if is_word(name, b"connect") {
+        connect(line)
+    } else if is_word(name, b"disconnect") {
+        disconnect(line)
+    } else if is_word(name, b"route") {
+        route(line)
+    } else if is_word(name, b"unroute") {
+        unroute(line)
+    } else {
+        None
+    }
+}
+
+/// An edit of a section, or of the text.
+fn section_edit<'a>(name: &[u8], line: &'a [u8]) -> Option<Command<'a>>
+    ensures { Gives order_seen result (order_in section_edits name.now line.now) }
+{
+    if is_word(name, b"add") {
+        add(line)
+    } else if is_word(name, b"remove") {
+        remove(line)
+    } else if is_word(name, b"block") {
+        block(line)
+    } else if is_word(name, b"text") {
+        text(line)
+    } else {
+        None
+    }
+}
+
 /// The command of a name, with the line behind it.
 fn named<'a>(name: &[u8], line: &'a [u8]) -> Option<Command<'a>>
     ensures { Gives order_seen result (named_order name.now line.now) }
 {
-    if is_word(name, b"place") {
-        place(line)
-    } else if is_word(name, b"check") {
-        check(line)
-    } else if is_word(name, b"text") {
-        text(line)
-    } else if is_word(name, b"show") {
-        show(line)
-    } else {
-        None
+    if let Some(command) = question_named(name, line) {
+        return Some(command);
     }
+    if let Some(command) = component_edit(name, line) {
+        return Some(command);
+    }
+    if let Some(command) = net_edit(name, line) {
+        return Some(command);
+    }
+    section_edit(name, line)
 }
 
 /// What the words of a line ask.
