@@ -65,13 +65,16 @@ length_line name None = Err UnknownName
 length_line name (Some v) = Ok ((((codes "length " ++ name) ++ 32 ∷ []) ++ decimal v) ++ 10 ∷ [])
 
 -- `box n x1 y1 x2 y2`, or `box n none` where a net has no shape
-abbrev pub box_words : Option Rectangle → List ℕ
-box_words None = codes "none"
-box_words (Some r) = (((((signed_decimal r.x1 ++ 32 ∷ []) ++ signed_decimal r.y1) ++ 32 ∷ []) ++ signed_decimal r.x2) ++ 32 ∷ []) ++ signed_decimal r.y2
+abbrev pub with_corners : List ℕ → Rectangle → List ℕ
+with_corners text r = ((((((text ++ signed_decimal r.x1) ++ 32 ∷ []) ++ signed_decimal r.y1) ++ 32 ∷ []) ++ signed_decimal r.x2) ++ 32 ∷ []) ++ signed_decimal r.y2
+
+abbrev pub with_box : List ℕ → Option Rectangle → List ℕ
+with_box text None = text ++ codes "none"
+with_box text (Some r) = with_corners text r
 
 abbrev pub box_line : List ℕ → Option (Option Rectangle) → Result (List ℕ) EditCode
 box_line name None = Err UnknownName
-box_line name (Some box) = Ok ((((codes "box " ++ name) ++ 32 ∷ []) ++ box_words box) ++ 10 ∷ [])
+box_line name (Some box) = Ok (with_box ((codes "box " ++ name) ++ 32 ∷ []) box ++ 10 ∷ [])
 
 -- `cell i j l v` and `pcell i j v`
 abbrev pub cell_line : ℕ → ℕ → List ℕ → Option ℕ → Result (List ℕ) EditCode
