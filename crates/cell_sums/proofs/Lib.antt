@@ -1,0 +1,5 @@
+pub mod GainLemmas
+pub mod LengthLemmas
+pub mod OrderLemmas
+pub mod BlockLemmas
+pub mod CoverLemmas
