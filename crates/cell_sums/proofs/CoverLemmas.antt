@@ -1,5 +1,5 @@
 -- Which columns, or rows, a stretch covers.
-use Rattle.std.proofs.Common.{◌≡◌, ◌+◌, ◌-◌, ◌<◌, ◌≤◌, ◌≤ℤ◌, min, Bool, true, false, ◌⊎◌, inl, inr, nat_lt, ℕ, zero, suc, List, [], ◌∷◌, length, ℤ, Option, Some, None, refl, sym, ap, ap₂, ◌∙◌, arith, get_or, add-one}
+use Rattle.std.proofs.Common.{◌≡◌, ◌+◌, ◌-◌, ◌<◌, ◌≤◌, ◌≤ℤ◌, min, max, Bool, true, false, ◌⊎◌, inl, inr, nat_lt, ℕ, zero, suc, List, [], ◌∷◌, length, ℤ, Some, None, refl, sym, ap, ap₂, ◌∙◌, arith, get_or}
 use Rattle.std.proofs.lemmas.Bool.Decides.{nat_tests}
 use Rattle.std.proofs.lemmas.Int.{ints, clamps}
 use Rattle.std.specs.Int.{int_max, int_min}
@@ -8,13 +8,12 @@ use Rattle.std.specs.List.{AllByRecursion}
 use Rattle.std.specs.List.Sorted.{IsPartitionedBy, IsPartitionPoint, IsStrictlySortedBy}
 use Rattle.std.specs.Ordering.{int_cmp}
 use Rattle.std.specs.declared.cmp.Ordering.TheVariants.{Less}
-use Rattle.measure_rules.specs.Density.{extent}
 use Rattle.measure_rules.specs.GridCells.{between}
 use Rattle.cell_sums.specs.Covered.{IsCovered}
 use Rattle.cell_sums.specs.Lines.{common_length, is_from, shared_by}
 use Rattle.cell_sums.proofs.LengthLemmas.{extent_none}
 
-between_some : (ls : List ℤ) (i : ℕ) (d e : ℤ) → suc i < length ls → between ls i ≡ Some (get_or ls i d, get_or ls (suc i) e)
+pub between_some : (ls : List ℤ) (i : ℕ) (d e : ℤ) → suc i < length ls → between ls i ≡ Some (get_or ls i d, get_or ls (suc i) e)
 unfolding between
 between_some [] i d e within = absurd (omega (arith, within))
 between_some (l ∷ []) i d e within = absurd (omega (arith, within))
@@ -81,13 +80,13 @@ module _ (ls : List ℤ) (low high : ℤ) (p q : ℕ) (before : IsPartitionPoint
   past : (i : ℕ) → length ls ≤ suc i → common_length ls low high i ≡ 0
   past i h = ap (λ o. shared_by low high o) (between_none ls i (omega (arith, h)))
 
-  outside : (i first end : ℕ) → first ≡ p - 1 → end ≡ min q (length ls - 1) → is_from first end i ≡ false → common_length ls low high i ≡ 0
-  outside i first end first_is end_is h = by (outside_cases first end i h) (nat_lt (suc i) (length ls)) refl
+  outside : (i first end top : ℕ) → first ≡ p - 1 → top ≡ min q (length ls - 1) → end ≡ max top first → is_from first end i ≡ false → common_length ls low high i ≡ 0
+  outside i first end top first_is top_is end_is h = by (outside_cases first end i h) (nat_lt (suc i) (length ls)) refl
     where
       by : (i < first) ⊎ (end ≤ i) → (w : Bool) → nat_lt (suc i) (length ls) ≡ w → common_length ls low high i ≡ 0
       by either false w = past i (grind (arith, nat_tests))
       by (inl k) true w = none_shared i (grind (arith, nat_tests)) (inl (omega (arith, k, first_is)))
       by (inr k) true w = none_shared i (grind (arith, nat_tests)) (inr (grind (arith, nat_tests)))
 
-  pub covered_is : (first end : ℕ) → first ≡ p - 1 → end ≡ min q (length ls - 1) → IsCovered ls low high first end
-  covered_is first end first_is end_is = record { outside = λ i h. outside i first end first_is end_is h }
+  pub covered_is : (first end top : ℕ) → first ≡ p - 1 → top ≡ min q (length ls - 1) → end ≡ max top first → IsCovered ls low high first end
+  covered_is first end top first_is top_is end_is = record { ordered = omega arith; outside = λ i h. outside i first end top first_is top_is end_is h }

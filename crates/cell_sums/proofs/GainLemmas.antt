@@ -1,7 +1,7 @@
 -- What cells gain, block by block.
-use Rattle.std.proofs.Common.{◌≡◌, ◌+◌, ◌*◌, ◌/◌, ◌%◌, ◌-◌, ◌^◌, ◌<◌, ◌≤◌, max, ℕ, Bool, true, false, if◌then◌else◌, ◌==◌, ◌&&◌, List, ℤ, get_or, Option, Some, None, refl, sym, ap, ap₂, subst, ◌∙◌, arith}
+use Rattle.std.proofs.Common.{◌≡◌, ◌+◌, ◌*◌, ◌/◌, ◌%◌, ◌-◌, ◌^◌, ◌<◌, ◌≤◌, max, ℕ, Bool, true, false, if◌then◌else◌, ◌==◌, ◌&&◌, List, ℤ, get_or, Option, Some, None, refl, sym, ap, ap₂, ◌∙◌, arith}
 use Rattle.std.proofs.lemmas.Bool.Decides.{nat_tests}
-use Rattle.cell_sums.specs.Blocks.{BlockSums, HasGained, HasGainedAtMost, Key, block_at, strip_gains, sum_at, sum_in}
+use Rattle.cell_sums.specs.Blocks.{BlockSums, Gains, HasGained, HasGainedAtMost, Key, block_at, strip_gains, sum_at, sum_in}
 use Rattle.cell_sums.specs.Lines.{common_length, is_from}
 use Rattle.cell_sums.specs.declared.row_cells.RowCells.{RowCells}
 use Rattle.cell_sums.specs.declared.row_cells.Strip.{Strip}
@@ -117,3 +117,90 @@ module _ (columns : List ℤ) (cells : RowCells) (strip : Strip) (keys : List Ke
 
     pub block_gained : HasGained (record { keys = keys; sums = old }) (record { keys = keys; sums = new }) (strip_gains columns cells strip)
     block_gained = record { sums = gained }
+
+-- the cells of a row up to a column
+abbrev pub cells_to : RowCells → ℕ → RowCells
+cells_to cells end = record cells { end = end }
+
+abbrev pub cells_from : RowCells → ℕ → ℕ → RowCells
+cells_from cells first end = record cells { first = first; end = end }
+
+part_step : (s t : Bool) (f0 f e i a : ℕ) → f0 ≤ f → f ≤ e
+    → (if s && (t && is_from f0 e i) then a else 0) ≡ (if s && (t && is_from f0 f i) then a else 0) + (if s && (t && is_from f e i) then a else 0)
+part_step false t f0 f e i a low high = refl
+part_step true false f0 f e i a low high = refl
+part_step true true f0 f e i a low high = grind (arith, nat_tests)
+
+part_none : (s t : Bool) (f0 f i a : ℕ) → f ≤ i → (if s && (t && is_from f0 f i) then a else 0) ≡ 0
+part_none false t f0 f i a past = refl
+part_none true false f0 f i a past = refl
+part_none true true f0 f i a past = grind (arith, nat_tests)
+
+part_empty : (s t : Bool) (f0 f i a : ℕ) → f ≤ f0 → (if s && (t && is_from f0 f i) then a else 0) ≡ 0
+part_empty false t f0 f i a none = refl
+part_empty true false f0 f i a none = refl
+part_empty true true f0 f i a none = grind (arith, nat_tests)
+
+part_all : (s t : Bool) (f0 f e i a : ℕ) → e ≤ f → f ≤ max f0 e → (if s && (t && is_from f0 f i) then a else 0) ≡ (if s && (t && is_from f0 e i) then a else 0)
+part_all false t f0 f e i a past upto = refl
+part_all true false f0 f e i a past upto = refl
+part_all true true f0 f e i a past upto = grind (arith, nat_tests)
+
+-- how far a loop over the cells of a row has come
+pub record Going (old now : BlockSums) (columns : List ℤ) (cells : RowCells) (strip : Strip) (first : ℕ) : Type 0 where
+  pub behind : cells.first ≤ first
+  pub upto : first ≤ max cells.first cells.end
+  pub gained : HasGained old now (strip_gains columns (cells_to cells first) strip)
+
+module _ (columns : List ℤ) (cells : RowCells) (strip : Strip) (old : BlockSums) where
+  abbrev area_at : ℕ → ℕ
+  area_at i = common_length columns strip.low strip.high i * strip.height
+
+  pub going_first : Going old old columns cells strip cells.first
+  going_first = record {
+    behind = omega arith;
+    upto = omega arith;
+    gained = record { sums = λ l i j. let none = part_empty (cells.layer == l) (cells.row == j) cells.first cells.first i (area_at i) (omega arith) in omega (arith, none) };
+  }
+
+  module _ (now : BlockSums) (first : ℕ) (going : Going old now columns cells strip first) where
+    -- sums that come still have room
+    pub still_fit : ((i : ℕ) → cells.first ≤ i → sum_at old cells.layer i cells.row + 2 ^ 64 ≤ 2 ^ 128) → (i : ℕ) → first ≤ i → sum_at now cells.layer i cells.row + 2 ^ 64 ≤ 2 ^ 128
+    still_fit fits i past =
+        let is = going.gained.sums cells.layer i cells.row in
+        let none = part_none (cells.layer == cells.layer) (cells.row == cells.row) cells.first first i (area_at i) past in
+        let room = fits i (omega (arith, going.behind)) in
+        omega (arith, is, none, room)
+
+    pub going_on : (next : BlockSums) (end : ℕ) → first ≤ end → end ≤ cells.end → HasGained now next (strip_gains columns (cells_from cells first end) strip) → Going old next columns cells strip end
+    going_on next end more within step = record {
+      behind = omega (arith, going.behind);
+      upto = omega arith;
+      gained = record {
+        sums = λ l i j.
+            let was = going.gained.sums l i j in
+            let is = step.sums l i j in
+            let both = part_step (cells.layer == l) (cells.row == j) cells.first first end i (area_at i) going.behind more in
+            omega (arith, was, is, both);
+      };
+    }
+
+    -- where no cells are left, all have gained,
+    pub all_gained : cells.end ≤ first → HasGained old now (strip_gains columns cells strip)
+    all_gained past = record { sums = λ l i j. going.gained.sums l i j ∙ ap (λ n. sum_at old l i j + n) (by l i j) }
+      where
+        by : (l i j : ℕ) → strip_gains columns (cells_to cells first) strip l i j ≡ strip_gains columns cells strip l i j
+        by l i j = part_all (cells.layer == l) (cells.row == j) cells.first first cells.end i (area_at i) past going.upto
+
+    -- and where the next can't, none has gained more
+    pub some_gained : (next : BlockSums) → first < cells.end → ((l i j : ℕ) → sum_at next l i j ≡ sum_at now l i j) → HasGainedAtMost old next (strip_gains columns cells strip)
+    some_gained next more same = record {
+      sums = λ l i j.
+          let was = going.gained.sums l i j in
+          let is = same l i j in
+          let both = part_step (cells.layer == l) (cells.row == j) cells.first first cells.end i (area_at i) going.behind (omega (arith, more)) in
+          omega (arith, was, is, both);
+    }
+
+pub gained_at_most : (old new : BlockSums) (gains : Gains) → HasGained old new gains → HasGainedAtMost old new gains
+gained_at_most old new gains h = record { sums = λ l i j. let is = h.sums l i j in omega (arith, is) }

@@ -1,5 +1,5 @@
 -- Lengths that stretches have in common.
-use Rattle.std.proofs.Common.{◌≡◌, true, false, sym, ap, ap₂, subst, ◌∙◌, FitsSigned, to_z, of_z, w64, ◌<◌, ◌≤◌, ◌^◌, ℕ, ℤ, pos, ◌-ℤ◌, ◌≤ℤ◌, ◌<ℤ◌, nat_abs, arith}
+use Rattle.std.proofs.Common.{◌≡◌, true, false, sym, ap₂, ◌∙◌, FitsSigned, to_z, of_z, w64, ◌<◌, ◌^◌, ℕ, ℤ, ◌-ℤ◌, ◌≤ℤ◌, ◌<ℤ◌, nat_abs, arith}
 use Rattle.std.proofs.lemmas.Int.{ints, clamps, to_z-of_z}
 use Rattle.std.specs.Int.{int_max, int_min}
 use Rattle.std.specs.Int.Signed.{lt_z}

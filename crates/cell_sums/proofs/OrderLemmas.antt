@@ -1,5 +1,5 @@
 -- Lines in order: what is sorted and has each line once is the one list that rises and has the same lines.
-use Rattle.std.proofs.Common.{◌≡◌, ◌+◌, ℕ, Bool, true, false, cond, if◌then◌else◌, ◌||◌, nat_lt, List, [], ◌∷◌, ℤ, int_lt, refl, sym, ap, ap₂, ◌∙◌, arith}
+use Rattle.std.proofs.Common.{◌≡◌, ◌+◌, Bool, true, false, cond, if◌then◌else◌, ◌||◌, nat_lt, List, [], ◌∷◌, ℤ, int_lt, refl, sym, ap, ap₂, ◌∙◌, arith}
 use Rattle.std.proofs.lemmas.Bool.Decides.{Decides-int_eq, nat_tests}
 use Rattle.std.proofs.lemmas.Cmp.{int_cmp_total}
 use Rattle.std.proofs.lemmas.List.Filters.{All-dedup}
@@ -9,7 +9,6 @@ use Rattle.std.proofs.lemmas.List.Sums.{sum_by-cons}
 use Rattle.std.specs.List.{All, AllByRecursion, sum_by, dedup, dedup_from}
 use Rattle.std.specs.List.Sorted.{IsPermutation, IsSorted, IsStrictlySortedBy}
 use Rattle.std.specs.Ordering.{int_cmp, int_eq, is_eq, ordering_reverse}
-use Rattle.std.specs.declared.cmp.Ordering.{Ordering}
 use Rattle.std.specs.declared.cmp.Ordering.TheVariants.{Less, Equal, Greater}
 use Rattle.measure_rules.specs.GridCells.{in_order, with_line}
 use Rattle.design_model.specs.Ranges.{IsWithin}
@@ -115,12 +114,12 @@ same_lines (x ∷ xs) (y ∷ ys) u v h =
           let same : x ≡ y = (Decides-int_eq x y).0 (ap is_eq e) in
           ap₂ (λ k ks. k ∷ ks) same
           (same_lines xs ys u.1 v.1
-           (λ z.
-           tail_has z x y (has z xs) (has z ys) same
-           (λ t.
-           let at : z ≡ x = (Decides-int_eq z x).0 t in
-           (ap (λ k. has k xs) at ∙ none_before x xs u.0, ap (λ k. has k ys) (at ∙ same) ∙ none_before y ys v.0))
-           (h z)))
+          (λ z.
+          tail_has z x y (has z xs) (has z ys) same
+          (λ t.
+          let at : z ≡ x = (Decides-int_eq z x).0 t in
+          (ap (λ k. has k xs) at ∙ none_before x xs u.0, ap (λ k. has k ys) (at ∙ same) ∙ none_before y ys v.0))
+          (h z)))
       | Greater ↦ λ e.
           let back : int_cmp y x ≡ Less = int_cmp_total.antisymm y x ∙ ap ordering_reverse e in
           let there : has y (y ∷ ys) ≡ true = ap (λ p. p || has y ys) (itself y) in

@@ -5,7 +5,7 @@ ghost use Rattle.std.specs.Option.{option_map};
 ghost use Rattle.design_model.specs.Geometry.{Rectangle};
 ghost use Rattle.design_model.specs.Views.{rectangle_of};
 ghost use Rattle.measure_rules.specs.GridCells.{cell_among};
-ghost use Rattle.cell_sums.specs.Blocks.{HasGained, HasGainedAtMost, no_sums, sum_at};
+ghost use Rattle.cell_sums.specs.Blocks.{HasGained, no_sums, sum_at};
 ghost use Rattle.cell_sums.specs.Tables.{Adds, rectangle_gains, sums};
 
 use crate::blocks::Blocks;
@@ -46,7 +46,7 @@ fn add_area<A: Allocator + Copy>(
 ) -> Result<(), AllocError>
     requires { (i j : ℕ) → sum_at blocks.old layer i j + 2 ^ 64 ≤ 2 ^ 128 }
     ensures added { OnOk result (HasGained blocks.old blocks.new (rectangle_gains columns.now rows.now layer (rectangle_of rect.now))) }
-    ensures at_most { HasGainedAtMost blocks.old blocks.new (rectangle_gains columns.now rows.now layer (rectangle_of rect.now)) }
+    ensures at_most { (l i j : ℕ) → sum_at blocks.new l i j ≤ sum_at blocks.old l i j + 2 ^ 64 }
 {
     let across = Stretch {
         low: rect.x1,

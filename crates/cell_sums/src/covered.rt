@@ -3,7 +3,7 @@
 ghost use Rattle.std.specs.Prelude.{◌≡◌, ◌<◌, ◌≤◌, ◌+◌, ◌^◌, ℕ, length};
 ghost use Rattle.std.specs.Int.{int_max, int_min};
 ghost use Rattle.design_model.specs.Ranges.{IsWithin};
-ghost use Rattle.cell_sums.specs.Lines.{common_length, farthest, length_shared};
+ghost use Rattle.cell_sums.specs.Lines.{AreLines, common_length, farthest, length_shared};
 ghost use Rattle.cell_sums.specs.Covered.{IsCovered};
 
 use crate::lines::GridLines;
@@ -50,13 +50,16 @@ impl<A: Allocator> GridLines<A> {
 
     /// The columns, or rows, that a stretch covers: no other one has length in common with it.
     pub(crate) fn covered(&self, stretch: Stretch) -> Places
-        ensures { IsCovered self.now stretch.low stretch.high result.first result.end }
+        ensures covered { IsCovered self.now stretch.low stretch.high result.first result.end }
+        ensures lines { AreLines self.now }
     {
-        let first = self.lines.partition_point(|line| *line <= stretch.low);
-        let end = self.lines.partition_point(|line| *line < stretch.high);
+        let behind = self.lines.partition_point(|line| *line <= stretch.low);
+        let before = self.lines.partition_point(|line| *line < stretch.high);
+        let first = behind.saturating_sub(1);
+        let end = before.min(self.lines.len().saturating_sub(1));
         Places {
-            first: first.saturating_sub(1),
-            end: end.min(self.lines.len().saturating_sub(1)),
+            first,
+            end: end.max(first),
         }
     }
 }

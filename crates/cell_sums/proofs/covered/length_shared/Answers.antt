@@ -1,4 +1,4 @@
-use Rattle.std.proofs.Common.{arith, rules, ap₂, ◌∙◌, FitsSigned, w64}
+use Rattle.std.proofs.Common.{arith, rules, ap₂, ◌∙◌, w64}
 use Rattle.std.proofs.lemmas.Int.{to_z-of_z}
 use Rattle.std.specs.Int.{int_max, int_min}
 use Rattle.cell_sums.proofs.LengthLemmas.{extent_taken, extent_left, extent_small}

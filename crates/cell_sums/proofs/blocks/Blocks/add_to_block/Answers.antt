@@ -1,6 +1,6 @@
-use Rattle.std.proofs.Common.{◌≡◌, ◌+◌, ◌/◌, ◌^◌, ◌≤◌, ℕ, List, Some, arith, sym, ap, subst, ◌∙◌, length, get_or}
+use Rattle.std.proofs.Common.{◌≡◌, ◌+◌, ◌/◌, ◌^◌, ◌≤◌, ℕ, List, Some, arith, ap, ◌∙◌, length, get_or}
 use Rattle.std.proofs.lemmas.List.{with_items_is}
-use Rattle.cell_sums.specs.Blocks.{BlockSums, HasGained, block_at, strip_gains, sum_at}
+use Rattle.cell_sums.specs.Blocks.{BlockSums, block_at, strip_gains, sum_at}
 use Rattle.cell_sums.proofs.GainLemmas.{block_gained, fits_at}
 use Rattle.cell_sums.proofs.blocks.Blocks.add_to_block.Goals as goal
 
@@ -29,16 +29,16 @@ returns-clause-added g c =
     let cells = c.args.cells.now in
     let gains = strip_gains c.args.columns.now cells c.args.strip.now in
     let found : block_at c.self.inside.keys.keys (cells.layer, cells.row, cells.first / 64) ≡ Some c.in_ok-block.block =
-      ap (λ (b : BlockSums). block_at b.keys (cells.layer, cells.row, cells.first / 64)) c.self.view_is ∙ c.in_ok-block.ensures.place in
+    ap (λ (b : BlockSums). block_at b.keys (cells.layer, cells.row, cells.first / 64)) c.self.view_is ∙ c.in_ok-block.ensures.place in
     let got = c.as_mut_slice-sums.result.now in
     let keys = c.self.inside.keys.keys in
     let step = block_gained c.args.columns.now cells c.args.strip.now keys got c.add_areas.new.sums c.in_ok-block.block found c.requires.some c.requires.together c.add_areas.ensures in
     let put = with_items_is c.self.inside.sums c.add_areas.new.sums (c.add_areas.auto.sums ∙ c.as_mut_slice-sums.ensures.len) in
     record {
       sums = λ l i j.
-        ap (λ (xs : List ℕ). sum_at (record { keys = keys; sums = xs }) l i j) put
-        ∙ step.sums l i j
-        ∙ ap (λ (xs : List ℕ). sum_at (record { keys = keys; sums = xs }) l i j + gains l i j) c.as_mut_slice-sums.ensures.value
-        ∙ ap (λ (b : BlockSums). sum_at b l i j + gains l i j) c.self.view_is
-        ∙ ap (λ n. n + gains l i j) (c.in_ok-block.ensures.same l i j);
+          ap (λ (xs : List ℕ). sum_at (record { keys = keys; sums = xs }) l i j) put
+          ∙ step.sums l i j
+          ∙ ap (λ (xs : List ℕ). sum_at (record { keys = keys; sums = xs }) l i j + gains l i j) c.as_mut_slice-sums.ensures.value
+          ∙ ap (λ (b : BlockSums). sum_at b l i j + gains l i j) c.self.view_is
+          ∙ ap (λ n. n + gains l i j) (c.in_ok-block.ensures.same l i j);
     }

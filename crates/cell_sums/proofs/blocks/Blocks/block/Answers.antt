@@ -1,4 +1,4 @@
-use Rattle.std.proofs.Common.{◌≡◌, ◌+◌, ◌*◌, ◌<◌, ℕ, List, Option, Some, [], ◌∷◌, ◌++◌, sym, ap, ap₂, subst, rules, ◌∙◌, arith, length, take, replicate, get_or}
+use Rattle.std.proofs.Common.{◌≡◌, ◌*◌, ℕ, List, Some, [], ◌∷◌, ◌++◌, sym, ap, ap₂, rules, ◌∙◌, length, take, replicate}
 use Rattle.cell_sums.specs.Blocks.{BlockSums, Key, block_at, sum_at}
 use Rattle.cell_sums.proofs.BlockLemmas.{new_place, pushed_same, zeros_behind, zeros_front}
 use Rattle.cell_sums.proofs.blocks.Blocks.block.Goals as goal

@@ -1,4 +1,4 @@
-use Rattle.std.proofs.Common.{List, ℤ, None, Some, rules, sym, ap, ap₂, ◌∙◌, arith, w64}
+use Rattle.std.proofs.Common.{List, ℤ, Some, rules, sym, ap, ap₂, ◌∙◌, arith, w64}
 use Rattle.std.proofs.lemmas.Int.{to_z-of_z}
 use Rattle.measure_rules.specs.GridCells.{between}
 use Rattle.cell_sums.proofs.CoverLemmas.{between_is, between_none}

@@ -10,7 +10,7 @@ returns-then-place-saturating_sub-clause-value g c =
     ∙ ap₂ (λ (x y : ℤ). length_shared c.args.stretch.low c.args.stretch.high (x, y)) (to_z-of_z w64 _ (search rules)) (to_z-of_z w64 _ (search rules))
     ∙ sym
     (ap (λ (o : Option (ℤ × ℤ)). shared_by c.args.stretch.low c.args.stretch.high o)
-     (between_is c.self.inside.lines.items c.args.place c.index.result.now c.index-then-place-saturating_sub.result.now (omega arith) c.index.ensures c.index-then-place-saturating_sub.ensures))
+    (between_is c.self.inside.lines.items c.args.place c.index.result.now c.index-then-place-saturating_sub.result.now (omega arith) c.index.ensures c.index-then-place-saturating_sub.ensures))
     ∙ ap (λ (ls : List ℤ). common_length ls c.args.stretch.low c.args.stretch.high c.args.place) c.self.view_is
 
 pub returns-else-place-saturating_sub-clause-value : goal.returns-else-place-saturating_sub-clause-value
