@@ -1,0 +1,6 @@
+pub mod GainLemmas
+pub mod LengthLemmas
+pub mod OrderLemmas
+pub mod RectangleLemmas
+pub mod BlockLemmas
+pub mod CoverLemmas

@@ -1,0 +1,50 @@
+-- Sums that are kept in blocks of 64, each for neighbours in a row of a layer.
+use Rattle.std.specs.Prelude.{◌≡◌, ◌≤◌, ℕ, ℤ, ◌+◌, ◌*◌, ◌/◌, ◌%◌, Bool, ◌&&◌, ◌==◌, List, [], Option, Some, None, if◌then◌else◌, slice_index}
+use Rattle.std.specs.List.{position}
+use Rattle.cell_sums.specs.Lines.{common_length, is_from}
+use Rattle.cell_sums.specs.declared.row_cells.RowCells.{RowCells}
+use Rattle.cell_sums.specs.declared.row_cells.Strip.{Strip}
+
+-- the layer, the row and the number of a block in its row
+abbrev pub Key : Type 0
+Key = ℕ × ℕ × ℕ
+
+-- blocks by their keys, and the sums of one block after the other
+pub record BlockSums : Type 0 where
+  pub keys : List Key
+  pub sums : List ℕ
+
+abbrev pub is_key : Key → Key → Bool
+is_key a b = ((a.0 == b.0) && (a.1 == b.1)) && (a.2 == b.2)
+
+abbrev pub no_sums : BlockSums
+no_sums = record { keys = []; sums = [] }
+
+-- the place of a block among others
+abbrev pub block_at : List Key → Key → Option ℕ
+block_at keys k = position (is_key k) keys
+
+-- a sum of the block at a place
+abbrev pub sum_in : List ℕ → ℕ → Option ℕ → ℕ
+sum_in sums offset (Some n) = slice_index sums (n * 64 + offset)
+sum_in sums offset None = 0
+
+-- the sum of the cell on a layer in a column and a row: 0 where it has no block
+abbrev pub sum_at : BlockSums → ℕ → ℕ → ℕ → ℕ
+sum_at b layer column row = sum_in b.sums (column % 64) (block_at b.keys (layer, row, column / 64))
+
+-- what each cell of a layer, in a column and a row, has or gains
+abbrev pub Gains : Type 0
+Gains = ℕ → ℕ → ℕ → ℕ
+
+-- what consecutive cells of a row gain from a strip of a rectangle
+abbrev pub strip_gains : List ℤ → RowCells → Strip → Gains
+strip_gains columns cells strip l i j = if (cells.layer == l) && ((cells.row == j) && is_from cells.first cells.end i) then common_length columns strip.low strip.high i * strip.height else 0
+
+-- each sum has grown by what its cell gains,
+pub record HasGained (old new : BlockSums) (gains : Gains) : Type 0 where
+  pub sums : (l i j : ℕ) → sum_at new l i j ≡ sum_at old l i j + gains l i j
+
+-- or by no more than that
+pub record HasGainedAtMost (old new : BlockSums) (gains : Gains) : Type 0 where
+  pub sums : (l i j : ℕ) → sum_at new l i j ≤ sum_at old l i j + gains l i j

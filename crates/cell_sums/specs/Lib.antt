@@ -1,0 +1,4 @@
+pub mod Covered
+pub mod Blocks
+pub mod Lines
+pub mod Tables

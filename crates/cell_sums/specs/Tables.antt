@@ -1,0 +1,33 @@
+-- Sums of areas by the cells of a grid, layer by layer.
+use Rattle.std.specs.Prelude.{◌≡◌, ℕ, ◌+◌, ◌*◌, ◌^◌, ◌≤◌, ◌==◌, List, Some, ℤ, if◌then◌else◌}
+use Rattle.design_model.specs.Geometry.{Rectangle}
+use Rattle.measure_rules.specs.Density.{common_area}
+use Rattle.measure_rules.specs.GridCells.{cell_among}
+use Rattle.cell_sums.specs.Blocks.{BlockSums, Gains, sum_at}
+use Rattle.cell_sums.specs.Lines.{common_length}
+
+-- a grid by its lines, how many rectangles were added, and the sums of its cells
+pub record CellTable : Type 0 where
+  pub columns : List ℤ
+  pub rows : List ℤ
+  pub added : ℕ
+  pub blocks : BlockSums
+
+-- the sum of the cell on a layer in a column and a row
+abbrev pub sums : CellTable → ℕ → ℕ → ℕ → ℕ
+sums t layer column row = sum_at t.blocks layer column row
+
+-- what the cells of a layer have in common with a rectangle
+abbrev pub rectangle_gains : List ℤ → List ℤ → ℕ → Rectangle → Gains
+rectangle_gains columns rows layer r l i j = if layer == l then common_length columns r.x1 r.x2 i * common_length rows r.y1 r.y2 j else 0
+
+-- no sum is more than so many areas
+pub record AreBounded (b : BlockSums) (added : ℕ) : Type 0 where
+  pub sums : (l i j : ℕ) → sum_at b l i j ≤ added * 2 ^ 64
+
+-- the grid stays, and each cell of a layer has grown by the area that it has in common with a rectangle
+pub record Adds (layer : ℕ) (r : Rectangle) (old new : CellTable) : Type 0 where
+  pub columns : new.columns ≡ old.columns
+  pub rows : new.rows ≡ old.rows
+  pub added : new.added ≡ old.added + 1
+  pub sums : (l i j : ℕ) (cell : Rectangle) → cell_among old.columns old.rows i j ≡ Some cell → sums new l i j ≡ sums old l i j + (if layer == l then common_area cell r else 0)

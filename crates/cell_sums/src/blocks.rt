@@ -1,0 +1,153 @@
+//! Sums in blocks of 64, each for neighbours in a row of a layer.
+
+ghost use Rattle.std.specs.Prelude.{◌≡◌, ◌<◌, ◌≤◌, ◌+◌, ◌*◌, ◌/◌, ◌-◌, ◌^◌, ℕ, Some, IfOk, OnOk, OnErr, length, slice_index, if◌then◌else◌};
+ghost use Rattle.cell_sums.specs.Blocks.{HasGained, HasGainedAtMost, block_at, no_sums, strip_gains, sum_at};
+ghost use Rattle.cell_sums.specs.Lines.{common_length, is_from};
+
+use crate::covered::Stretch;
+use crate::lines::GridLines;
+use crate::row_cells::{RowCells, Strip};
+use indexmap::IndexSet;
+use std::alloc::{AllocError, Allocator, Global};
+use std::hash::{BuildHasherDefault, FoldHasher};
+use std::marker::Model;
+
+/// How many cells of a row share a block.
+const BLOCK: usize = 64;
+
+/// The layer, the row and the number of a block in its row.
+type Key = (usize, usize, usize);
+
+/// Sums by layer, row and column. They take memory only for blocks to which something was added.
+#[derive(Drop)]
+pub(crate) struct Blocks<A: Allocator = Global> {
+    keys: IndexSet<Key, BuildHasherDefault<FoldHasher>, A>,
+    /// The sums of one block after the other, in the order of the keys. Others may follow where a key's growth was refused.
+    sums: Vec<u128, A>,
+}
+
+impl<A: Allocator> Model for Blocks<A> {
+    ghost use Rattle.std.specs.Prelude.{◌≤◌, ◌*◌, length};
+    ghost use Rattle.cell_sums.specs.Blocks.{BlockSums};
+
+    ghost Value = { BlockSums };
+
+    ghost view = { λ b. record { keys = b.keys.keys; sums = b.sums.items } };
+
+    ghost invariant = { λ b. length b.keys.keys * 64 ≤ length b.sums.items };
+}
+
+/// The area that a strip has in common with the column of a number.
+fn area_in<A: Allocator>(columns: &GridLines<A>, strip: &Strip, column: usize) -> u128
+    ensures value { result ≡ common_length columns.now strip.now.low strip.now.high column * strip.now.height }
+    ensures small { result < 2 ^ 64 }
+{
+    let stretch = Stretch {
+        low: strip.low,
+        high: strip.high,
+    };
+    columns.common_length(column, stretch) as u128 * strip.height as u128
+}
+
+/// Adds the areas that a strip has in common with consecutive columns to as many sums, of which the first stands at a place.
+fn add_areas<A: Allocator>(
+    sums: &mut [u128],
+    place: usize,
+    columns: &GridLines<A>,
+    strip: &Strip,
+    first: usize,
+    count: usize,
+)
+    requires within { place + count ≤ length sums.old }
+    requires columns_fit { first + count < 2 ^ 64 }
+    requires fits { (n : ℕ) → place ≤ n → n < place + count → slice_index sums.old n + 2 ^ 64 ≤ 2 ^ 128 }
+    ensures { (n : ℕ) → slice_index sums.new n ≡ slice_index sums.old n + (if is_from place (place + count) n then common_length columns.now strip.now.low strip.now.high (first + (n - place)) * strip.now.height else 0) }
+{
+    for offset in 0..count {
+        sums[place + offset] += area_in(columns, strip, first + offset);
+    }
+}
+
+impl<A: Allocator + Copy> Blocks<A> {
+    /// No sums. It takes no memory.
+    pub(crate) fn new(alloc: A) -> Blocks<A>
+        ensures { result ≡ no_sums }
+    {
+        Blocks {
+            keys: IndexSet::with_hasher(alloc, BuildHasherDefault::new()),
+            sums: Vec::new(alloc),
+        }
+    }
+
+    /// The sum of a cell: 0 where nothing was added.
+    pub(crate) fn sum(&self, layer: usize, column: usize, row: usize) -> u128
+        ensures { result ≡ sum_at self.now layer column row }
+    {
+        match self.keys.get_index_of(&(layer, row, column / BLOCK)) {
+            Some(block) => self.sums[block * BLOCK + column % BLOCK],
+            None => 0,
+        }
+    }
+
+    /// The place of a block among all, made where there is none. No sum changes.
+    fn block(&mut self, key: Key) -> Result<usize, AllocError>
+        ensures place { IfOk result (λ n. block_at self.new.keys key ≡ Some n) }
+        ensures stands { IfOk result (λ n. n * 64 + 64 ≤ length self.new.sums) }
+        ensures same { (l i j : ℕ) → sum_at self.new l i j ≡ sum_at self.old l i j }
+    {
+        if let Some(block) = self.keys.get_index_of(&key) {
+            return Ok(block);
+        }
+        let block = self.keys.len();
+        self.sums.truncate(block * BLOCK);
+        self.sums.extend_from_slice(&[0; BLOCK])?;
+        self.keys.insert(key)?;
+        Ok(block)
+    }
+
+    /// Adds the areas that a strip has in common with cells of one block.
+    fn add_to_block<L: Allocator>(
+        &mut self,
+        cells: &RowCells,
+        columns: &GridLines<L>,
+        strip: &Strip,
+    ) -> Result<(), AllocError>
+        requires some { cells.now.first < cells.now.end }
+        requires together { cells.now.end ≤ cells.now.first / 64 * 64 + 64 }
+        requires fits { (i : ℕ) → cells.now.first ≤ i → sum_at self.old cells.now.layer i cells.now.row + 2 ^ 64 ≤ 2 ^ 128 }
+        ensures added { OnOk result (HasGained self.old self.new (strip_gains columns.now cells.now strip.now)) }
+        ensures refused { OnErr result ((l i j : ℕ) → sum_at self.new l i j ≡ sum_at self.old l i j) }
+    {
+        let block = self.block((cells.layer, cells.row, cells.first / BLOCK))?;
+        let sums = self.sums.as_mut_slice();
+        let place = block * BLOCK + cells.first % BLOCK;
+        let count = cells.end - cells.first;
+        add_areas(sums, place, columns, strip, cells.first, count);
+        Ok(())
+    }
+
+    /// Adds the areas that a strip has in common with cells. A refused growth may leave some of them added.
+    pub(crate) fn add<L: Allocator>(
+        &mut self,
+        cells: &RowCells,
+        columns: &GridLines<L>,
+        strip: &Strip,
+    ) -> Result<(), AllocError>
+        requires { (i : ℕ) → cells.now.first ≤ i → sum_at self.old cells.now.layer i cells.now.row + 2 ^ 64 ≤ 2 ^ 128 }
+        ensures added { OnOk result (HasGained self.old self.new (strip_gains columns.now cells.now strip.now)) }
+        ensures at_most { HasGainedAtMost self.old self.new (strip_gains columns.now cells.now strip.now) }
+    {
+        let mut first = cells.first;
+        while first < cells.end {
+            let end = first + (BLOCK - first % BLOCK).min(cells.end - first);
+            let part = RowCells {
+                first,
+                end,
+                ..*cells
+            };
+            self.add_to_block(&part, columns, strip)?;
+            first = end;
+        }
+        Ok(())
+    }
+}

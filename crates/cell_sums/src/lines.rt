@@ -1,0 +1,51 @@
+//! The lines of one axis of a grid.
+
+ghost use Rattle.std.specs.Prelude.{◌≡◌};
+ghost use Rattle.std.specs.List.{All};
+ghost use Rattle.design_model.specs.Ranges.{IsWithin};
+ghost use Rattle.measure_rules.specs.GridCells.{between, in_order};
+ghost use Rattle.cell_sums.specs.Lines.{farthest};
+
+use std::alloc::{Allocator, Global};
+use std::marker::Model;
+
+/// The lines of one axis of a grid, in order, each once, in database units. Those of columns are found by x, those of rows by y.
+#[derive(Drop)]
+pub struct GridLines<A: Allocator = Global> {
+    pub(crate) lines: Vec<i64, A>,
+}
+
+impl<A: Allocator> Model for GridLines<A> {
+    ghost use Rattle.std.specs.Prelude.{List, ℤ};
+    ghost use Rattle.cell_sums.specs.Lines.{AreLines};
+
+    ghost Value = { List ℤ };
+
+    ghost view = { λ g. g.lines.items };
+
+    ghost invariant = { λ g. AreLines g.lines.items };
+}
+
+impl<A: Allocator> GridLines<A> {
+    /// Lines in order, each once. It takes no memory.
+    pub fn of(lines: Vec<i64, A>) -> GridLines<A>
+        requires { All (IsWithin farthest) lines.items }
+        ensures { result ≡ in_order lines.items }
+    {
+        let mut lines = lines;
+        lines.sort_unstable();
+        lines.dedup();
+        GridLines { lines }
+    }
+
+    /// The two neighbours among the lines between which the cells of a number lie, counted from 0.
+    pub fn between(&self, place: usize) -> Option<(i64, i64)>
+        ensures { result ≡ between self.now place }
+    {
+        if place < self.lines.len().saturating_sub(1) {
+            Some((self.lines[place], self.lines[place + 1]))
+        } else {
+            None
+        }
+    }
+}
