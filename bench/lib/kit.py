@@ -2,6 +2,7 @@
 import importlib.machinery
 import importlib.util
 import os
+import re
 import shutil
 import sys
 import tempfile
@@ -26,6 +27,11 @@ def kit_line():
     """Returns the kit's one-line identity."""
     with open(f"{rt.KIT}/KIT-ID", encoding="utf-8") as file:
         return file.read().strip()
+
+
+def logic_line():
+    """Returns the identity of the kit's logic: its library and the kernel's rules, which decide what can be proved."""
+    return re.search(r"logic \w+", kit_line())[0]
 
 
 def crates(top=TOP):

@@ -1,6 +1,6 @@
 """What a crate's edits were tried on, as a sum, and the record of it beside them.
 
-An edit is refused or not by its own crate and by the contracts below it. So the sum is over the kit, the edits, the crate's
+An edit is refused or not by its own crate and by the contracts below it. So the sum is over the kit's logic, the edits, the crate's
 sources, specs and proofs, and of each crate below what a proof above can see: its specs, its lemmas, and its sources without
 the bodies of functions. A record whose sum isn't today's is stale.
 """
@@ -9,7 +9,7 @@ import os
 import re
 
 from lib.edits import FUNCTION, body_of, end_of
-from lib.kit import kit_line, rt
+from lib.kit import logic_line, rt
 
 RECORD = "TRIED"
 HEAD = "# What the edits of this folder were tried on, and what refused each. bench/wrong_bodies writes it.\n"
@@ -66,7 +66,7 @@ def sum_of(crate, edits):
         for it in (name, text):
             sums.update(f"{len(it.encode())} ".encode() + it.encode())
 
-    add("kit", kit_line())
+    add("logic", logic_line())
     add("uses", " ".join(sorted([*crate.of_kit, *(it.name for it in crate.deps)])))
     for edit in edits:
         add(edit.name, text_of(edit.file))
@@ -91,6 +91,6 @@ def write_record(folder, total, outcome):
     """Writes what a crate's edits were tried on, and what refused each."""
     lines = [f"{edit.name} {edit.function}: {verdict.value}: {why}" for edit, (verdict, why) in outcome.found.items()]
     with open(f"{folder}/{RECORD}", "w", encoding="utf-8") as file:
-        file.write(HEAD + f"kit {kit_line()}\nsum {total}\n" + "".join(f"{it}\n" for it in sorted(lines)))
+        file.write(HEAD + f"{logic_line()}\nsum {total}\n" + "".join(f"{it}\n" for it in sorted(lines)))
 
 
