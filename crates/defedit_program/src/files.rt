@@ -1,17 +1,15 @@
-//! Files, read whole and written whole.
+//! Files, read whole.
 
-ghost use Rattle.std.specs.Prelude.{◌<◌, ◌^◌, IfOk, OnOk};
-ghost use Rattle.std.specs.Io.KnownBytes.{Appends};
+ghost use Rattle.std.specs.Prelude.{◌<◌, ◌^◌, IfOk};
 ghost use Rattle.defedit_program.specs.Files.{IsText};
 
-use crate::outcome::Stop;
 use counted_devices::counted::{Counted, CountedRead, Failures};
 use counted_devices::input::{InputError, read_up_to};
 use design_model::MAX_TEXT;
 use edit_script::run::MAX_TURNS;
 use std::alloc::Global;
 use std::fs;
-use std::io::{Read, Write};
+use std::io::Read;
 use std::rt::Files;
 
 /// What a file holds: whole or, where it is longer than a text may be, up to where that shows.
@@ -28,14 +26,4 @@ pub fn read_text<R: Files>(alloc: Global, rt: &R, path: &str) -> Result<Vec<u8>,
         return Err(InputError::Read);
     };
     text_of(alloc, &mut Counted::new(file))
-}
-
-/// Writes a text into a file.
-pub fn fill_file<'a, W: Write>(file: &mut W, text: &[u8]) -> Result<(), Stop<'a>>
-    ensures { OnOk result (Appends (W.contents file.old) (W.contents file.new) text.now) }
-{
-    match file.write_all(text) {
-        Ok(()) => Ok(()),
-        Err(_) => Err(Stop::WriteFailed),
-    }
 }

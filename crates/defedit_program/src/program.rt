@@ -6,13 +6,14 @@ ghost use Rattle.defedit_program.specs.Statuses.{ends, refused_ends, unreadable}
 
 use crate::command_line::{Request, read_request};
 use crate::ending::run_to_end;
-use crate::files::{fill_file, read_text};
+use crate::files::read_text;
 use crate::outcome::{Outcome, Stop};
 use cell_library::lef_texts::LefTexts;
 use clap::Error;
 use clap::error::ErrorKind;
 use counted_devices::counted::Counted;
 use counted_devices::input::InputError;
+use output_file::{OutputFault, write_file};
 use std::alloc::Global;
 use std::rt::{Env, Files};
 use std::{env, fs, io};
@@ -62,16 +63,22 @@ fn run_request<'a, R: Files + Print>(
         Ok(ended) => ended,
         Err(fault) => return Err(Stop::Run(fault)),
     };
-    write_text(rt, request.out, ended.text.as_slice())?;
+    write_text(alloc, rt, request.out, ended.text.as_slice())?;
     Ok(ended.outcome)
 }
 
-/// Makes the output file.
-fn write_text<'a, R: Files>(rt: &R, path: &'a str, text: &[u8]) -> Result<(), Stop<'a>> {
-    let Ok(mut file) = fs::create(rt, path) else {
-        return Err(Stop::CannotWrite(path));
-    };
-    fill_file(&mut file, text)
+/// Writes the output file. Where that fails, a file that was there stays as it was.
+fn write_text<'a, R: Files>(
+    alloc: Global,
+    rt: &R,
+    path: &'a str,
+    text: &[u8],
+) -> Result<(), Stop<'a>> {
+    match write_file(alloc, rt, path, text) {
+        Ok(()) => Ok(()),
+        Err(OutputFault::Make) => Err(Stop::CannotWrite(path)),
+        Err(OutputFault::Write) => Err(Stop::WriteFailed),
+    }
 }
 
 /// Says on standard error why the program ends.

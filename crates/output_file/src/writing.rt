@@ -1,0 +1,120 @@
+//! Writing a whole text into a file.
+
+use crate::beside::new_file;
+use std::alloc::Global;
+use std::fs;
+use std::fs::{Metadata, OpenOptions};
+use std::io::Write;
+use std::rt::Files;
+
+/// Why a file isn't written.
+#[derive(Clone, Copy, Debug, PartialEq, Eq)]
+pub enum OutputFault {
+    /// It can't be made or opened, or no new file can be made beside it.
+    Make,
+    /// Its bytes can't be written, or the new file can't take its name.
+    Write,
+}
+
+/// Writes a text into a file that is open.
+fn fill<W: Write>(file: &mut W, text: &[u8]) -> Result<(), OutputFault> {
+    match file.write_all(text) {
+        Ok(()) => Ok(()),
+        Err(_) => Err(OutputFault::Write),
+    }
+}
+
+/// Writes a text into what has this path, from its begin on.
+fn write_in_place<R: Files>(rt: &R, path: &str, text: &[u8]) -> Result<(), OutputFault> {
+    let Ok(mut file) = fs::create(rt, path) else {
+        return Err(OutputFault::Make);
+    };
+    fill(&mut file, text)
+}
+
+/// Writes a text into a new file, gives that the mode of the old one, and then the old one's name.
+fn fill_and_rename<R: Files>(
+    rt: &R,
+    file: R::File,
+    name: &str,
+    path: &str,
+    old: Option<Metadata>,
+    text: &[u8],
+) -> Result<(), OutputFault> {
+    let mut file = file;
+    fill(&mut file, text)?;
+    if let Some(old) = old {
+        if let Err(_) = fs::set_permissions(rt, name, old.permissions()) {
+            return Err(OutputFault::Write);
+        }
+    }
+    match fs::rename(rt, name, path) {
+        Ok(()) => Ok(()),
+        Err(_) => Err(OutputFault::Write),
+    }
+}
+
+/// Writes a text into a new file beside this path, which then takes that name. A new file that doesn't come to that is taken away.
+fn write_beside<R: Files>(
+    alloc: Global,
+    rt: &R,
+    path: &str,
+    old: Option<Metadata>,
+    text: &[u8],
+) -> Result<(), OutputFault> {
+    let Some((file, name)) = new_file(alloc, rt, path) else {
+        return Err(OutputFault::Make);
+    };
+    let written = fill_and_rename(rt, file, name.as_str(), path, old, text);
+    if let Err(_) = written {
+        let _ = fs::remove_file(rt, name.as_str());
+    }
+    written
+}
+
+/// Whether a file that is there may be written.
+fn may_write<R: Files>(rt: &R, path: &str) -> bool {
+    let mut how = OpenOptions::new();
+    how.write(true);
+    how.open(rt, path).is_ok()
+}
+
+/// Replaces a plain file, where a link's path leads to it.
+fn replace<R: Files>(
+    alloc: Global,
+    rt: &R,
+    path: &str,
+    old: Metadata,
+    text: &[u8],
+) -> Result<(), OutputFault> {
+    if !may_write(rt, path) {
+        return Err(OutputFault::Make);
+    }
+    let Ok(whole) = rt.canonicalize(alloc, path) else {
+        return Err(OutputFault::Make);
+    };
+    write_beside(alloc, rt, whole.as_str(), Some(old), text)
+}
+
+/// Whether something stands at a path, be it a link that leads nowhere.
+fn is_link<R: Files>(rt: &R, path: &str) -> bool {
+    match fs::symlink_metadata(rt, path) {
+        Ok(_) => true,
+        Err(_) => false,
+    }
+}
+
+/// Writes a text into the file of a path. A plain file that is there keeps its old bytes where any step fails.
+pub fn write_file<R: Files>(
+    alloc: Global,
+    rt: &R,
+    path: &str,
+    text: &[u8],
+) -> Result<(), OutputFault> {
+    match fs::metadata(rt, path) {
+        Ok(old) if old.is_file() => replace(alloc, rt, path, old, text),
+        Ok(_) => write_in_place(rt, path, text),
+        Err(_) if is_link(rt, path) => write_in_place(rt, path, text),
+        Err(_) => write_beside(alloc, rt, path, None, text),
+    }
+}
