@@ -1,27 +1,25 @@
 -- A text with the cuts of an accepted edit made reads as the edited design, and keeps its other bytes.
-use Rattle.std.proofs.Common.{◌≡◌, List, [], ◌∷◌, length, sym, ap, subst, ◌∙◌}
-use Rattle.statement_model.specs.Cuts.{Cut}
-use Rattle.edit_rules.specs.Edits.{of_component, plan_of, applied}
-use Rattle.edit_rules.specs.Plans.{cut_of, cuts_for}
-use Rattle.splicing_laws.specs.KeepingLaws.{IsOneCut, OneCutKeepsTheRest, AreInOrder}
-use Rattle.edit_laws.specs.ComponentLaws.{ComponentPlansAreMade, ComponentPlansAreOne}
+use Rattle.std.proofs.Common.{◌≡◌, ℕ, List, Ok}
+use Rattle.def_grammar.specs.Records.{Record, read_def}
+use Rattle.lef_grammar.specs.Library.{Library}
+use Rattle.edit_rules.specs.Edits.{Change, of_component, of_net, of_section, plan_of, applied}
+use Rattle.edit_laws.specs.ComponentLaws.{ComponentPlansAreMade}
 use Rattle.edit_laws.specs.EditLaws.{EditsAreApplied, EditsKeepTheRest}
-use Rattle.edit_laws.specs.PlanLaws.{PlansAreApplied, PlansStandInOrder}
-use Rattle.edit_laws.proofs.PlanTexts.{accepted}
+use Rattle.edit_laws.specs.NetLaws.{NetPlansAreMade}
+use Rattle.edit_laws.specs.PlanLaws.{Plans, PlansAreApplied, PlansStandInOrder}
+use Rattle.edit_laws.specs.SectionLaws.{SectionPlansAreMade}
 
-pub edits_are_applied : ComponentPlansAreMade → PlansAreApplied → EditsAreApplied
-edits_are_applied made_so applied_so library text design (of_component name change) cuts reads made =
-    let edit = of_component name change in
-    applied_so text design (applied edit design) (plan_of library text design edit) cuts reads (made_so library text design name change reads) made
+module _ (components_so : ComponentPlansAreMade) (nets_so : NetPlansAreMade) (sections_so : SectionPlansAreMade) where
+  -- the plan of any edit is one for the edited design
+  plans_are_made : (library : Library) (text : List ℕ) (design : List Record) (change : Change) → read_def text ≡ Ok design → Plans text design (plan_of library text design change) (applied change design)
+  plans_are_made library text design (of_component name change) reads = components_so library text design name change reads
+  plans_are_made library text design (of_net name change) reads = nets_so library text design name change reads
+  plans_are_made library text design (of_section change) reads = sections_so library text design change reads
 
-pub edits_keep_the_rest : ComponentPlansAreMade → ComponentPlansAreOne → PlansStandInOrder → OneCutKeepsTheRest → EditsKeepTheRest
-edits_keep_the_rest made_so one_so order_so keep_so library text design (of_component name change) cuts reads made =
-    let edit = of_component name change in
-    let plan = plan_of library text design edit in
-    let order = order_so text design (applied edit design) plan cuts reads (made_so library text design name change reads) made in
-    let a = accepted text plan cuts made in
-    let x = one_so library text design name change reads a.free in
-    let cut = cut_of text x.0.0 x.0.1 in
-    let one : cuts ≡ cut ∷ [] = sym a.cuts_are ∙ ap (cuts_for text) x.1 in
-    let stands = subst (λ (cs : List Cut). AreInOrder 0 cs (length text)) one order in
-    subst (λ (cs : List Cut). IsOneCut text cs) (sym one) (keep_so text cut stands.1 stands.2)
+  pub edits_are_applied : PlansAreApplied → EditsAreApplied
+  edits_are_applied applied_so library text design change cuts reads made =
+      applied_so text design (applied change design) (plan_of library text design change) cuts reads (plans_are_made library text design change reads) made
+
+  pub edits_keep_the_rest : PlansStandInOrder → EditsKeepTheRest
+  edits_keep_the_rest order_so library text design change cuts reads made =
+      order_so text design (applied change design) (plan_of library text design change) cuts reads (plans_are_made library text design change reads) made

@@ -10,6 +10,7 @@ pub mod FoundEntries
 pub mod Keys
 pub mod MappedParts
 pub mod Moves
+pub mod NameTokens
 pub mod OneEdited
 pub mod PartForms
 pub mod PlaceForms
@@ -20,11 +21,13 @@ pub mod PlacingClauses
 pub mod Plain
 pub mod PlanTexts
 pub mod PutApart
+pub mod RemasteredWords
 pub mod SaidStatements
 pub mod SameWords
 pub mod StandingStatements
 pub mod Stands
 pub mod StatementsChanged
+pub mod UnplacedWords
 pub mod WholeEntries
 pub mod WireForms
 pub mod WrittenEntries

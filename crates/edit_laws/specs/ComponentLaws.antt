@@ -1,5 +1,5 @@
 -- Laws of edits of a component.
-use Rattle.std.specs.Prelude.{◌≡◌, ℕ, List, [], ◌∷◌, Some, None, Ok}
+use Rattle.std.specs.Prelude.{◌≡◌, ℕ, List, Some, Ok}
 use Rattle.statement_model.specs.Tokens.{Token}
 use Rattle.def_grammar.specs.Components.{Component}
 use Rattle.def_grammar.specs.Records.{component, Record, entry, read_def}
@@ -7,7 +7,6 @@ use Rattle.lef_grammar.specs.Library.{Library}
 use Rattle.edit_rules.specs.ComponentEdits.{ComponentChange}
 use Rattle.edit_rules.specs.Edits.{of_component, plan_of, applied}
 use Rattle.def_grammar.specs.Located.{component_at}
-use Rattle.edit_rules.specs.Plans.{StatementChange, lowest}
 use Rattle.edit_laws.specs.PlanLaws.{Plans}
 use Rattle.edit_laws.specs.StatementLaws.{StandsAmong}
 
@@ -22,10 +21,3 @@ abbrev pub ComponentPlansAreMade : Type 0
 ComponentPlansAreMade = (library : Library) (text : List ℕ) (design : List Record) (name : List ℕ) (change : ComponentChange)
     → read_def text ≡ Ok design
     → Plans text design (plan_of library text design (of_component name change)) (applied (of_component name change) design)
-
--- Where it isn't refused, it is one change.
-abbrev pub ComponentPlansAreOne : Type 0
-ComponentPlansAreOne = (library : Library) (text : List ℕ) (design : List Record) (name : List ℕ) (change : ComponentChange)
-    → read_def text ≡ Ok design
-    → lowest (plan_of library text design (of_component name change)).refusals ≡ None
-    → (x : List Token × StatementChange) × ((plan_of library text design (of_component name change)).changes ≡ x ∷ [])

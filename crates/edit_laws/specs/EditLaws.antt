@@ -1,10 +1,10 @@
 -- Laws of edits.
-use Rattle.std.specs.Prelude.{◌≡◌, ℕ, List, Ok}
+use Rattle.std.specs.Prelude.{◌≡◌, ℕ, List, length, Ok}
 use Rattle.statement_model.specs.Cuts.{Cut, with_cuts}
 use Rattle.def_grammar.specs.Records.{Record, read_def}
 use Rattle.lef_grammar.specs.Library.{Library}
 use Rattle.edit_rules.specs.Edits.{Change, cuts_of, applied}
-use Rattle.splicing_laws.specs.KeepingLaws.{IsOneCut}
+use Rattle.splicing_laws.specs.KeepingLaws.{AreInOrder}
 
 -- A text that reads, with the cuts of an accepted edit made, reads as the edited design.
 abbrev pub EditsAreApplied : Type 0
@@ -13,9 +13,10 @@ EditsAreApplied = (library : Library) (text : List ℕ) (design : List Record) (
     → cuts_of library text design change ≡ Ok cuts
     → read_def (with_cuts cuts text) ≡ Ok (applied change design)
 
--- An accepted edit of a text that reads is one cut within the text: the bytes before it and after it stay.
+-- The cuts of an accepted edit of a text that reads stand in order within the text: the bytes around them stay, as
+-- with_cuts has them.
 abbrev pub EditsKeepTheRest : Type 0
 EditsKeepTheRest = (library : Library) (text : List ℕ) (design : List Record) (change : Change) (cuts : List Cut)
     → read_def text ≡ Ok design
     → cuts_of library text design change ≡ Ok cuts
-    → IsOneCut text cuts
+    → AreInOrder 0 cuts (length text)

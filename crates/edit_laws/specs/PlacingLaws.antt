@@ -1,12 +1,15 @@
--- Laws of placing a component: it is a change within its entry.
-use Rattle.std.specs.Prelude.{◌≡◌, false, ℤ, List, [], ◌∷◌, ◌++◌, None, codes}
+-- Laws of changes of a component's entry: placing it, unplacing it, and giving it another macro.
+use Rattle.std.specs.Prelude.{◌≡◌, ℕ, true, false, ℤ, List, [], ◌∷◌, ◌++◌, None, codes}
 use Rattle.design_model.specs.declared.geometry.Orient.{Orient}
 use Rattle.statement_model.specs.Tokens.{Token}
 use Rattle.statement_model.specs.Boundaries.{words}
 use Rattle.statement_model.specs.Form.{spell, Fits}
 use Rattle.def_grammar.specs.Components.{Component, clause, component_form}
 use Rattle.def_grammar.specs.Records.{component, entry}
-use Rattle.edit_rules.specs.ComponentEdits.{placement_at, placed_text, placed_component, place_change, is_out}
+use Rattle.lef_grammar.specs.Library.{Library}
+use Rattle.edit_rules.specs.ComponentEdits.{placement_at, placed_text, placed_component, place_change, unplaced_component, unplace_plan, remastered, remaster_plan, is_out}
+use Rattle.edit_rules.specs.NameTexts.{is_name_text}
+use Rattle.edit_rules.specs.Plans.{StatementChange}
 use Rattle.splicing_laws.specs.SplicingLaws.{AreTokens}
 use Rattle.edit_laws.specs.EntryLaws.{IsWritten}
 use Rattle.edit_laws.specs.StatementLaws.{IsChange}
@@ -33,3 +36,22 @@ PlacingsAreChanges = (ps : List Token) (c : Component) (x y : ℤ) (o : Orient)
     → is_out y ≡ false
     → IsWritten (words ps) (component c)
     → IsChange ps (entry (component c)) (place_change x y o c)
+
+-- changes of an entry that make its component another: one, or none where it stays
+abbrev pub AreChanges : List Token → Component → Component → List (List Token × StatementChange) → Type 0
+AreChanges ps c new [] = new ≡ c
+AreChanges ps c new (x ∷ []) = (x.0 ≡ ps) × IsChange ps (entry (component c)) x.1 × (x.1.said ≡ entry (component new) ∷ [])
+AreChanges ps c new (x ∷ y ∷ xs) = ⊥
+
+-- Unplacing one makes such changes,
+abbrev pub UnplacingsAreChanges : Type 0
+UnplacingsAreChanges = (ps : List Token) (c : Component)
+    → IsWritten (words ps) (component c)
+    → AreChanges ps c (unplaced_component c) (unplace_plan ps c).changes
+
+-- and so does giving it a macro whose name is one wherever it is put.
+abbrev pub RemasteringsAreChanges : Type 0
+RemasteringsAreChanges = (library : Library) (ps : List Token) (c : Component) (cell : List ℕ)
+    → is_name_text cell ≡ true
+    → IsWritten (words ps) (component c)
+    → AreChanges ps c (remastered cell c) (remaster_plan library cell ps c).changes

@@ -2,24 +2,27 @@
 
 ghost use Rattle.edit_laws.specs.EditLaws.{EditsAreApplied, EditsKeepTheRest};
 
-use crate::components::{component_plans_are_made, component_plans_are_one};
+use crate::components::component_plans_are_made;
+use crate::nets::net_plans_are_made;
 use crate::plans::{plans_are_applied, plans_stand_in_order};
-use splicing_laws::keeping::one_cut_keeps_the_rest;
+use crate::sections::section_plans_are_made;
 
 /// A text that reads, with the cuts of an accepted edit made, reads as the edited design.
 pub fn edits_are_applied()
     ensures { EditsAreApplied }
 {
     component_plans_are_made();
+    net_plans_are_made();
+    section_plans_are_made();
     plans_are_applied();
 }
 
-/// An accepted edit of a text that reads is one cut within the text: the bytes before it and after it stay.
+/// The cuts of an accepted edit of a text that reads stand in order within the text: the bytes around them stay.
 pub fn edits_keep_the_rest()
     ensures { EditsKeepTheRest }
 {
     component_plans_are_made();
-    component_plans_are_one();
+    net_plans_are_made();
+    section_plans_are_made();
     plans_stand_in_order();
-    one_cut_keeps_the_rest();
 }

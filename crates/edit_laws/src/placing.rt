@@ -1,6 +1,12 @@
-//! Laws of placing a component: it is a change of its entry.
+//! Laws of placing a component, unplacing it, and giving it another macro: each is a change of its entry.
 
-ghost use Rattle.edit_laws.specs.PlacingLaws.{PlacedComponentsFit, PlacementsAreTokens, PlacingsAreChanges};
+ghost use Rattle.edit_laws.specs.PlacingLaws.{
+  PlacedComponentsFit,
+  PlacementsAreTokens,
+  PlacingsAreChanges,
+  RemasteringsAreChanges,
+  UnplacingsAreChanges,
+};
 
 use splicing_laws::putting::{
     printed_numbers_are_read, printed_numbers_are_words, spaced_are_tokens,
@@ -28,4 +34,18 @@ pub fn placings_are_changes()
 {
     placements_are_tokens();
     placed_components_fit();
+}
+
+/// Unplacing a component is no change, and it stays, or one of its entry.
+pub fn unplacings_are_changes()
+    ensures { UnplacingsAreChanges }
+{
+    spaced_are_tokens();
+}
+
+/// Giving a component another macro is a change of its entry.
+pub fn remasterings_are_changes()
+    ensures { RemasteringsAreChanges }
+{
+    spaced_are_tokens();
 }
