@@ -1,6 +1,3 @@
 mod ComponentRows
 mod EditedTexts
 mod ScriptRows
-mod SectionRows
-mod TerminalRows
-mod WiringRows
