@@ -19,7 +19,7 @@ use Rattle.report_rules.specs.Diagnostics.{diagnostics}
 use Rattle.edit_rules.specs.Edits.{Change, applied, is_long}
 use Rattle.def_grammar.specs.Located.{located, bytes_of, entry_at}
 use Rattle.edit_rules.specs.Runs.{Makes, WantsMemory, new_text, text_outcome}
-use Rattle.splicing_laws.specs.KeepingLaws.{IsOneCut}
+use Rattle.splicing_laws.specs.KeepingLaws.{AreInOrder}
 use Rattle.def_reader.specs.EntryViews.{EntryAt, entry_view}
 use Rattle.def_reader.specs.declared.entry.Entry as code
 use Rattle.edit_session.specs.declared.view.View.{View}
@@ -45,9 +45,9 @@ EditsText library old change (Err Memory) new = (new ≡ old) × WantsMemory lib
 abbrev pub ReadsEdited : List ℕ → Change → List ℕ → Type 0
 ReadsEdited old change new = (design : List Record) × (read_def old ≡ Ok design) × (read_def new ≡ Ok (applied change design))
 
--- and it has all bytes of the text before, but those of the one cut that the edit makes
+-- and it has all bytes of the text before, but those of the cuts that the edit makes, which stand in order within it
 abbrev pub KeepsTheRest : Library → List ℕ → Change → List ℕ → Type 0
-KeepsTheRest library old change new = (cuts : List Cut) × Makes library old change (Ok cuts) × (new ≡ with_cuts cuts old) × IsOneCut old cuts
+KeepsTheRest library old change new = (cuts : List Cut) × Makes library old change (Ok cuts) × (new ≡ with_cuts cuts old) × AreInOrder 0 cuts (length old)
 
 -- the same of bytes in the place of others: refused memory comes only where the range and the length are good
 abbrev pub ReplacesText : {V : Type 0} → (V → List ℕ) → List ℕ → ℕ → ℕ → List ℕ → Result V EditRefusal → Type 0

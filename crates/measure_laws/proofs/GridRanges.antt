@@ -8,6 +8,7 @@ use Rattle.std.proofs.lemmas.Int.{ints, clamps}
 use Rattle.std.proofs.lemmas.List.Elements.{All-nil, All-cons, All-head, All-tail}
 use Rattle.std.proofs.lemmas.Nat.{mul-le}
 use Rattle.design_model.specs.Geometry.{Rectangle}
+use Rattle.design_model.specs.Ranges.{IsWithin}
 use Rattle.design_model.specs.Units.{whole}
 use Rattle.design_model.specs.declared.number.NumFault.{NumFault}
 use Rattle.form_meanings.specs.Words.{◌>>=◌}
@@ -24,7 +25,7 @@ use Rattle.number_laws.specs.RecordNumbers.{RecordNumbers}
 use Rattle.number_laws.proofs.EachOf.{map_each, flat_map_each}
 use Rattle.measure_rules.specs.Density.{extent, area_of}
 use Rattle.measure_rules.specs.GridCells.{line_at, lines_of, is_x, lines_along_x, lines_along_y, with_line, in_order, columns, rows, between, cell_among}
-use Rattle.measure_laws.specs.RangeLaws.{IsInRange, CellFits, CellsFit, DensitiesFit}
+use Rattle.measure_laws.specs.RangeLaws.{IsInRange, CellFits, CellsFit, DensitiesFit, LinesFit}
 use Rattle.measure_laws.proofs.AxisParts.{cell_of}
 use Rattle.measure_laws.proofs.CommonAreas.{densities_are_within}
 use Rattle.measure_laws.proofs.PathLengths.{int_within}
@@ -140,3 +141,17 @@ densities_fit cell fits ss layer few =
     let area = fits.area in
     let product = mul-le (length ss) (area_of cell) 18446744073709551615 18446744073709551615 (omega arith) (omega arith) in
     omega (arith, within, product)
+
+near_line : (z : ℤ) → IsInRange z → IsWithin 2147483647 z
+near_line z fits = record { low = omega (arith, ints, fits); high = omega (arith, ints, fits) }
+
+all_near : (ls : List ℤ) → All IsInRange ls → All (IsWithin 2147483647) ls
+all_near [] all = All-nil (IsWithin 2147483647)
+all_near (l ∷ ls) all = All-cons (IsWithin 2147483647) l ls (near_line l (All-head IsInRange l ls all)) (all_near ls (All-tail IsInRange l ls all))
+
+pub lines_fit : DefNumbersPass → LinesFit
+lines_fit pass text design e =
+    let all = pass text design e in (
+      all_near (flat_map lines_along_x design) (flat_map_each lines_along_x RecordNumbers IsInRange along_x_within design all),
+      all_near (flat_map lines_along_y design) (flat_map_each lines_along_y RecordNumbers IsInRange along_y_within design all),
+    )

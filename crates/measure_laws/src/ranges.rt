@@ -1,6 +1,6 @@
 //! Laws of the ranges of cells and of densities.
 
-ghost use Rattle.measure_laws.specs.RangeLaws.{CellsFit, DensitiesFit};
+ghost use Rattle.measure_laws.specs.RangeLaws.{CellsFit, DensitiesFit, LinesFit};
 
 use number_laws::records::def_numbers_pass;
 
@@ -15,3 +15,10 @@ pub fn cells_fit()
 pub fn densities_fit()
     ensures { DensitiesFit }
 {}
+
+/// The lines of the grid of a DEF text that reads are in the range of numbers.
+pub fn lines_fit()
+    ensures { LinesFit }
+{
+    def_numbers_pass();
+}
