@@ -1,6 +1,6 @@
 //! The lines of one axis of a grid.
 
-ghost use Rattle.std.specs.Prelude.{◌≡◌, ◌<◌, ◌^◌};
+ghost use Rattle.std.specs.Prelude.{◌≡◌, ◌<◌, ◌^◌, IfSome};
 ghost use Rattle.std.specs.List.{All};
 ghost use Rattle.design_model.specs.Ranges.{IsWithin};
 ghost use Rattle.measure_rules.specs.GridCells.{between, in_order};
@@ -42,7 +42,8 @@ impl<A: Allocator> GridLines<A> {
 
     /// The two neighbours among the lines between which the cells of a number lie, counted from 0.
     pub fn between(&self, place: usize) -> Option<(i64, i64)>
-        ensures { result ≡ between self.now place }
+        ensures lines { result ≡ between self.now place }
+        ensures near { IfSome result (λ c. IsWithin farthest c.0 × IsWithin farthest c.1) }
     {
         if place < self.lines.len().saturating_sub(1) {
             Some((self.lines[place], self.lines[place + 1]))
@@ -56,10 +57,9 @@ impl<A: Allocator> GridLines<A> {
         ensures value { result ≡ common_length self.now stretch.low stretch.high place }
         ensures small { result < 2 ^ 32 }
     {
-        if place < self.lines.len().saturating_sub(1) {
-            length_shared(self.lines[place], self.lines[place + 1], stretch)
-        } else {
-            0
+        match self.between(place) {
+            Some((low, high)) => length_shared(low, high, stretch),
+            None => 0,
         }
     }
 
