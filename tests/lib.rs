@@ -1,11 +1,13 @@
 //! Tests that are run and not proved: of sessions and of runs of scripts, of libraries and LEF texts, of names, of tokens, of pins, of
-//! the pieces of wires, rectangles that meet, and sets of shapes. They try what no case folder can hold and what no program calls.
+//! the pieces of wires, rectangles that meet, sets of shapes, and sums of areas by the cells of a grid. They try what no case folder
+//! can hold and what no program calls.
 #![tactic(auto)]
 
 mod design_wires;
 mod device_runs;
 mod devices;
 mod entry_names;
+mod grid_sums;
 mod heaps;
 mod lef_events;
 mod library_macros;

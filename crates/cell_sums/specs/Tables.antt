@@ -17,6 +17,13 @@ pub record CellTable : Type 0 where
 abbrev pub sums : CellTable → ℕ → ℕ → ℕ → ℕ
 sums t layer column row = sum_at t.blocks layer column row
 
+-- a grid of these columns and rows to which nothing was added
+pub record IsNew (xs ys : List ℤ) (t : CellTable) : Type 0 where
+  pub columns : t.columns ≡ xs
+  pub rows : t.rows ≡ ys
+  pub added : t.added ≡ 0
+  pub sums : (l i j : ℕ) → sums t l i j ≡ 0
+
 -- what the cells of a layer have in common with a rectangle
 abbrev pub rectangle_gains : List ℤ → List ℤ → ℕ → Rectangle → Gains
 rectangle_gains columns rows layer r l i j = if layer == l then common_length columns r.x1 r.x2 i * common_length rows r.y1 r.y2 j else 0

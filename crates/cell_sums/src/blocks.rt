@@ -4,9 +4,9 @@ ghost use Rattle.std.specs.Prelude.{◌≡◌, ◌<◌, ◌≤◌, ◌+◌, ◌*
 ghost use Rattle.cell_sums.specs.Blocks.{HasGained, HasGainedAtMost, block_at, no_sums, strip_gains, sum_at};
 ghost use Rattle.cell_sums.specs.Lines.{common_length, is_from};
 
-use crate::covered::Stretch;
 use crate::lines::GridLines;
 use crate::row_cells::{RowCells, Strip};
+use crate::stretch::Stretch;
 use indexmap::IndexSet;
 use std::alloc::{AllocError, Allocator, Global};
 use std::hash::{BuildHasherDefault, FoldHasher};

@@ -1,17 +1,16 @@
 //! Sums of areas by the cells of a grid.
 
-ghost use Rattle.std.specs.Prelude.{◌≡◌, ◌<◌, ◌≤◌, ◌+◌, ◌^◌, ℕ, OnOk, ℤ};
+ghost use Rattle.std.specs.Prelude.{◌≡◌, ◌<◌, ◌≤◌, ◌+◌, ◌^◌, ℕ, OnOk};
 ghost use Rattle.std.specs.Option.{option_map};
-ghost use Rattle.design_model.specs.Geometry.{Rectangle};
 ghost use Rattle.design_model.specs.Views.{rectangle_of};
 ghost use Rattle.measure_rules.specs.GridCells.{cell_among};
-ghost use Rattle.cell_sums.specs.Blocks.{HasGained, no_sums, sum_at};
-ghost use Rattle.cell_sums.specs.Tables.{Adds, rectangle_gains, sums};
+ghost use Rattle.cell_sums.specs.Blocks.{HasGained, sum_at};
+ghost use Rattle.cell_sums.specs.Tables.{Adds, IsNew, rectangle_gains, sums};
 
 use crate::blocks::Blocks;
-use crate::covered::Stretch;
 use crate::lines::GridLines;
 use crate::row_cells::{RowCells, Strip};
+use crate::stretch::Stretch;
 use design_model::geometry::Rect;
 use std::alloc::{AllocError, Allocator, Global};
 use std::marker::Model;
@@ -78,7 +77,7 @@ fn add_area<A: Allocator + Copy>(
 impl<A: Allocator + Copy> CellSums<A> {
     /// No sums yet, for the cells between these lines. It takes no memory.
     pub fn new(alloc: A, columns: GridLines<A>, rows: GridLines<A>) -> CellSums<A>
-        ensures { result ≡ record { columns = columns; rows = rows; added = 0; blocks = no_sums } }
+        ensures { IsNew columns rows result }
     {
         CellSums {
             columns,

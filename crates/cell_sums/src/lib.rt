@@ -12,9 +12,9 @@
 
 mod blocks;
 mod cell_sums;
-mod covered;
 mod lines;
 mod row_cells;
+mod stretch;
 
 pub use cell_sums::CellSums;
 pub use lines::GridLines;

@@ -2,7 +2,7 @@ use Rattle.std.proofs.Common.{arith, rules, ap₂, ◌∙◌, w64}
 use Rattle.std.proofs.lemmas.Int.{to_z-of_z}
 use Rattle.std.specs.Int.{int_max, int_min}
 use Rattle.cell_sums.proofs.LengthLemmas.{extent_taken, extent_left, extent_small}
-use Rattle.cell_sums.proofs.covered.length_shared.Goals as goal
+use Rattle.cell_sums.proofs.stretch.length_shared.Goals as goal
 
 pub returns-then-low-high-clause-value : goal.returns-then-low-high-clause-value
 returns-then-low-high-clause-value c =
