@@ -6,9 +6,10 @@ use Rattle.statement_model.specs.Cuts.{Cut, with_cuts}
 use Rattle.def_grammar.specs.Records.{Record, read_def}
 use Rattle.connection_examples.proofs.NetTexts.{library, net_words}
 use Rattle.edit_rules.specs.Edits.{Change, cuts_of}
+use Rattle.edit_rules.specs.NetEdits.{opens_comment}
 
 unfoldable pub edit_words : Unit {0}
-unfolding net_words
+unfolding net_words opens_comment
 edit_words = tt
 
 abbrev made : List ℕ → Result (List Cut) EditCode → Result (List ℕ) EditCode

@@ -1,3 +1,6 @@
 mod ComponentRows
 mod EditedTexts
 mod ScriptRows
+mod SectionRows
+mod TerminalRows
+mod WiringRows

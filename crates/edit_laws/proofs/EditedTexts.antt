@@ -2,15 +2,19 @@
 use Rattle.std.proofs.Common.{◌≡◌, ℕ, List, Ok}
 use Rattle.def_grammar.specs.Records.{Record, read_def}
 use Rattle.lef_grammar.specs.Library.{Library}
-use Rattle.edit_rules.specs.Edits.{Change, of_component, plan_of, applied}
+use Rattle.edit_rules.specs.Edits.{Change, of_component, of_net, of_section, plan_of, applied}
 use Rattle.edit_laws.specs.ComponentLaws.{ComponentPlansAreMade}
 use Rattle.edit_laws.specs.EditLaws.{EditsAreApplied, EditsKeepTheRest}
+use Rattle.edit_laws.specs.NetLaws.{NetPlansAreMade}
 use Rattle.edit_laws.specs.PlanLaws.{Plans, PlansAreApplied, PlansStandInOrder}
+use Rattle.edit_laws.specs.SectionLaws.{SectionPlansAreMade}
 
-module _ (components_so : ComponentPlansAreMade) where
+module _ (components_so : ComponentPlansAreMade) (nets_so : NetPlansAreMade) (sections_so : SectionPlansAreMade) where
   -- the plan of any edit is one for the edited design
   plans_are_made : (library : Library) (text : List ℕ) (design : List Record) (change : Change) → read_def text ≡ Ok design → Plans text design (plan_of library text design change) (applied change design)
   plans_are_made library text design (of_component name change) reads = components_so library text design name change reads
+  plans_are_made library text design (of_net name change) reads = nets_so library text design name change reads
+  plans_are_made library text design (of_section change) reads = sections_so library text design change reads
 
   pub edits_are_applied : PlansAreApplied → EditsAreApplied
   edits_are_applied applied_so library text design change cuts reads made =

@@ -2,7 +2,9 @@ pub mod AloneLaws
 pub mod ComponentLaws
 pub mod EditLaws
 pub mod EntryLaws
+pub mod NetLaws
 pub mod PlacingLaws
 pub mod PlanLaws
 pub mod RunningLaws
+pub mod SectionLaws
 pub mod StatementLaws

@@ -3,13 +3,17 @@
 ghost use Rattle.edit_laws.specs.EditLaws.{EditsAreApplied, EditsKeepTheRest};
 
 use crate::components::component_plans_are_made;
+use crate::nets::net_plans_are_made;
 use crate::plans::{plans_are_applied, plans_stand_in_order};
+use crate::sections::section_plans_are_made;
 
 /// A text that reads, with the cuts of an accepted edit made, reads as the edited design.
 pub fn edits_are_applied()
     ensures { EditsAreApplied }
 {
     component_plans_are_made();
+    net_plans_are_made();
+    section_plans_are_made();
     plans_are_applied();
 }
 
@@ -18,5 +22,7 @@ pub fn edits_keep_the_rest()
     ensures { EditsKeepTheRest }
 {
     component_plans_are_made();
+    net_plans_are_made();
+    section_plans_are_made();
     plans_stand_in_order();
 }

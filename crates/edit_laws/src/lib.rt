@@ -8,15 +8,18 @@
 //! as many as there are and from any place of a text on (`specs/StatementLaws`). An edit owes that its plan is one for the
 //! edited design: `components` says so of the edits of a component (`specs/ComponentLaws`), by `placing`, which says that
 //! placing one, unplacing it and giving it another macro are changes of its entry (`specs/PlacingLaws`), and by the laws
-//! of `entries`. The edits themselves are defined in `edit_rules/specs/Edits`. `alone` says that an entry reads from its
-//! own bytes as it does in its text.
+//! of `entries`; `nets` says so of the edits of a net, and `sections` of those that put an entry into a section or take it
+//! out. The edits themselves are defined in `edit_rules/specs/Edits`. `alone` says that an entry reads from its own bytes
+//! as it does in its text.
 #![tactic(auto)]
 
 pub mod alone;
 pub mod components;
 pub mod editing;
 pub mod entries;
+pub mod nets;
 pub mod placing;
 pub mod plans;
 pub mod running;
+pub mod sections;
 pub mod statements;

@@ -28,6 +28,44 @@ pub enum Edit<'a> {
         component: &'a [u8],
         cell: &'a [u8],
     },
+    /// Connects a component's pin, or for the owner `PIN` a pin of the design, to a net.
+    Connect {
+        net: &'a [u8],
+        owner: &'a [u8],
+        pin: &'a [u8],
+    },
+    /// Takes a terminal that a net lists by name from it.
+    Disconnect {
+        net: &'a [u8],
+        owner: &'a [u8],
+        pin: &'a [u8],
+    },
+    /// Puts wiring clauses, as DEF text, in the place of a net's.
+    Route {
+        net: &'a [u8],
+        wiring: &'a [u8],
+    },
+    /// Takes a net's wiring clauses out.
+    Unroute {
+        net: &'a [u8],
+    },
+    /// Puts a component of a macro last in its section.
+    Add {
+        component: &'a [u8],
+        cell: &'a [u8],
+    },
+    /// Takes a component out.
+    Remove {
+        component: &'a [u8],
+    },
+    /// Blocks routing on a layer, or where none is named placement, in a rectangle between two corners.
+    Block {
+        layer: Option<&'a [u8]>,
+        x1: i64,
+        y1: i64,
+        x2: i64,
+        y2: i64,
+    },
 }
 
 /// The kinds of refusal of an edit, in the order of their numbers.
@@ -35,14 +73,26 @@ pub enum Edit<'a> {
 pub enum EditCode {
     /// A name that is not defined.
     UnknownName,
-    /// A component that is held where it is.
+    /// A component or wiring that is held where it is.
     Fixed,
+    /// A name that no component may have.
+    BadName,
+    /// A name that another component has.
+    NameTaken,
     /// A number outside its range.
     Number,
+    /// A section that the text hasn't.
+    NoSection,
+    /// A connection that is there, or that isn't.
+    Connection,
+    /// A text that isn't wiring clauses alone.
+    WiringText,
     /// A range that isn't one of the text.
     Range,
     /// A new text of more than `MAX_TEXT` bytes.
     TooLong,
+    /// Wiring clauses with others between them, or with some whose meaning isn't read.
+    WiringApart,
 }
 
 impl EditCode {
@@ -53,9 +103,15 @@ impl EditCode {
         match self {
             EditCode::UnknownName => 1,
             EditCode::Fixed => 2,
+            EditCode::BadName => 3,
+            EditCode::NameTaken => 4,
             EditCode::Number => 5,
+            EditCode::NoSection => 6,
+            EditCode::Connection => 7,
+            EditCode::WiringText => 8,
             EditCode::Range => 9,
             EditCode::TooLong => 11,
+            EditCode::WiringApart => 13,
         }
     }
 }
