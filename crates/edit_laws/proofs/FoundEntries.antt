@@ -14,13 +14,13 @@ use Rattle.def_grammar.specs.Located.{is_named, is_entry, entry_at}
 use Rattle.edit_laws.specs.StatementLaws.{StandsAmong}
 
 -- a section is found by its word
-found_by_word : (s : Section) → find section_word sections (section_word s) ≡ Some s
+pub found_by_word : (s : Section) → find section_word sections (section_word s) ≡ Some s
 unfolding section_word
 found_by_word Components = refl
 found_by_word _ = refl
 
 -- so no two have the same
-same_section : (s t : Section) → section_word s ≡ section_word t → s ≡ t
+pub same_section : (s t : Section) → section_word s ≡ section_word t → s ≡ t
 same_section s t e = some_same s t (sym (found_by_word s) ∙ (ap (find section_word sections) e ∙ found_by_word t))
 
 -- a record is an entry of this section

@@ -38,7 +38,7 @@ among_more word [] seen e = e
 among_more word (v ∷ vs) seen e = or_true (same_words word (v ∷ vs)) (is_among seen word) e
 
 -- what repeats nothing is none of the keys seen
-fresh_is_apart : (w : List ℕ) (ws : Key) (seen : List Key) → repeats seen (w ∷ ws) ≡ None → is_among seen (w ∷ ws) ≡ false
+pub fresh_is_apart : (w : List ℕ) (ws : Key) (seen : List Key) → repeats seen (w ∷ ws) ≡ None → is_among seen (w ∷ ws) ≡ false
 fresh_is_apart w ws seen fresh = ⊎_elim
     (λ (is : is_among seen (w ∷ ws) ≡ true). let h = rw is at fresh in absurd (cc))
     (λ (none : is_among seen (w ∷ ws) ≡ false). none)

@@ -3,7 +3,9 @@ pub mod ChangedTokens
 pub mod ComponentChanges
 pub mod CutStatements
 pub mod EditRuns
+pub mod EditedSections
 pub mod EditedTexts
+pub mod EntryCounts
 pub mod EntryForms
 pub mod FoundComponents
 pub mod FoundEntries
@@ -11,6 +13,7 @@ pub mod Keys
 pub mod MappedParts
 pub mod Moves
 pub mod NameTokens
+pub mod NewEntries
 pub mod OneEdited
 pub mod PartForms
 pub mod PlaceForms
@@ -24,9 +27,17 @@ pub mod PutApart
 pub mod RemasteredWords
 pub mod SaidStatements
 pub mod SameWords
+pub mod SectionChanges
+pub mod SectionKeys
+pub mod SectionModes
+pub mod SectionParts
+pub mod SectionPlans
+pub mod SectionPuts
+pub mod SectionTakes
 pub mod StandingStatements
 pub mod Stands
 pub mod StatementsChanged
+pub mod TwoChanges
 pub mod UnplacedWords
 pub mod WholeEntries
 pub mod WireForms

@@ -139,7 +139,7 @@ unplaced_is_good = record {
 }
 
 module _ (words_so : PrintedNumbersAreWords) (read_so : PrintedNumbersAreRead) where
-  number_is_int : (z : ℤ) → is_out z ≡ false → is_int (signed_decimal z) ≡ true
+  pub number_is_int : (z : ℤ) → is_out z ≡ false → is_int (signed_decimal z) ≡ true
   unfolding is_int
   number_is_int z inside =
       let small : nat_abs z ≤ 2147483647 = grind (arith, ints, inside) in

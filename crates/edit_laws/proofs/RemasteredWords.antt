@@ -18,10 +18,10 @@ use Rattle.edit_laws.proofs.PlacedWords.{changed_parts, said, within}
 use Rattle.edit_laws.proofs.WrittenEntries.{written_instead}
 
 -- the words of an entry behind its macro
-abbrev behind_macro : Component → List (List ℕ)
+abbrev pub behind_macro : Component → List (List ℕ)
 behind_macro c = c.rest ++ (spell_all (spell clause) c.clauses ++ codes ";" ∷ [])
 
-spelled_is : (c : Component) → spell component_form c ≡ codes "-" ∷ c.name ∷ c.cell ∷ behind_macro c
+pub spelled_is : (c : Component) → spell component_form c ≡ codes "-" ∷ c.name ∷ c.cell ∷ behind_macro c
 unfolding component_form
 spelled_is c = refl
 

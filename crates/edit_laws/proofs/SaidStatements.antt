@@ -162,15 +162,15 @@ from_forms m after seen last (s ∷ ss) recs e once =
     ∙ (then_goes (all_from (read_one def) (f.one.1.0, next) ss) (one_more f.one.0) z later ∙ ap (λ (rs : List Record). Ok (rs, (after, last))) (sym recs_are))
 
 -- a text that may end here lacks nothing
-record MayEnd (state : Mode × List Key) : Type 0 where
-  may : is_after state.0 ≡ true
-  lacks : without_units state.1 ≡ None
+pub record MayEnd (state : Mode × List Key) : Type 0 where
+  pub may : is_after state.0 ≡ true
+  pub lacks : without_units state.1 ≡ None
 
 none_lacks : (state : Mode × List Key) (n : ℕ) (o : Option FaultCode) (recs : List Record) → ended def state n o ≡ Ok recs → o ≡ None
 none_lacks state n None recs e = refl
 none_lacks state n (Some code) recs e = absurd (cc)
 
-may_end : (state : Mode × List Key) (end : Result ℕ Fault) → at_last def state [] end ≡ Ok [] → MayEnd state
+pub may_end : (state : Mode × List Key) (end : Result ℕ Fault) → at_last def state [] end ≡ Ok [] → MayEnd state
 may_end state (Err f) e = absurd (cc)
 may_end state (Ok n) e = ⊎_elim
     (λ (may : is_after state.0 ≡ true). let h = rw may at e in record { may = may; lacks = none_lacks state n (without_units state.1) [] h })

@@ -1,12 +1,14 @@
 -- Entries of a text that reads, and what is said by the words of one.
-use Rattle.std.proofs.Common.{◌≡◌, ◌<◌, ℕ, List, [], ◌∷◌, ◌++◌, length, Ok, arith, refl, sym, ap, subst, ◌∙◌}
+use Rattle.std.proofs.Common.{◌≡◌, ◌<◌, ℕ, List, [], ◌∷◌, ◌++◌, length, Some, None, Ok, arith, refl, sym, ap, subst, ◌∙◌}
 use Rattle.design_model.specs.declared.mode.Mode.{Mode}
 use Rattle.design_model.specs.declared.mode.Mode.TheVariants.{In}
 use Rattle.design_model.specs.declared.mode.Section.{Section}
 use Rattle.statement_model.specs.Tokens.{Token, lex, tokens, left_from}
+use Rattle.statement_model.specs.Boundaries.{words, statements}
 use Rattle.statement_model.specs.Folds.{all_from}
+use Rattle.statement_model.specs.Form.{whole}
 use Rattle.statement_model.specs.Reading.{read_form, read_one}
-use Rattle.def_grammar.specs.Records.{Entry, section_of, Record, entry, def_ending, def}
+use Rattle.def_grammar.specs.Records.{Entry, section_of, Record, entry, statement, mode_after, def_ending, def}
 use Rattle.edit_laws.specs.EntryLaws.{IsWritten, EntriesAreWritten}
 use Rattle.edit_laws.specs.StatementLaws.{forms, AreSaid}
 use Rattle.edit_laws.proofs.EntryForms.{entry_read, entry_reads}
@@ -28,8 +30,18 @@ tokens_need_text [] (p ∷ front) ps behind e some = absurd (cc)
 tokens_need_text [] [] (p ∷ ps) behind e some = absurd (cc)
 tokens_need_text [] [] [] behind e some = absurd (omega arith)
 
+-- words that are one statement of a record in its form are said of it
+pub one_is_said : (m : Mode) (ws : List (List ℕ)) (rec : Record) → ((qs : List Token) → words qs ≡ ws → statements def_ending [] qs ≡ (qs ∷ [], [])) → whole (statement m) ws ≡ Some (rec, None)
+    → AreSaid m ws (rec ∷ []) (mode_after m rec)
+unfolding all_from
+one_is_said m ws rec cut form = λ qs same.
+    let after = mode_after m rec in
+    let has : HasForm forms m qs rec after = record { form = ap (whole (statement m)) same ∙ form; next = refl } in
+    let one : read_one forms (m, []) qs ≡ Ok (rec, (after, [])) = one_reads forms (m, []) (after, []) qs rec (record { form = has; fresh = refl; seen = refl }) in
+    to_reading m after qs (rec ∷ []) (record { each = qs ∷ []; cut = cut qs same; read = rw one refl })
+
 -- words that an entry is written with are said of it in its section
-written_is_said : (ws : List (List ℕ)) (e : Entry) → IsWritten ws e → AreSaid (In (section_of e)) ws (entry e ∷ []) (In (section_of e))
+pub written_is_said : (ws : List (List ℕ)) (e : Entry) → IsWritten ws e → AreSaid (In (section_of e)) ws (entry e ∷ []) (In (section_of e))
 unfolding all_from
 written_is_said ws e is = λ qs same.
     let m = In (section_of e) in
