@@ -10,6 +10,13 @@ pub mod FoundEntries
 pub mod Keys
 pub mod MappedParts
 pub mod Moves
+pub mod NameTokens
+pub mod NetChanges
+pub mod NetClauses
+pub mod NetEntries
+pub mod NetMoves
+pub mod NetParts
+pub mod NetRuns
 pub mod OneEdited
 pub mod PartForms
 pub mod PlaceForms
@@ -25,6 +32,10 @@ pub mod SameWords
 pub mod StandingStatements
 pub mod Stands
 pub mod StatementsChanged
+pub mod TerminalChanges
 pub mod WholeEntries
 pub mod WireForms
+pub mod WiringChanges
+pub mod WiringMoves
+pub mod WiringTexts
 pub mod WrittenEntries

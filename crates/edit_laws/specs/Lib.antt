@@ -2,6 +2,7 @@ pub mod AloneLaws
 pub mod ComponentLaws
 pub mod EditLaws
 pub mod EntryLaws
+pub mod NetLaws
 pub mod PlacingLaws
 pub mod PlanLaws
 pub mod RunningLaws

@@ -15,6 +15,7 @@ pub mod alone;
 pub mod components;
 pub mod editing;
 pub mod entries;
+pub mod nets;
 pub mod placing;
 pub mod plans;
 pub mod running;
