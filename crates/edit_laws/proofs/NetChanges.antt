@@ -31,7 +31,7 @@ use Rattle.edit_rules.specs.Plans.{StatementChange, lowest}
 use Rattle.splicing_laws.specs.SplicingLaws.{TokensArePut}
 use Rattle.splicing_laws.specs.WordLaws.{SpacedAreTokens}
 use Rattle.edit_laws.specs.EntryLaws.{IsEditOf, EntriesAreWritten, OneIsEdited}
-use Rattle.edit_laws.specs.NetLaws.{EntriesAreFound, IsOneChange, Edits, IsOfNet, NetEntriesAreEdited, NetPlansAreMade}
+use Rattle.edit_laws.specs.NetLaws.{EntriesAreFound, IsOneChange, EditsEntry, IsOfNet, NetEntriesAreEdited, NetPlansAreMade}
 use Rattle.edit_laws.specs.PlanLaws.{Plans}
 use Rattle.edit_laws.specs.StatementLaws.{records, StandsAmong, IsChange, Make, SameKeysAreOnce}
 use Rattle.edit_laws.proofs.FoundEntries.{entry_found}
@@ -92,7 +92,7 @@ module _ (spaced_so : SpacedAreTokens) (put_so : TokensArePut) {C : Type 0} (for
   unrouted = entry (make ts (unrouted_clauses form role cs)) ∷ []
 
   unrouted_is : lowest (unroute_plan form role ps (front_of ts) cs unrouted).refusals ≡ None
-      → Edits ps (make ts cs) (make ts (unrouted_clauses form role cs)) (unroute_plan form role ps (front_of ts) cs unrouted).changes
+      → EditsEntry ps (make ts cs) (make ts (unrouted_clauses form role cs)) (unroute_plan form role ps (front_of ts) cs unrouted).changes
   unrouted_is free =
       let barred = none_of_two (list_any (λ c. is_held (role c)) cs) (is_barred form role cs) Fixed WiringApart free in
       ⊎_elim

@@ -14,10 +14,9 @@ use Rattle.def_grammar.specs.Nets.{net_clause, net_listed}
 use Rattle.def_grammar.specs.SpecialNets.{SpecialListed, special_clause, special_listed, special_shape}
 use Rattle.def_grammar.specs.Wiring.{WiringStatus, routed, fixed, cover, wiring_word, wiring_status, Wiring, wiring, SpecialWiring, special_wiring}
 use Rattle.edit_rules.specs.NetEdits.{Role, is_barring, is_one_of, kept_role, net_role, special_role}
-use Rattle.edit_laws.proofs.Moves.{Alike, Moves}
-use Rattle.edit_laws.proofs.NetMoves.{MovesAt, alike_behind}
+use Rattle.edit_laws.proofs.Moves.{Alike, Moves, alike_behind, neither, none_of}
+use Rattle.edit_laws.proofs.NetMoves.{MovesAt}
 use Rattle.edit_laws.proofs.NetRuns.{AllFit, AllGood}
-use Rattle.edit_laws.proofs.Moves.{neither, none_of}
 use Rattle.edit_laws.proofs.WiringMoves.{net_listed_moves, special_listed_moves}
 
 -- clauses of a form, each with what it is to wiring

@@ -1,26 +1,16 @@
 -- What stands in a form before one stop stands there before another: several values, choices, and one value by itself.
-use Rattle.std.proofs.Common.{◌≡◌, ◌<◌, ◌≤◌, ◌+◌, ℕ, Bool, true, false, List, [], ◌∷◌, ◌++◌, length, Option, Some, None, arith, refl, sym, ◌∙◌, codes, length-append, if◌then◌else◌}
+use Rattle.std.proofs.Common.{◌≡◌, ◌<◌, ◌+◌, ℕ, Bool, true, false, List, [], ◌∷◌, ◌++◌, length, Option, Some, None, arith, refl, sym, ◌∙◌, if◌then◌else◌}
 use Rattle.form_meanings.specs.Words.{first_passes}
 use Rattle.form_meanings.specs.Meaning.{Meaning, spell_all, FitAll, bad_of_all, empty_meaning, opt_meaning, many_meaning, seq_meaning, limited_meaning}
-use Rattle.edit_laws.proofs.Moves.{Alike, Moves, neither, none_of}
+use Rattle.edit_laws.proofs.Moves.{Alike, Blind, Moves, alike_behind, neither, none_of}
+use Rattle.edit_laws.proofs.NetRuns.{long_enough}
 
-abbrev Blind : (List ℕ → Bool) → Type 0
-Blind t = t (codes "+") ≡ t (codes ";")
-
--- so it is with one value of a form
+-- one value of a form stands before one stop as before another, and its numbers are no more invalid there
 pub record MovesAt {A : Type 0} (f : Meaning A) (a : A) : Type 0 where
   pub moves : (ws vs : List (List ℕ)) → Alike ws vs → f.Fits a ws → f.Fits a vs
   pub good : (ws vs : List (List ℕ)) → f.bad a ws ≡ None → f.bad a vs ≡ None
 
-pub moves_each : {A : Type 0} (f : Meaning A) → Moves f → (a : A) → MovesAt f a
-moves_each f m a = record { moves = m.moves a; good = m.good a }
-
--- with alike words behind them, words are alike
-pub alike_behind : (us ws vs : List (List ℕ)) → Alike ws vs → Alike (us ++ ws) (us ++ vs)
-alike_behind [] ws vs same = same
-alike_behind (u ∷ us) ws vs same = λ t blind. (refl, refl)
-
--- and so they are behind some words, whatever stands there
+-- words are alike that begin with the same ones, whatever stands behind these
 behind_some : (us ws vs : List (List ℕ)) → 0 < length us → Alike (us ++ ws) (us ++ vs)
 behind_some [] ws vs some = absurd (omega arith)
 behind_some (u ∷ us) ws vs some = λ t blind. (refl, refl)
@@ -59,10 +49,6 @@ pub record HasWords {A : Type 0} (f : Meaning A) : Type 0 where
 
 -- several values
 module _ {A : Type 0} (t : List ℕ → Bool) (f : Meaning A) (has : HasWords f) (m : Moves f) where
-  all_long : (xs : List A) → length xs ≤ length (spell_all f.spell xs)
-  all_long [] = omega arith
-  all_long (x ∷ xs) = let later = all_long xs in let here = has.some x in omega (arith, later, here, length-append (f.spell x) (spell_all f.spell xs))
-
   all_move : Blind t → (xs : List A) (ws vs : List (List ℕ)) → Alike ws vs → FitAll t f.spell f.Fits xs ws → FitAll t f.spell f.Fits xs vs
   all_move blind [] ws vs same fits = sym (same t blind).0 ∙ fits
   all_move blind (x ∷ xs) ws vs same fits =
@@ -78,11 +64,8 @@ module _ {A : Type 0} (t : List ℕ → Bool) (f : Meaning A) (has : HasWords f)
       let both = neither (f.bad x (spell_all f.spell xs ++ ws)) (bad_of_all f.spell f.bad xs ws) none in
       none_of (f.bad x (spell_all f.spell xs ++ vs)) (bad_of_all f.spell f.bad xs vs) (m.good x (spell_all f.spell xs ++ ws) (spell_all f.spell xs ++ vs) both.0) (all_good xs ws vs both.1)
 
-  long_enough : (xs : List A) (ws : List (List ℕ)) → length xs ≤ length (spell_all f.spell xs ++ ws)
-  long_enough xs ws = omega (arith, all_long xs, length-append (spell_all f.spell xs) ws)
-
   pub many_moves : Blind t → Moves (many_meaning t f)
-  many_moves blind = record { moves = λ xs ws vs same fits. (long_enough xs vs, all_move blind xs ws vs same fits.1); good = all_good }
+  many_moves blind = record { moves = λ xs ws vs same fits. (long_enough f has.some xs vs, all_move blind xs ws vs same fits.1); good = all_good }
 
   first_behind : (x : A) (us ws vs : List (List ℕ)) → first_passes t (f.spell x ++ (us ++ ws)) ≡ true → first_passes t (f.spell x ++ (us ++ vs)) ≡ true
   first_behind x us ws vs is = sym (first_same t (f.spell x) (us ++ ws) (us ++ vs) (has.some x)) ∙ is
@@ -100,7 +83,7 @@ module _ {A : Type 0} (t : List ℕ → Bool) (f : Meaning A) (has : HasWords f)
   -- before words of their own, the test may tell stops
   pub many_before : {B : Type 0} (g : Meaning B) → HasWords g → Moves g → Moves (seq_meaning (many_meaning t f) g)
   many_before g some mg = record {
-    moves = λ x ws vs same fits. ((long_enough x.0 (g.spell x.1 ++ vs), first_move x.0 (g.spell x.1) ws vs (some.some x.1) fits.0.1), mg.moves x.1 ws vs same fits.1);
+    moves = λ x ws vs same fits. ((long_enough f has.some x.0 (g.spell x.1 ++ vs), first_move x.0 (g.spell x.1) ws vs (some.some x.1) fits.0.1), mg.moves x.1 ws vs same fits.1);
     good = λ x ws vs none.
         let both = neither (bad_of_all f.spell f.bad x.0 (g.spell x.1 ++ ws)) (g.bad x.1 ws) none in
         none_of (bad_of_all f.spell f.bad x.0 (g.spell x.1 ++ vs)) (g.bad x.1 vs) (all_good x.0 (g.spell x.1 ++ ws) (g.spell x.1 ++ vs) both.0) (mg.good x.1 ws vs both.1);

@@ -28,8 +28,8 @@ pub record IsOneChange (ps : List Token) (e new : Entry) (changes : List (List T
   pub said : change.said ≡ entry new ∷ []
 
 -- or none, where the entry stays
-abbrev pub Edits : List Token → Entry → Entry → List (List Token × StatementChange) → Type 0
-Edits ps e new changes = IsOneChange ps e new changes ⊎ ((changes ≡ []) × (new ≡ e))
+abbrev pub EditsEntry : List Token → Entry → Entry → List (List Token × StatementChange) → Type 0
+EditsEntry ps e new changes = IsOneChange ps e new changes ⊎ ((changes ≡ []) × (new ≡ e))
 
 -- an entry that an edit of a net can be about
 abbrev pub IsOfNet : Entry → Type 0
@@ -43,7 +43,7 @@ NetEntriesAreEdited = (library : Library) (design : List Record) (change : NetCh
     → IsOfNet e
     → IsWritten (words ps) e
     → lowest (plan_of_entry library design change ps e).refusals ≡ None
-    → Edits ps e (edited_net change e) (plan_of_entry library design change ps e).changes
+    → EditsEntry ps e (edited_net change e) (plan_of_entry library design change ps e).changes
 
 -- The plan of an edit of a net is one for the edited design.
 abbrev pub NetPlansAreMade : Type 0

@@ -9,6 +9,8 @@
 //! edited design: `components` says so of the edits of a component (`specs/ComponentLaws`), by `placing`, which says that
 //! placing one is a change of its entry (`specs/PlacingLaws`), and by the laws of `entries`. The edits themselves are
 //! defined in `design_rules/specs/Edits`. `alone` says that an entry reads from its own bytes as it does in its text.
+//! `nets` says that the edits of a net have plans for the edited design too: one that isn't refused is one change of its
+//! entry, or none where the entry stays (`specs/NetLaws`).
 #![tactic(auto)]
 
 pub mod alone;
