@@ -13,6 +13,12 @@ pub mod Keys
 pub mod MappedParts
 pub mod Moves
 pub mod NameTokens
+pub mod NetChanges
+pub mod NetClauses
+pub mod NetEntries
+pub mod NetMoves
+pub mod NetParts
+pub mod NetRuns
 pub mod NewEntries
 pub mod OneEdited
 pub mod PartForms
@@ -37,8 +43,12 @@ pub mod SectionTakes
 pub mod StandingStatements
 pub mod Stands
 pub mod StatementsChanged
+pub mod TerminalChanges
 pub mod TwoChanges
 pub mod UnplacedWords
 pub mod WholeEntries
 pub mod WireForms
+pub mod WiringChanges
+pub mod WiringMoves
+pub mod WiringTexts
 pub mod WrittenEntries

@@ -6,7 +6,7 @@ use Rattle.form_meanings.specs.Words.{first_passes}
 use Rattle.form_meanings.specs.Meaning.{Seen, Meaning, spell_all, first_or_end, FitAll, bad_of_all, word_meaning, number_meaning, one_of_meaning, upto_meaning, behind_meaning, before_meaning, closed_meaning, seq_meaning, alt_meaning, seen_meaning}
 
 -- a test that doesn't tell a + from a ;
-abbrev Blind : (List ℕ → Bool) → Type 0
+abbrev pub Blind : (List ℕ → Bool) → Type 0
 Blind t = t (codes "+") ≡ t (codes ";")
 
 -- no such test tells two lists of words by their first word
@@ -19,7 +19,8 @@ pub record Moves {A : Type 0} (f : Meaning A) : Type 0 where
   pub moves : (a : A) (ws vs : List (List ℕ)) → Alike ws vs → f.Fits a ws → f.Fits a vs
   pub good : (a : A) (ws vs : List (List ℕ)) → f.bad a ws ≡ None → f.bad a vs ≡ None
 
-alike_behind : (us ws vs : List (List ℕ)) → Alike ws vs → Alike (us ++ ws) (us ++ vs)
+-- with alike words behind them, words are alike
+pub alike_behind : (us ws vs : List (List ℕ)) → Alike ws vs → Alike (us ++ ws) (us ++ vs)
 alike_behind [] ws vs same = same
 alike_behind (u ∷ us) ws vs same = λ t blind. (refl, refl)
 
