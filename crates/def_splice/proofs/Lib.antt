@@ -1,3 +1,7 @@
+pub mod LongLemmas
 pub mod PlaceLemmas
+pub mod PlanLemmas
 pub mod PutLemmas
+pub mod SearchSteps
 pub mod SpliceLemmas
+pub mod TokenLemmas

@@ -28,44 +28,6 @@ pub enum Edit<'a> {
         component: &'a [u8],
         cell: &'a [u8],
     },
-    /// Connects a component's pin, or for the owner `PIN` a pin of the design, to a net.
-    Connect {
-        net: &'a [u8],
-        owner: &'a [u8],
-        pin: &'a [u8],
-    },
-    /// Takes a terminal that a net lists by name from it.
-    Disconnect {
-        net: &'a [u8],
-        owner: &'a [u8],
-        pin: &'a [u8],
-    },
-    /// Puts wiring clauses, as DEF text, in the place of a net's.
-    Route {
-        net: &'a [u8],
-        wiring: &'a [u8],
-    },
-    /// Takes a net's wiring clauses out.
-    Unroute {
-        net: &'a [u8],
-    },
-    /// Puts a component of a macro last in its section.
-    Add {
-        component: &'a [u8],
-        cell: &'a [u8],
-    },
-    /// Takes a component out.
-    Remove {
-        component: &'a [u8],
-    },
-    /// Blocks routing on a layer, or where none is named placement, in a rectangle between two corners.
-    Block {
-        layer: Option<&'a [u8]>,
-        x1: i64,
-        y1: i64,
-        x2: i64,
-        y2: i64,
-    },
 }
 
 /// The kinds of refusal of an edit, in the order of their numbers.
