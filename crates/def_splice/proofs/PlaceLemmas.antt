@@ -1,5 +1,5 @@
 -- The cut of a placement, and why it is refused.
-use Rattle.std.proofs.Common.{◌≡◌, ◌==◌, ◌||◌, ◌+◌, ◌-◌, ◌<◌, ◌++◌, ℕ, ℤ, true, false, List, [], ◌∷◌, Option, Some, None, Result, Ok, Err, length, codes, inl, inr, refl, subst, sym, ap, ◌∙◌, arith, length-append}
+use Rattle.std.proofs.Common.{◌≡◌, ◌==◌, ◌||◌, ◌+◌, ◌-◌, ◌<◌, ◌≤◌, ◌++◌, take, drop, ℕ, ℤ, true, false, List, [], ◌∷◌, Option, Some, None, Result, Ok, Err, length, codes, inl, inr, refl, subst, sym, ap, ◌∙◌, arith, length-append}
 use Rattle.std.specs.Prelude.{IfOk, IsOk, MatchOption}
 use Rattle.std.specs.Option.{option_map}
 use Rattle.design_model.specs.declared.fault.Fault.{Fault}
@@ -22,15 +22,15 @@ use Rattle.def_grammar.specs.Placing.{placing, is_held}
 use Rattle.edit_model.specs.declared.edit.EditRefusal.{EditRefusal}
 use Rattle.edit_model.specs.declared.edit.EditRefusal.TheVariants.{Refused, Unreadable, Memory}
 use Rattle.lef_grammar.specs.Library.{Library}
-use Rattle.edit_rules.specs.ComponentEdits.{place_at, component_plan, fixed_part, is_out, place_change, place_plan, placed_text, tokens_of}
+use Rattle.edit_rules.specs.ComponentEdits.{fixed_part, is_out, place_change, place_plan, placed_text, tokens_of, unplace_changes, unplace_plan}
 use Rattle.edit_rules.specs.Edits.{place}
 use Rattle.def_grammar.specs.Located.{located, component_at}
-use Rattle.edit_rules.specs.Plans.{cut_of, is_long, outcome_of}
+use Rattle.edit_rules.specs.Plans.{cut_of, cuts_for, lowest, put_apart}
 use Rattle.lefdef_tokens.specs.TokenViews.{end_after, pieces_of, span_of, words_of}
 use Rattle.lefdef_tokens.specs.declared.token_run.TokenRun.{TokenRun}
-use Rattle.place_parts.specs.PlacingViews.{IsPlacing}
+use Rattle.place_parts.specs.PlacingViews.{IsPlacing, before_word}
 use Rattle.edit_rules.specs.Runs.{Makes, MayWantMemory}
-use Rattle.def_splice.specs.SpliceViews.{clause_cut, Follows, MakesSplices}
+use Rattle.def_splice.specs.SpliceViews.{clause_cut, is_placed}
 
 end_is : (p : Token) (ps : List Token) → end_after (end_of p) ps ≡ end_of_all (p ∷ ps)
 end_is p [] = refl
@@ -48,7 +48,7 @@ pub if_ok : {T E : Type 0} {P Q : T → Type 0} (r : Result T E) → ((x : T) �
 if_ok (Ok x) f h = f x h
 if_ok (Err e) f h = h
 
-isnt_zero : (n : ℕ) → 0 < n → (n == 0) ≡ false
+pub isnt_zero : (n : ℕ) → 0 < n → (n == 0) ≡ false
 isnt_zero n some = grind (arith, nat_tests)
 
 -- a clause that places a component has a word after its +
@@ -102,43 +102,48 @@ module _ (text : List ℕ) (entry : TokenRun) (c : Component) (x y : ℤ) (o : O
   cut_of_clause view None is none spelled = cut_at_end none spelled
   cut_of_clause view (Some p) is found spelled = cut_in_place p.1 found
 
--- why a placement is refused, and its cut where it is not
-module _ (text : List ℕ) (x y : ℤ) (o : Orient) (ps : List Token) (c : Component) where
-  abbrev outcome : Result (List Cut) EditCode
-  outcome = outcome_of text (place_plan x y o ps c)
+-- nothing refuses a placement of a component that isn't held, to coordinates that a text may hold
+pub free_to_place : (x y : ℤ) (o : Orient) (ps : List Token) (c : Component) → is_held (placing c.clauses) ≡ false → is_out x ≡ false → is_out y ≡ false → lowest (place_plan x y o ps c).refusals ≡ None
+free_to_place x y o ps c held low high = rw (held, low, high) refl
 
-  module _ (free : is_held (placing c.clauses) ≡ false) (good : (is_out x || is_out y) ≡ false) (cut : Cut) (is : cut ≡ cut_of text ps (place_change x y o c)) where
-    pub too_long : is_long (with_cuts (cut ∷ []) text) ≡ true → outcome ≡ Err TooLong
-    too_long h = let k = rw is at h in rw (free, good, k) refl
+-- a component that isn't placed stays as it is, and one that is has its clause's tokens replaced
+module _ (text : List ℕ) (ps : List Token) (c : Component) where
+  pub unplaces_none : placing c.clauses ≡ None → (unplace_plan ps c).changes ≡ []
+  unplaces_none none = rw none refl
 
-    pub placed_so : is_long (with_cuts (cut ∷ []) text) ≡ false → outcome ≡ Ok (cut ∷ [])
-    placed_so h = let k = rw is at h in rw (free, good, k, is) refl
+  not_placed : (old : Clause) → is_placed old ≡ false → unplace_changes ps c (Some old) ≡ []
+  not_placed (placed status at o) isnt = absurd (cc)
+  not_placed (unplaced rest) isnt = refl
+  not_placed _ isnt = refl
 
-  -- where a component may be moved to these coordinates, a placement is refused for nothing but its length
-  pub may_want : is_held (placing c.clauses) ≡ false → (is_out x || is_out y) ≡ false → MayWantMemory outcome
-  may_want free good =
-      let cut = cut_of text ps (place_change x y o c) in
-      elim (cases_Bool (is_long (with_cuts (cut ∷ []) text))) [
-        | inl long ↦ rw (too_long free good cut refl long) refl
-        | inr short ↦ rw (placed_so free good cut refl short) tt
-      ]
+  pub unplaces_unplaced : (old : Clause) → placing c.clauses ≡ Some old → is_placed old ≡ false → (unplace_plan ps c).changes ≡ []
+  unplaces_unplaced old is isnt = ap (unplace_changes ps c) is ∙ not_placed old isnt
+
+  pub never_held : (old : Option Clause) → placing c.clauses ≡ old → is_held old ≡ false → lowest (unplace_plan ps c).refusals ≡ None
+  never_held old is free = rw (is, free) refl
+
+  abbrev one_cut : (own : List Token) → Cut
+  one_cut own = put_apart text (pos_of own) (end_of_all own) (codes "UNPLACED")
+
+  cut_of_placed : (old : Clause) (own : List Token) → is_placing old ≡ true → is_placed old ≡ true → own ≡ take (length (spell clause old) - 1) (drop (before_word c) ps) → one_cut own ∷ [] ≡ cuts_for text (unplace_changes ps c (Some old))
+  cut_of_placed (placed status at o) own places is pieces =
+      let taken = length (spell clause (placed status at o)) - 1 in
+      let some : (taken == 0) ≡ false = isnt_zero taken (has_word (placed status at o) places) in
+      rw (pieces, some) refl
+  cut_of_placed _ own places is pieces = absurd (cc)
+
+  pub unplaces_placed : (old : Clause) (entry run : TokenRun) → placing c.clauses ≡ Some old → is_placed old ≡ true → pieces_of entry ≡ ps → IsPlacing c entry run
+      → one_cut (pieces_of run) ∷ [] ≡ cuts_for text (unplace_plan ps c).changes
+  unplaces_placed old entry run found is whole p =
+      let same : p.old ≡ old = some_same p.old old (sym p.places ∙ found) in
+      let own = p.pieces ∙ ap (λ (d : Clause). take (length (spell clause d) - 1) (drop (before_word c) (pieces_of entry))) same ∙ ap (λ (qs : List Token). take (length (spell clause old) - 1) (drop (before_word c) qs)) whole in
+      cut_of_placed old (pieces_of run) (first_places c.clauses old found) is own ∙ ap (λ (d : Option Clause). cuts_for text (unplace_changes ps c d)) (sym found)
+
+-- an entry has its name, its macro and more
+pub some_words : (c : Component) → 3 ≤ length (spell component_form c)
+some_words c = let k = all_but_last c in omega (arith, k)
 
 -- the design of a text that reads
 pub design_of : (r : Result (List Record) Fault) → IsOk r → (design : List Record) × (r ≡ Ok design)
 design_of (Ok design) reads = (design, refl)
 design_of (Err f) reads = absurd (cc)
-
--- what the plan for the entry that is found gives is what the edit makes
-module _ (library : Library) (text : List ℕ) (name : List ℕ) (x y : ℤ) (o : Orient) (s : List Token × Component) (design : List Record) (reads : read_def text ≡ Ok design) (found : component_at name (located text design) ≡ Some s) (own : List ℕ) (same : own ≡ text) where
-  pub makes_so : (gives : Result (List Cut) EditCode) → outcome_of own (place_plan x y o s.0 s.1) ≡ gives → Makes library text (place name x y o) gives
-  makes_so gives is = (
-    design,
-    reads,
-    ap (λ (f : Option (List Token × Component)). outcome_of text (component_plan library (place_at x y o) f)) found
-        ∙ (ap (λ (t : List ℕ). outcome_of t (place_plan x y o s.0 s.1)) (sym same) ∙ is),
-  )
-
-  pub refused_so : (A : Type 0) (e : EditRefusal) → Follows {A = A} own (place_plan x y o s.0 s.1) (Err e) → MakesSplices {A = A} library text (place name x y o) (Err e)
-  refused_so A (Refused code) is = makes_so (Err code) is
-  refused_so A (Unreadable fault) is = is
-  refused_so A Memory may = (outcome_of own (place_plan x y o s.0 s.1), makes_so (outcome_of own (place_plan x y o s.0 s.1)) refl, may)

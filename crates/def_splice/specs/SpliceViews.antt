@@ -1,18 +1,18 @@
 -- Splices of the program as cuts of the definitions.
-use Rattle.std.specs.Prelude.{◌≡◌, ◌≤◌, ◌-◌, ◌++◌, ℕ, true, false, List, [], ◌∷◌, codes, length, map, take, Option, Some, None, Result, Ok, Err}
+use Rattle.std.specs.Prelude.{Bool, ◌≡◌, ◌≤◌, ◌-◌, ◌++◌, ℕ, true, false, List, [], ◌∷◌, codes, length, map, take, Option, Some, None, Result, Ok, Err}
 use Rattle.std.specs.Option.{option_map}
-use Rattle.edit_model.specs.declared.edit.EditCode.TheVariants.{Fixed}
+use Rattle.edit_model.specs.declared.edit.EditCode.TheVariants.{Fixed, TooLong}
 use Rattle.edit_model.specs.declared.edit.EditRefusal.{EditRefusal}
 use Rattle.edit_model.specs.declared.edit.EditRefusal.TheVariants.{Refused, Unreadable, Memory}
 use Rattle.edit_model.specs.declared.edit.Splice.{Splice}
 use Rattle.statement_model.specs.Cuts.{Cut, end_of_all, with_cuts}
 use Rattle.statement_model.specs.Reading.{pos_of}
 use Rattle.statement_model.specs.Tokens.{Token}
-use Rattle.def_grammar.specs.Components.{Clause}
+use Rattle.def_grammar.specs.Components.{Clause, placed}
 use Rattle.def_grammar.specs.Placing.{is_held}
 use Rattle.lef_grammar.specs.Library.{Library}
 use Rattle.edit_rules.specs.Edits.{Change}
-use Rattle.edit_rules.specs.Plans.{Plan, outcome_of, put_apart}
+use Rattle.edit_rules.specs.Plans.{Plan, cut_of, is_long, outcome_of, put_apart}
 use Rattle.edit_rules.specs.Runs.{Makes, MayWantMemory, WantsMemory}
 
 abbrev pub cut_view : {A : Type 0} → Splice A → Cut
@@ -37,12 +37,23 @@ abbrev pub Moves : {C R : Type 0} → (C → Clause) → Option (C × R) → Res
 Moves view placing (Ok tokens) = (is_held (option_map (λ p. view p.0) placing) ≡ false) × (tokens ≡ option_map (λ p. p.1) placing)
 Moves view placing (Err refusal) = (is_held (option_map (λ p. view p.0) placing) ≡ true) × (refusal ≡ Refused Fixed)
 
--- the splice is the one cut of a plan for a text, or the plan is refused so
-abbrev pub Follows : {A : Type 0} → List ℕ → Plan → Result (Splice A) EditRefusal → Type 0
-Follows text plan (Ok s) = outcome_of text plan ≡ Ok (cut_view s ∷ [])
-Follows text plan (Err (Refused code)) = outcome_of text plan ≡ Err code
-Follows text plan (Err (Unreadable fault)) = ⊥
-Follows text plan (Err Memory) = MayWantMemory (outcome_of text plan)
+-- the splices are these cuts of a text, which isn't too long with them made; or it is
+abbrev pub AreCuts : {A : Type 0} → List ℕ → List Cut → Result (List (Splice A)) EditRefusal → Type 0
+AreCuts text cuts (Ok ss) = (map cut_view ss ≡ cuts) × (is_long (with_cuts cuts text) ≡ false)
+AreCuts text cuts (Err (Refused code)) = (code ≡ TooLong) × (is_long (with_cuts cuts text) ≡ true)
+AreCuts text cuts (Err (Unreadable fault)) = ⊥
+AreCuts text cuts (Err Memory) = Unit {0}
+
+-- the splices are the cuts of a plan for a text, or the plan is refused so
+abbrev pub FollowsAll : {A : Type 0} → List ℕ → Plan → Result (List (Splice A)) EditRefusal → Type 0
+FollowsAll text plan (Ok ss) = outcome_of text plan ≡ Ok (map cut_view ss)
+FollowsAll text plan (Err (Refused code)) = outcome_of text plan ≡ Err code
+FollowsAll text plan (Err (Unreadable fault)) = ⊥
+FollowsAll text plan (Err Memory) = MayWantMemory (outcome_of text plan)
+
+-- the cut of a change of a statement: after so many of its tokens, so many are taken, and bytes are put there
+abbrev pub change_cut : List ℕ → List Token → ℕ → ℕ → List ℕ → Cut
+change_cut text ps before taken put = cut_of text ps (record { before = before; taken = taken; put = put; said = [] })
 
 -- the splices are the cuts of an edit of a text that reads, or the edit is refused so
 abbrev pub MakesSplices : {A : Type 0} → Library → List ℕ → Change → Result (List (Splice A)) EditRefusal → Type 0
@@ -50,3 +61,8 @@ MakesSplices library text change (Ok ss) = Makes library text change (Ok (map cu
 MakesSplices library text change (Err (Refused code)) = Makes library text change (Err code)
 MakesSplices library text change (Err (Unreadable fault)) = ⊥
 MakesSplices library text change (Err Memory) = WantsMemory library text change
+
+-- a clause that places its component
+abbrev pub is_placed : Clause → Bool
+is_placed (placed status at o) = true
+is_placed _ = false

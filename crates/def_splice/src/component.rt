@@ -2,21 +2,32 @@
 
 ghost use Rattle.std.specs.Prelude.{◌≡◌, ◌≤◌, length, IfOk, IsOk};
 ghost use Rattle.design_model.specs.declared.TheConstants.{MAX_TEXT};
+ghost use Rattle.statement_model.specs.Form.{spell};
+ghost use Rattle.def_grammar.specs.Components.{component_form};
 ghost use Rattle.def_grammar.specs.Records.{read_def};
-ghost use Rattle.edit_rules.specs.Edits.{change_of, place};
-ghost use Rattle.def_splice.specs.SpliceViews.{AreInOrder, MakesSplices};
+ghost use Rattle.edit_rules.specs.ComponentEdits.{remaster_as, remaster_plan, unplace_it, unplace_plan};
+ghost use Rattle.edit_rules.specs.Edits.{of_component, place};
+ghost use Rattle.lefdef_tokens.specs.Views.{pieces_of, words_of};
+ghost use Rattle.place_parts.specs.ClauseViews.{clause_view};
+ghost use Rattle.place_parts.specs.ComponentViews.{component_view};
+ghost use Rattle.def_splice.specs.SpliceViews.{is_placed, AreInOrder, FollowsAll, MakesSplices};
 
-use crate::lookups::component_entry;
-use crate::place::place_splice;
+use crate::fitting::one_splice;
+use crate::lookups::{component_entry, has_macro};
+use crate::place::{entry_placed, is_held};
+use crate::token_splices::{change_splice, over_tokens};
 use cell_library::library::Library;
 use design_model::MAX_TEXT;
-use edit_model::edit::{Edit, EditCode, EditRefusal, Splices};
 use design_model::geometry::Orient;
 use design_model::sequence::Sequence;
+use edit_model::edit::{EditCode, EditRefusal, Splices};
+use lefdef_tokens::TokenRun;
+use place_parts::component_parts::ComponentParts;
+use place_parts::components::Clause;
 use std::alloc::Allocator;
 
 /// The splice that places a component of a text that reads, or why that is refused.
-fn placed<A: Allocator + Copy>(
+pub fn place_splices<A: Allocator + Copy>(
     alloc: A,
     library: &Library<'_, A>,
     text: &[u8],
@@ -25,38 +36,99 @@ fn placed<A: Allocator + Copy>(
     y: i64,
     orient: Orient,
 ) -> Result<Splices<A>, EditRefusal>
-    requires fits { length text.now ≤ MAX_TEXT }
     requires reads { IsOk (read_def text.now) }
     ensures makes { MakesSplices library.now text.now (place component.now x y orient) result }
     ensures order { IfOk result (λ ss. AreInOrder 0 ss (length text.now)) }
 {
-    let Some((parts, tokens)) = component_entry(text, component) else {
+    let Some((parts, entry)) = component_entry(text, component) else {
         return Err(EditRefusal::Refused(EditCode::UnknownName));
     };
-    let splice = place_splice(alloc, parts, tokens, x, y, orient)?;
-    let mut splices = Vec::with_capacity(alloc, 1)?;
-    splices.push(splice)?;
-    Ok(Sequence::from_vec(splices))
+    entry_placed(alloc, parts, entry, x, y, orient)
 }
 
-/// The splices of an edit of a component, or why the edit is refused.
-pub fn component_splices<A: Allocator + Copy>(
+/// Whether a clause places a component.
+fn is_placed(clause: &Clause<'_>) -> bool
+    ensures { result ≡ is_placed (clause_view clause.now) }
+{
+    matches!(clause, Clause::Placed(_))
+}
+
+/// The splice that unplaces the component of an entry: `UNPLACED` in the place of a clause `PLACED`. There is none where it
+/// isn't placed.
+fn entry_unplaced<'t, A: Allocator + Copy>(
+    alloc: A,
+    component: ComponentParts<'t>,
+    entry: TokenRun<'t>,
+) -> Result<Splices<A>, EditRefusal>
+    requires fits { length entry.text.now ≤ MAX_TEXT }
+    requires spelled { words_of entry ≡ spell component_form (component_view component) }
+    ensures gives { FollowsAll entry.entry.text.now (unplace_plan (pieces_of entry.entry) (component_view component.entry)) result }
+    ensures order { IfOk result (λ ss. AreInOrder 0 ss (length entry.entry.text.now)) }
+{
+    let Some((clause, tokens)) = component.placing_tokens(entry) else {
+        return Ok(Sequence::new(alloc));
+    };
+    if is_held(&clause) {
+        return Err(EditRefusal::Refused(EditCode::Fixed));
+    }
+    if !is_placed(&clause) {
+        return Ok(Sequence::new(alloc));
+    }
+    let splice = over_tokens(alloc, tokens, b"UNPLACED")?;
+    one_splice(alloc, entry.text, splice)
+}
+
+/// The splice that unplaces a component of a text that reads, or why that is refused.
+pub fn unplace_splices<A: Allocator + Copy>(
     alloc: A,
     library: &Library<'_, A>,
     text: &[u8],
-    edit: &Edit<'_>,
+    component: &[u8],
 ) -> Result<Splices<A>, EditRefusal>
     requires fits { length text.now ≤ MAX_TEXT }
     requires reads { IsOk (read_def text.now) }
-    ensures makes { MakesSplices library.now text.now (change_of edit.now) result }
+    ensures makes { MakesSplices library.now text.now (of_component component.now unplace_it) result }
     ensures order { IfOk result (λ ss. AreInOrder 0 ss (length text.now)) }
 {
-    match edit {
-        Edit::Place {
-            component,
-            x,
-            y,
-            orient,
-        } => placed(alloc, library, text, component, *x, *y, *orient),
+    let Some((parts, entry)) = component_entry(text, component) else {
+        return Err(EditRefusal::Refused(EditCode::UnknownName));
+    };
+    entry_unplaced(alloc, parts, entry)
+}
+
+/// The splice that gives the component of an entry another macro.
+fn entry_remastered<'t, A: Allocator + Copy>(
+    alloc: A,
+    library: &Library<'_, A>,
+    component: ComponentParts<'t>,
+    entry: TokenRun<'t>,
+    cell: &[u8],
+) -> Result<Splices<A>, EditRefusal>
+    requires spelled { words_of entry ≡ spell component_form (component_view component) }
+    ensures gives { FollowsAll entry.entry.text.now (remaster_plan library.now cell.now (pieces_of entry.entry) (component_view component.entry)) result }
+    ensures order { IfOk result (λ ss. AreInOrder 0 ss (length entry.entry.text.now)) }
+{
+    if !has_macro(library, cell) {
+        return Err(EditRefusal::Refused(EditCode::UnknownName));
     }
+    let splice = change_splice(alloc, entry, 2, 1, cell)?;
+    one_splice(alloc, entry.text, splice)
+}
+
+/// The splice that gives a component of a text that reads another macro, or why that is refused.
+pub fn remaster_splices<A: Allocator + Copy>(
+    alloc: A,
+    library: &Library<'_, A>,
+    text: &[u8],
+    component: &[u8],
+    cell: &[u8],
+) -> Result<Splices<A>, EditRefusal>
+    requires reads { IsOk (read_def text.now) }
+    ensures makes { MakesSplices library.now text.now (of_component component.now (remaster_as cell.now)) result }
+    ensures order { IfOk result (λ ss. AreInOrder 0 ss (length text.now)) }
+{
+    let Some((parts, entry)) = component_entry(text, component) else {
+        return Err(EditRefusal::Refused(EditCode::UnknownName));
+    };
+    entry_remastered(alloc, library, parts, entry, cell)
 }

@@ -1,22 +1,21 @@
-//! The splice that places a component.
+//! Why a component isn't placed or unplaced, and the splice that places it.
 
-ghost use Rattle.std.specs.Prelude.{◌≡◌, ◌≤◌, ◌<◌, [], ◌∷◌, length, IfOk, IfSome, Some};
+ghost use Rattle.std.specs.Prelude.{◌≡◌, ◌≤◌, ◌<◌, length, IfOk, IfSome, Some};
 ghost use Rattle.std.specs.Option.{option_map};
 ghost use Rattle.design_model.specs.declared.TheConstants.{MAX_TEXT};
-ghost use Rattle.statement_model.specs.Cuts.{with_cuts};
 ghost use Rattle.statement_model.specs.Form.{spell};
 ghost use Rattle.def_grammar.specs.Components.{component_form};
 ghost use Rattle.def_grammar.specs.Placing.{is_held};
 ghost use Rattle.edit_rules.specs.ComponentEdits.{is_out, place_plan};
-ghost use Rattle.edit_rules.specs.Plans.{is_long};
 ghost use Rattle.lefdef_tokens.specs.Views.{pieces_of, words_of};
 ghost use Rattle.place_parts.specs.ClauseViews.{clause_view};
 ghost use Rattle.place_parts.specs.ComponentViews.{component_view};
-ghost use Rattle.def_splice.specs.SpliceViews.{clause_cut, cut_view, Follows, Moves};
+ghost use Rattle.def_splice.specs.SpliceViews.{clause_cut, cut_view, AreInOrder, FollowsAll, Moves};
 
+use crate::fitting::one_splice;
 use crate::put::{placed_text, put_apart};
-use design_model::MAX_TEXT;
-use edit_model::edit::{EditCode, EditRefusal, Splice};
+use crate::token_splices::over_tokens;
+use edit_model::edit::{EditCode, EditRefusal, Splice, Splices};
 use design_model::geometry::{Orient, Status};
 use lefdef_tokens::TokenRun;
 use place_parts::component_parts::ComponentParts;
@@ -24,7 +23,7 @@ use place_parts::components::Clause;
 use std::alloc::{AllocError, Allocator};
 
 /// Whether the clause that places a component holds it where it is.
-fn is_held(clause: &Clause<'_>) -> bool
+pub fn is_held(clause: &Clause<'_>) -> bool
     ensures { result ≡ is_held (Some (clause_view clause.now)) }
 {
     match clause {
@@ -64,10 +63,7 @@ fn clause_splice<'t, A: Allocator>(
     ensures within { IfOk result (λ s. s.hi ≤ length entry.entry.text.now) }
 {
     match clause {
-        Some(tokens) => {
-            let span = tokens.span();
-            put_apart(alloc, entry.text, span.lo, span.hi, b"", put)
-        }
+        Some(tokens) => over_tokens(alloc, tokens, put),
         None => {
             let end = entry.front(entry.len() - 1).span().hi;
             put_apart(alloc, entry.text, end, end, b" + ", put)
@@ -76,38 +72,25 @@ fn clause_splice<'t, A: Allocator>(
 }
 
 /// Whether a number is one that no DEF text may hold.
-fn is_out(number: i64) -> bool
+pub fn is_out(number: i64) -> bool
     ensures { result ≡ is_out number }
 {
     number < -2147483647 || 2147483647 < number
 }
 
-/// Whether a text is too long with a splice made.
-fn is_long<A: Allocator>(text: &[u8], splice: &Splice<A>) -> bool
-    requires fits { length text.now ≤ MAX_TEXT }
-    requires order { splice.now.lo ≤ splice.now.hi }
-    requires within { splice.now.hi ≤ length text.now }
-    ensures { result ≡ is_long (with_cuts (cut_view splice.now ∷ []) text.now) }
-{
-    let kept = splice.lo + (text.len() - splice.hi);
-    splice.put.len() > MAX_TEXT - kept
-}
-
 /// The splice that places the component of an entry: a clause `PLACED ( x y ) orient` in the place of the one that places
 /// it, or at the end of the entry.
-pub fn place_splice<'t, A: Allocator + Copy>(
+pub fn entry_placed<'t, A: Allocator + Copy>(
     alloc: A,
     component: ComponentParts<'t>,
     entry: TokenRun<'t>,
     x: i64,
     y: i64,
     orient: Orient,
-) -> Result<Splice<A>, EditRefusal>
-    requires fits { length entry.text.now ≤ MAX_TEXT }
+) -> Result<Splices<A>, EditRefusal>
     requires spelled { words_of entry ≡ spell component_form (component_view component) }
-    ensures gives { Follows entry.entry.text.now (place_plan x y orient (pieces_of entry.entry) (component_view component.entry)) result }
-    ensures order { IfOk result (λ s. s.lo ≤ s.hi) }
-    ensures within { IfOk result (λ s. s.hi ≤ length entry.entry.text.now) }
+    ensures gives { FollowsAll entry.entry.text.now (place_plan x y orient (pieces_of entry.entry) (component_view component.entry)) result }
+    ensures order { IfOk result (λ ss. AreInOrder 0 ss (length entry.entry.text.now)) }
 {
     let clause = movable(component.placing_tokens(entry))?;
     if is_out(x) || is_out(y) {
@@ -115,8 +98,5 @@ pub fn place_splice<'t, A: Allocator + Copy>(
     }
     let put = placed_text(alloc, x, y, orient)?;
     let splice = clause_splice(alloc, entry, clause, &put)?;
-    if is_long(entry.text, &splice) {
-        return Err(EditRefusal::Refused(EditCode::TooLong));
-    }
-    Ok(splice)
+    one_splice(alloc, entry.text, splice)
 }

@@ -6,7 +6,7 @@ ghost use Rattle.def_grammar.specs.Records.{read_def};
 ghost use Rattle.edit_rules.specs.Edits.{change_of};
 ghost use Rattle.def_splice.specs.SpliceViews.{AreInOrder, MakesSplices};
 
-use crate::component::component_splices;
+use crate::component::{place_splices, remaster_splices, unplace_splices};
 use cell_library::library::Library;
 use design_model::MAX_TEXT;
 use edit_model::edit::{Edit, EditRefusal, Splices};
@@ -25,5 +25,14 @@ pub fn splices<A: Allocator + Copy>(
     ensures makes { MakesSplices library.now text.now (change_of edit.now) result }
     ensures order { IfOk result (λ ss. AreInOrder 0 ss (length text.now)) }
 {
-    component_splices(alloc, library, text, edit)
+    match edit {
+        Edit::Place {
+            component,
+            x,
+            y,
+            orient,
+        } => place_splices(alloc, library, text, component, *x, *y, *orient),
+        Edit::Unplace { component } => unplace_splices(alloc, library, text, component),
+        Edit::Remaster { component, cell } => remaster_splices(alloc, library, text, component, cell),
+    }
 }

@@ -5,16 +5,9 @@ use Rattle.lefdef_tokens.specs.Views.{pieces_of}
 use Rattle.def_splice.proofs.PlaceLemmas.{if_ok, span_end, span_start}
 use Rattle.def_splice.proofs.place.clause_splice.Goals as goal
 
-pub returns-in-Some-clause-gives : goal.returns-in-Some-clause-gives
-returns-in-Some-clause-gives g c =
-    let ps = pieces_of c.in-Some.tokens in
-    let low = ap (λ s. s.lo) c.span-span.ensures.gives ∙ span_start ps in
-    let high = ap (λ s. s.hi) c.span-span.ensures.gives ∙ span_end ps in
-    rw c.in-Some.is (if_ok c.put_apart.result (λ s e. rw (low, high) at e) c.put_apart.ensures)
-
 pub returns-in-None-clause-gives : goal.returns-in-None-clause-gives
 returns-in-None-clause-gives g c =
     let ps = pieces_of c.args.entry in
     let count = c.len.ensures ∙ length-map ps (λ p. p.bytes) in
     let high = ap (λ s. s.hi) c.span-end.ensures.gives ∙ ap (λ qs. (span_of qs).hi) (c.front.ensures.gives ∙ ap (λ n. take (n - 1) ps) count) ∙ span_end (take (length ps - 1) ps) in
-    rw c.in-None.is (if_ok c.put_apart-in-None.result (λ s e. rw high at e) c.put_apart-in-None.ensures)
+    rw c.in-None.is (if_ok c.put_apart.result (λ s e. rw high at e) c.put_apart.ensures)
