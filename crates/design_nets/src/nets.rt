@@ -1,11 +1,13 @@
-//! The nets of a design.
+//! The nets of a design, and their lengths.
 
 ghost use Rattle.std.specs.Prelude.{◌≡◌, ◌++◌, ◌∷◌, ◌<◌, ◌≤◌, [], IfOk, OnOk, map};
-ghost use Rattle.std.specs.List.{filter_map};
+ghost use Rattle.std.specs.List.{filter_map, sum_by};
 ghost use Rattle.design_rules.specs.Boxes.{scale};
 ghost use Rattle.net_entries.specs.NetEntries.{entry_lent};
-ghost use Rattle.connection_rules.specs.NetParts.{all_nets, net_of, wired_of};
+ghost use Rattle.connection_rules.specs.NetParts.{all_nets, net_names, net_of, wired_of};
 ghost use Rattle.connection_rules.specs.Terminals.{pins_by_name};
+ghost use Rattle.measure_rules.specs.Lengths.{length_of, wired_length};
+ghost use Rattle.drawn_parts.specs.DrawnLengths.{capped};
 
 use cell_library::library::Library;
 use design_names::names::Names;
@@ -14,9 +16,17 @@ use drawn_parts::put_drawn;
 use net_entries::{LentEntry, entries_by_net, is_power};
 use net_lists::{NetList, building_a_net};
 use net_pins::Pins;
-use std::alloc::{AllocError, Allocator};
+use std::alloc::{AllocError, Allocator, Global};
 
-/// Puts the net of a name and of its entries behind the others.
+/// The nets of a design, and the length of each.
+#[derive(Drop)]
+pub struct MeasuredNets<'t, A: Allocator = Global> {
+    pub nets: NetList<'t, A>,
+    /// Along the centres of wires, in database units: 2^64 - 1 where it is more.
+    pub lengths: Vec<u64, A>,
+}
+
+/// Puts the net of a name and of its entries behind the others, and gives its length.
 fn put_net<'v, 'a, 'l: 'a, 'r: 'a, 't: 'a, A: Allocator + Copy>(
     alloc: A,
     pins: &Pins<'v, 'a, 'l, 'r, 't, A>,
@@ -25,21 +35,47 @@ fn put_net<'v, 'a, 'l: 'a, 'r: 'a, 't: 'a, A: Allocator + Copy>(
     name: &'t [u8],
     entries: &[LentEntry<'_, 't>],
     nets: &mut NetList<'t, A>,
-) -> Result<(), AllocError>
+) -> Result<u64, AllocError>
     requires library { library.now ≡ wires.now.library }
     requires pins { pins.now ≡ wires.now }
-    ensures { let design = wires.now.design in let u = scale design in
+    ensures net { let design = wires.now.design in let u = scale design in
         OnOk result (nets.new ≡ nets.old ++ net_of library.now.layers (pins_by_name library.now design u) name.now (filter_map (wired_of library.now design u) (map entry_lent entries.now)) ∷ []) }
+    ensures length { let design = wires.now.design in IfOk result (λ n. n ≡ capped (sum_by wired_length (filter_map (wired_of library.now design (scale design)) (map entry_lent entries.now)))) }
 {
     building_a_net();
     nets.begin_net(name, is_power(entries))?;
     pins.put_pins(alloc, name, entries, nets)?;
-    put_drawn(library, wires, entries, nets)?;
-    Ok(())
+    let length = put_drawn(library, wires, entries, nets)?;
+    Ok(length)
 }
 
-/// The nets of a design, in the order in which their names come first. The vias are those of the same library and the same design,
-/// whose text reads, so that its scale is in range.
+/// The nets of a design, in the order in which their names come first, and their lengths in the same order. The vias are those of
+/// the same library and the same design, whose text reads, so that its scale is in range.
+pub fn measured_nets<'a, 'l: 'a, 'r: 'a, 't: 'a, A: Allocator + Copy>(
+    alloc: A,
+    library: &'a Library<'l, A>,
+    names: &'a Names<'r, 't, A>,
+    wires: &DesignWires<'a, 'l, 'r, 't, A>,
+) -> Result<MeasuredNets<'t, A>, AllocError>
+    requires some { 0 < scale names.now }
+    requires few { scale names.now ≤ 100000 }
+    requires same { wires.now ≡ record { library = library.now; design = names.now } }
+    ensures nets { IfOk result (λ m. m.nets ≡ all_nets library.entry.now names.entry.now (scale names.entry.now)) }
+    ensures lengths { let u = scale names.entry.now in IfOk result (λ m. m.lengths.items ≡ map (λ name. capped (length_of library.entry.now names.entry.now u name)) (net_names library.entry.now names.entry.now u)) }
+{
+    let groups = entries_by_net(alloc, names.records())?;
+    let pins = Pins::new(alloc, library, names, wires)?;
+    let mut nets = NetList::new(alloc);
+    let mut lengths = Vec::new(alloc);
+    for place in 0..groups.len() {
+        let (name, entries) = groups.at(place);
+        let length = put_net(alloc, &pins, library, wires, name, entries, &mut nets)?;
+        lengths.push(length)?;
+    }
+    Ok(MeasuredNets { nets, lengths })
+}
+
+/// The nets of a design, as `measured_nets` gives them.
 pub fn nets_of<'a, 'l: 'a, 'r: 'a, 't: 'a, A: Allocator + Copy>(
     alloc: A,
     library: &'a Library<'l, A>,
@@ -51,12 +87,6 @@ pub fn nets_of<'a, 'l: 'a, 'r: 'a, 't: 'a, A: Allocator + Copy>(
     requires same { wires.now ≡ record { library = library.now; design = names.now } }
     ensures { IfOk result (λ nets. nets ≡ all_nets library.entry.now names.entry.now (scale names.entry.now)) }
 {
-    let groups = entries_by_net(alloc, names.records())?;
-    let pins = Pins::new(alloc, library, names, wires)?;
-    let mut nets = NetList::new(alloc);
-    for place in 0..groups.len() {
-        let (name, entries) = groups.at(place);
-        put_net(alloc, &pins, library, wires, name, entries, &mut nets)?;
-    }
-    Ok(nets)
+    let measured = measured_nets(alloc, library, names, wires)?;
+    Ok(measured.nets)
 }

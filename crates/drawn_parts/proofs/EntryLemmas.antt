@@ -9,7 +9,7 @@ use Rattle.drawn_parts.specs.Drawing.{Drawing, put_pieces}
 use Rattle.drawn_parts.specs.EntryParts.{parts_drawn, parts_if}
 use Rattle.drawn_parts.proofs.PartLemmas.{drawn_all, parts_append, pieces_append, with_parts_append}
 
-left_from : {X : Type 0} (xs : List X) (i : ℕ) (x : X) → i < length xs → x ≡ get_or xs i x → drop i xs ≡ x ∷ drop (i + 1) xs
+pub left_from : {X : Type 0} (xs : List X) (i : ℕ) (x : X) → i < length xs → x ≡ get_or xs i x → drop i xs ≡ x ∷ drop (i + 1) xs
 left_from xs i x below is = rw add-one (drop-cons xs i x below ∙ ap (λ y. y ∷ drop (suc i) xs) (sym is))
 
 module _ (layers : List Layer) where

@@ -3,6 +3,7 @@
 ghost use Rattle.std.specs.Prelude.{◌≡◌, [], ◌∷◌, OnOk, option_map};
 ghost use Rattle.std.specs.Option.{option_to_list};
 ghost use Rattle.connection_rules.specs.NetParts.{goes_on, shapes_of};
+ghost use Rattle.measure_rules.specs.Lengths.{piece_length};
 ghost use Rattle.wire_shapes.specs.PieceViews.{piece_view};
 ghost use Rattle.wire_shapes.specs.RuleViews.{shape_view};
 ghost use Rattle.drawn_parts.specs.Drawing.{IsReady, drawing, named_shapes, put_named, put_piece};
@@ -37,6 +38,16 @@ fn shape_of<'p>(piece: &Piece<'p>) -> Option<LayerShape<'p>>
         Piece::Segment { shape, .. } | Piece::Rectangle(shape) | Piece::ViaShape { shape, .. } =>
             Some(*shape),
         Piece::Diagonal | Piece::UnknownVia(_) | Piece::ViaOffLayer(_) => None,
+    }
+}
+
+/// The length of a piece.
+pub(crate) fn length_of(piece: &Piece<'_>) -> u64
+    ensures { result ≡ piece_length (piece_view piece.now) }
+{
+    match piece {
+        Piece::Segment { length, .. } => *length,
+        _ => 0,
     }
 }
 

@@ -1,14 +1,16 @@
 //! What entries of a net draw, put into a list of nets.
 
-ghost use Rattle.std.specs.Prelude.{◌≡◌, ◌<◌, length, map, OnOk};
-ghost use Rattle.std.specs.List.{filter_map};
+ghost use Rattle.std.specs.Prelude.{◌≡◌, ◌<◌, length, map, IfOk, OnOk};
+ghost use Rattle.std.specs.List.{filter_map, sum_by};
 ghost use Rattle.connection_rules.specs.NetParts.{drawn_parts, wired_net, wired_of, wired_special};
 ghost use Rattle.def_reader.specs.EntryViews.{entry_view};
 ghost use Rattle.design_rules.specs.Boxes.{scale};
+ghost use Rattle.measure_rules.specs.Lengths.{wired_length};
 ghost use Rattle.net_lists.specs.Building.{with_parts};
 ghost use Rattle.wire_parts.specs.NetViews.{net_entry_view, net_view};
 ghost use Rattle.wire_parts.specs.SpecialNetViews.{special_net_view};
 ghost use Rattle.def_grammar.specs.Records.{net};
+ghost use Rattle.drawn_parts.specs.DrawnLengths.{capped, length_if};
 ghost use Rattle.drawn_parts.specs.EntryParts.{parts_drawn, parts_if};
 ghost use Rattle.net_entries.specs.NetEntries.{entry_lent};
 
@@ -24,88 +26,97 @@ use std::alloc::{AllocError, Allocator};
 use wire_parts::nets::{NetEntry, NetParts};
 use wire_parts::special_nets::SpecialNetParts;
 
-/// Puts the parts that a net draws.
+/// Puts the parts that a net draws, and gives the length of its wires.
 fn put_net<'a, 'l: 'a, 'r: 'a, 't: 'a, A: Allocator + Copy>(
     library: &Library<'_, A>,
     wires: &DesignWires<'a, 'l, 'r, 't, A>,
     parts: &NetParts<'_>,
     nets: &mut NetList<'_, A>,
-) -> Result<(), AllocError>
+) -> Result<u64, AllocError>
     requires { 0 < length nets.old }
     ensures ok { OnOk result (nets.new ≡ with_parts (parts_drawn library.now.layers (wired_net wires.now.library wires.now.design (scale wires.now.design) (net_view parts.now))) nets.old) }
     ensures net { OnOk result (0 < length nets.new) }
+    ensures length { IfOk result (λ n. n ≡ capped (wired_length (wired_net wires.now.library wires.now.design (scale wires.now.design) (net_view parts.now)))) }
 {
     let mut walk = Walk { is_begun: false };
-    put_net_wires(library, wires, parts, &mut walk, nets)?;
-    Ok(())
+    let length = put_net_wires(library, wires, parts, &mut walk, nets)?;
+    Ok(length)
 }
 
-/// Puts the parts that a special net draws: those of its wires, and then those of its clauses.
+/// Puts the parts that a special net draws: those of its wires, and then those of its clauses. It gives the length of its wires;
+/// what its clauses draw has none.
 fn put_special_net<'p, 'a, 'l: 'a, 'r: 'a, 't: 'a, A: Allocator + Copy>(
     library: &Library<'_, A>,
     wires: &DesignWires<'a, 'l, 'r, 't, A>,
     parts: &SpecialNetParts<'p>,
     nets: &mut NetList<'_, A>,
-) -> Result<(), AllocError>
+) -> Result<u64, AllocError>
     requires { 0 < length nets.old }
     ensures ok { OnOk result (nets.new ≡ with_parts (parts_drawn library.now.layers (wired_special wires.now.library wires.now.design (scale wires.now.design) (special_net_view parts.now))) nets.old) }
     ensures net { OnOk result (0 < length nets.new) }
+    ensures length { IfOk result (λ n. n ≡ capped (wired_length (wired_special wires.now.library wires.now.design (scale wires.now.design) (special_net_view parts.now)))) }
 {
     let mut walk = Walk { is_begun: false };
-    put_special_wires(library, wires, parts, &mut walk, nets)?;
+    let length = put_special_wires(library, wires, parts, &mut walk, nets)?;
     put_clauses(library, wires, parts.clauses.again(), &mut walk, nets)?;
-    Ok(())
+    Ok(length)
 }
 
-/// Puts the parts that an entry of NETS draws. One of MUSTJOIN draws none.
+/// Puts the parts that an entry of NETS draws, and gives the length of its wires. One of MUSTJOIN draws none.
 fn put_net_entry<'a, 'l: 'a, 'r: 'a, 't: 'a, A: Allocator + Copy>(
     library: &Library<'_, A>,
     wires: &DesignWires<'a, 'l, 'r, 't, A>,
     entry: &NetEntry<'_>,
     nets: &mut NetList<'_, A>,
-) -> Result<(), AllocError>
+) -> Result<u64, AllocError>
     requires { 0 < length nets.old }
     ensures ok { OnOk result (nets.new ≡ with_parts (parts_if library.now.layers (wired_of wires.now.library wires.now.design (scale wires.now.design) (net (net_entry_view entry.now)))) nets.old) }
     ensures net { OnOk result (0 < length nets.new) }
+    ensures length { IfOk result (λ n. n ≡ capped (length_if (wired_of wires.now.library wires.now.design (scale wires.now.design) (net (net_entry_view entry.now))))) }
 {
     match entry {
-        NetEntry::MustJoin(_) => Ok(()),
+        NetEntry::MustJoin(_) => Ok(0),
         NetEntry::Net(parts) => put_net(library, wires, parts, nets),
     }
 }
 
-/// Puts the parts that an entry draws, if it is one of NETS or SPECIALNETS.
+/// Puts the parts that an entry draws, if it is one of NETS or SPECIALNETS, and gives the length of its wires.
 fn put_entry<'a, 'l: 'a, 'r: 'a, 't: 'a, A: Allocator + Copy>(
     library: &Library<'_, A>,
     wires: &DesignWires<'a, 'l, 'r, 't, A>,
     entry: &Entry<'_>,
     nets: &mut NetList<'_, A>,
-) -> Result<(), AllocError>
+) -> Result<u64, AllocError>
     requires { 0 < length nets.old }
     ensures ok { OnOk result (nets.new ≡ with_parts (parts_if library.now.layers (wired_of wires.now.library wires.now.design (scale wires.now.design) (entry_view entry.now))) nets.old) }
     ensures net { OnOk result (0 < length nets.new) }
+    ensures length { IfOk result (λ n. n ≡ capped (length_if (wired_of wires.now.library wires.now.design (scale wires.now.design) (entry_view entry.now)))) }
 {
     match entry {
         Entry::Net(net) => put_net_entry(library, wires, net, nets),
         Entry::SpecialNet(parts) => put_special_net(library, wires, parts, nets),
-        _ => Ok(()),
+        _ => Ok(0),
     }
 }
 
-/// Puts the parts that entries of a net draw behind those of the last net.
+/// Puts the parts that entries of a net draw behind those of the last net, and gives the length of their wires in database units:
+/// 2^64 - 1 where it is more.
 pub fn put_drawn<'a, 'l: 'a, 'r: 'a, 't: 'a, A: Allocator + Copy>(
     library: &Library<'_, A>,
     wires: &DesignWires<'a, 'l, 'r, 't, A>,
     entries: &[LentEntry<'_, '_>],
     nets: &mut NetList<'_, A>,
-) -> Result<(), AllocError>
+) -> Result<u64, AllocError>
     requires library { library.now ≡ wires.now.library }
     requires net { 0 < length nets.old }
     ensures ok { let design = wires.now.design in OnOk result (nets.new ≡ with_parts (drawn_parts library.now.layers (filter_map (wired_of library.now design (scale design)) (map entry_lent entries.now))) nets.old) }
     ensures net { OnOk result (0 < length nets.new) }
+    ensures length { let design = wires.now.design in IfOk result (λ n. n ≡ capped (sum_by wired_length (filter_map (wired_of library.now design (scale design)) (map entry_lent entries.now)))) }
 {
+    let mut length: u64 = 0;
     for lent in entries {
-        put_entry(library, wires, lent.entry, nets)?;
+        let more = put_entry(library, wires, lent.entry, nets)?;
+        length = length.saturating_add(more);
     }
-    Ok(())
+    Ok(length)
 }

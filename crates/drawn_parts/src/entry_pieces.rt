@@ -1,14 +1,17 @@
 //! The pieces of the wires of an entry, put into a list of nets.
 
-ghost use Rattle.std.specs.Prelude.{◌≡◌, OnOk};
+ghost use Rattle.std.specs.Prelude.{◌≡◌, IfOk, OnOk};
+ghost use Rattle.std.specs.List.{sum_by};
 ghost use Rattle.net_rules.specs.WirePieces.{net_pieces, special_net_pieces};
 ghost use Rattle.design_rules.specs.Boxes.{scale};
+ghost use Rattle.measure_rules.specs.Lengths.{piece_length};
 ghost use Rattle.wire_parts.specs.NetViews.{net_view};
 ghost use Rattle.wire_parts.specs.SpecialNetViews.{special_net_view};
 ghost use Rattle.wire_reading.specs.EntryLeft.{entry_left};
 ghost use Rattle.drawn_parts.specs.Drawing.{IsReady, drawing, put_pieces};
+ghost use Rattle.drawn_parts.specs.DrawnLengths.{capped};
 
-use crate::drawing::{Walk, put_piece};
+use crate::drawing::{Walk, length_of, put_piece};
 use cell_library::library::Library;
 use design_wires::makings_of_design::DesignMakings;
 use design_wires::wires::DesignWires;
@@ -19,13 +22,13 @@ use wire_parts::special_nets::SpecialNetParts;
 use wire_reading::{EntryPieces, MadeWires, net_pieces, pieces_of_design, special_net_pieces};
 use wire_shapes::{LayerShapes, PathItems, WiringMakings};
 
-/// Puts the pieces that are left of the wires of an entry, one after the other.
+/// Puts the pieces that are left of the wires of an entry, one after the other, and gives the sum of their lengths.
 fn put_pieces<'a, W, I, R, S, A>(
     library: &Library<'_, A>,
     pieces: EntryPieces<'a, W, I, R, S>,
     walk: &mut Walk,
     nets: &mut NetList<'_, A>,
-) -> Result<(), AllocError>
+) -> Result<u64, AllocError>
 where
     I: PathItems<'a>,
     S: LayerShapes<'a>,
@@ -35,24 +38,28 @@ where
     requires { IsReady (drawing walk.old nets.old) }
     ensures ok { OnOk result (drawing walk.new nets.new ≡ put_pieces library.now.layers (entry_left W.pieces I.items R.rules S.shapes pieces.entry) (drawing walk.old nets.old)) }
     ensures ready { OnOk result (IsReady (drawing walk.new nets.new)) }
+    ensures length { IfOk result (λ n. n ≡ capped (sum_by piece_length (entry_left W.pieces I.items R.rules S.shapes pieces.entry))) }
 {
+    let mut length: u64 = 0;
     for piece in pieces {
         put_piece(library, &piece, walk, nets)?;
+        length = length.saturating_add(length_of(&piece));
     }
-    Ok(())
+    Ok(length)
 }
 
-/// Puts the pieces of the wires of a net.
+/// Puts the pieces of the wires of a net, and gives the sum of their lengths.
 pub(crate) fn put_net_wires<'a, 'l: 'a, 'r: 'a, 't: 'a, A: Allocator + Copy>(
     library: &Library<'_, A>,
     wires: &DesignWires<'a, 'l, 'r, 't, A>,
     parts: &NetParts<'_>,
     walk: &mut Walk,
     nets: &mut NetList<'_, A>,
-) -> Result<(), AllocError>
+) -> Result<u64, AllocError>
     requires { IsReady (drawing walk.old nets.old) }
     ensures ok { OnOk result (drawing walk.new nets.new ≡ put_pieces library.now.layers (net_pieces wires.now.library wires.now.design (scale wires.now.design) (net_view parts.now)) (drawing walk.old nets.old)) }
     ensures ready { OnOk result (IsReady (drawing walk.new nets.new)) }
+    ensures length { IfOk result (λ n. n ≡ capped (sum_by piece_length (net_pieces wires.now.library wires.now.design (scale wires.now.design) (net_view parts.now)))) }
 {
     pieces_of_design();
     put_pieces(
@@ -63,17 +70,18 @@ pub(crate) fn put_net_wires<'a, 'l: 'a, 'r: 'a, 't: 'a, A: Allocator + Copy>(
     )
 }
 
-/// Puts the pieces of the wires of a special net.
+/// Puts the pieces of the wires of a special net, and gives the sum of their lengths.
 pub(crate) fn put_special_wires<'a, 'l: 'a, 'r: 'a, 't: 'a, A: Allocator + Copy>(
     library: &Library<'_, A>,
     wires: &DesignWires<'a, 'l, 'r, 't, A>,
     parts: &SpecialNetParts<'_>,
     walk: &mut Walk,
     nets: &mut NetList<'_, A>,
-) -> Result<(), AllocError>
+) -> Result<u64, AllocError>
     requires { IsReady (drawing walk.old nets.old) }
     ensures ok { OnOk result (drawing walk.new nets.new ≡ put_pieces library.now.layers (special_net_pieces wires.now.library wires.now.design (scale wires.now.design) (special_net_view parts.now)) (drawing walk.old nets.old)) }
     ensures ready { OnOk result (IsReady (drawing walk.new nets.new)) }
+    ensures length { IfOk result (λ n. n ≡ capped (sum_by piece_length (special_net_pieces wires.now.library wires.now.design (scale wires.now.design) (special_net_view parts.now)))) }
 {
     pieces_of_design();
     put_pieces(

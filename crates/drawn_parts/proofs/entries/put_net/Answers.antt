@@ -7,4 +7,4 @@ use Rattle.drawn_parts.proofs.entries.put_net.Goals as goal
 pub returns-clause-ok : goal.returns-clause-ok
 returns-clause-ok g c =
     put_apart c.args.library.now.layers (wired_net c.args.wires.now.library c.args.wires.now.design (scale c.args.wires.now.design) (net_view c.args.parts.now)) c.args.nets.now _
-    c.in_ok-put_net_wires.ensures.ok
+    c.in_ok-length.ensures.ok
