@@ -11,7 +11,7 @@ use std::alloc::{AllocError, Allocator};
 use unit_numbers::print;
 
 /// Puts a number after some bytes.
-pub(crate) fn push_number<A: Allocator>(
+fn push_number<A: Allocator>(
     text: &mut Vec<u8, A>,
     number: u64,
 ) -> Result<(), AllocError>

@@ -14,6 +14,4 @@ pub mod command;
 mod component_edits;
 pub mod escape;
 pub mod line;
-pub mod measured;
-mod measures;
 mod numbers;
