@@ -15,8 +15,8 @@ ghost use Rattle.def_splice.specs.SpliceViews.{clause_cut, cut_view, AreInOrder,
 use crate::fitting::one_splice;
 use crate::put::{placed_text, put_apart};
 use crate::token_splices::over_tokens;
-use edit_model::edit::{EditCode, EditRefusal, Splice, Splices};
 use design_model::geometry::{Orient, Status};
+use edit_model::edit::{EditCode, EditRefusal, Splice, Splices};
 use lefdef_tokens::TokenRun;
 use place_parts::component_parts::ComponentParts;
 use place_parts::components::Clause;

@@ -7,9 +7,9 @@ ghost use Rattle.edit_rules.specs.ComponentEdits.{placed_text};
 ghost use Rattle.edit_rules.specs.Plans.{ends_open, put_apart, space_between};
 ghost use Rattle.def_splice.specs.SpliceViews.{cut_view};
 
-use edit_model::edit::Splice;
 use design_model::geometry::Orient;
 use design_model::sequence::Sequence;
+use edit_model::edit::Splice;
 use itoa::Buffer;
 use std::alloc::{AllocError, Allocator};
 use unit_numbers::print;

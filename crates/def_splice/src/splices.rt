@@ -33,6 +33,8 @@ pub fn splices<A: Allocator + Copy>(
             orient,
         } => place_splices(alloc, library, text, component, *x, *y, *orient),
         Edit::Unplace { component } => unplace_splices(alloc, library, text, component),
-        Edit::Remaster { component, cell } => remaster_splices(alloc, library, text, component, cell),
+        Edit::Remaster { component, cell } => remaster_splices(
+            alloc, library, text, component, cell,
+        ),
     }
 }
