@@ -1,4 +1,5 @@
 """The kit's command rt as a module, and the crates of this repository as it sees them."""
+import functools
 import importlib.machinery
 import importlib.util
 import os
@@ -6,6 +7,7 @@ import re
 import shutil
 import sys
 import tempfile
+import threading
 
 sys.dont_write_bytecode = True
 TOP = os.path.dirname(os.path.dirname(os.path.dirname(os.path.realpath(__file__))))
@@ -17,7 +19,33 @@ def load_rt():
     loader = importlib.machinery.SourceFileLoader("rt", os.path.realpath(file))
     module = importlib.util.module_from_spec(importlib.util.spec_from_loader("rt", loader))
     loader.exec_module(module)
+    for name in ("stamp", "below"):
+        setattr(module.rtlib.Crate, name, asked_once(getattr(module.rtlib.Crate, name)))
     return module
+
+
+def asked_once(method):
+    """Returns a method that asks the same of the crates below, so that one call asks each crate once.
+
+    The kit's own asks a crate once for each path down to it, and the paths to a crate are many more than the crates. Nothing is
+    kept from one call to the next, so a file that changes between them is read again.
+    """
+    call = threading.local()
+
+    @functools.wraps(method)
+    def asked(crate):
+        is_first = not hasattr(call, "known")
+        if is_first:
+            call.known = {}
+        try:
+            if id(crate) not in call.known:
+                call.known[id(crate)] = crate, method(crate)
+            return call.known[id(crate)][1]
+        finally:
+            if is_first:
+                del call.known
+
+    return asked
 
 
 rt = load_rt()

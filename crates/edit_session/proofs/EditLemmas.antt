@@ -30,7 +30,7 @@ read_fits text reads = ⊎_elim
 pub made_applied : EditsAreApplied → (library : Library) (text : List ℕ) (change : Change) (cuts : List Cut) → Makes library text change (Ok cuts) → ReadsEdited text change (with_cuts cuts text)
 made_applied applied_so library text change cuts (design, reads, made) = (design, reads, applied_so library text design change cuts reads made)
 
--- and keeps the bytes around its one cut
+-- and keeps the bytes around its cuts
 pub made_keeps : EditsKeepTheRest → (library : Library) (text : List ℕ) (change : Change) (cuts : List Cut) → Makes library text change (Ok cuts) → KeepsTheRest library text change (with_cuts cuts text)
 made_keeps keeps_so library text change cuts (design, reads, made) = (cuts, (design, reads, made), refl, keeps_so library text design change cuts reads made)
 
