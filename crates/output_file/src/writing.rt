@@ -1,5 +1,8 @@
 //! Writing a whole text into a file.
 
+ghost use Rattle.std.specs.Prelude.{OnOk};
+ghost use Rattle.std.specs.Io.KnownBytes.{Appends};
+
 use crate::beside::new_file;
 use std::alloc::Global;
 use std::fs;
@@ -17,7 +20,9 @@ pub enum OutputFault {
 }
 
 /// Writes a text into a file that is open.
-fn fill<W: Write>(file: &mut W, text: &[u8]) -> Result<(), OutputFault> {
+fn fill<W: Write>(file: &mut W, text: &[u8]) -> Result<(), OutputFault>
+    ensures { OnOk result (Appends (W.contents file.old) (W.contents file.new) text.now) }
+{
     match file.write_all(text) {
         Ok(()) => Ok(()),
         Err(_) => Err(OutputFault::Write),
