@@ -1,2 +1,1 @@
-pub mod LookupViews
 pub mod SpliceViews
