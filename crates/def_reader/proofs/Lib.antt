@@ -1,5 +1,5 @@
 mod CheckSteps
 mod KeySteps
-mod PlaceSteps
-mod RecordSteps
-mod SectionSteps
+pub mod PlaceSteps
+pub mod RecordSteps
+pub mod SectionSteps

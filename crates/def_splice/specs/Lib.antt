@@ -1,1 +1,2 @@
+pub mod LookupViews
 pub mod SpliceViews

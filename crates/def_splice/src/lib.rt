@@ -1,7 +1,7 @@
 //! The bytes that an edit changes.
 //!
 //! Begin with `splices::splices` (the splices of an edit), `in_place::make_splices` (they are made in a text) and
-//! `spliced::spliced` (a text with them made). Each group of edits has a module: `component`. The statements that an edit is
+//! `spliced::spliced` (a text with them made). Each group of edits has a module: `component` and `section`. The statements that an edit is
 //! about are found by the functions of `lookups`. The definition is `Edits` of `edit_rules`: an edit is a plan (`Plans`), why it
 //! is refused and which statements it changes. Nothing is lent; a refusal is an `EditRefusal`, the lowest that applies, and want
 //! of memory comes after the refusals that need none.
@@ -14,6 +14,11 @@ pub mod lookups;
 mod names;
 mod place;
 mod put;
+pub mod section;
+mod section_texts;
 pub mod spliced;
 pub mod splices;
+mod statement_kinds;
+mod statement_search;
+mod terminals;
 mod token_splices;

@@ -7,6 +7,7 @@ ghost use Rattle.edit_rules.specs.Edits.{change_of};
 ghost use Rattle.def_splice.specs.SpliceViews.{AreInOrder, MakesSplices};
 
 use crate::component::{place_splices, remaster_splices, unplace_splices};
+use crate::section::{add_splices, block_splices, remove_splices};
 use cell_library::library::Library;
 use design_model::MAX_TEXT;
 use edit_model::edit::{Edit, EditRefusal, Splices};
@@ -36,5 +37,14 @@ pub fn splices<A: Allocator + Copy>(
         Edit::Remaster { component, cell } => remaster_splices(
             alloc, library, text, component, cell,
         ),
+        Edit::Add { component, cell } => add_splices(alloc, library, text, component, cell),
+        Edit::Remove { component } => remove_splices(alloc, library, text, component),
+        Edit::Block {
+            layer,
+            x1,
+            y1,
+            x2,
+            y2,
+        } => block_splices(alloc, library, text, *layer, *x1, *y1, *x2, *y2),
     }
 }

@@ -28,6 +28,23 @@ pub enum Edit<'a> {
         component: &'a [u8],
         cell: &'a [u8],
     },
+    /// Puts a component of a macro last in its section.
+    Add {
+        component: &'a [u8],
+        cell: &'a [u8],
+    },
+    /// Takes a component out.
+    Remove {
+        component: &'a [u8],
+    },
+    /// Blocks routing on a layer, or where none is named placement, in a rectangle between two corners.
+    Block {
+        layer: Option<&'a [u8]>,
+        x1: i64,
+        y1: i64,
+        x2: i64,
+        y2: i64,
+    },
 }
 
 /// The kinds of refusal of an edit, in the order of their numbers.

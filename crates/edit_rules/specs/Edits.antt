@@ -31,6 +31,9 @@ abbrev pub change_of : Edit → Change
 change_of (edits.Place name x y o) = of_component name.now (place_at x y o)
 change_of (edits.Unplace name) = of_component name.now unplace_it
 change_of (edits.Remaster name cell) = of_component name.now (remaster_as cell.now)
+change_of (edits.Add name cell) = of_section (add_component name.now cell.now)
+change_of (edits.Remove name) = of_section (remove_component name.now)
+change_of (edits.Block layer x1 y1 x2 y2) = of_section (add_blockage (lent (λ l. l.now) layer) x1 y1 x2 y2)
 
 -- the plan of an edit of a text that reads as this design
 abbrev pub plan_of : Library → List ℕ → List Record → Change → Plan

@@ -1,0 +1,17 @@
+use Rattle.std.proofs.Common.{ap, sym, ◌∙◌}
+use Rattle.std.specs.Option.{option_map}
+use Rattle.def_grammar.specs.Located.{located}
+use Rattle.edit_rules.specs.SectionEdits.{is_end}
+use Rattle.def_reader.specs.RecordViews.{located_view}
+use Rattle.def_splice.proofs.SearchSteps.{tokens_of_first}
+use Rattle.def_splice.proofs.lookups.end_of.Goals as goal
+
+pub returns-in_default-clause-gives : goal.returns-in_default-clause-gives
+returns-in_default-clause-gives c = λ design reads.
+    let found = sym (c.first_statement.ensures.gives design reads) ∙ ap (option_map located_view) c.in_default.is in
+    sym (tokens_of_first (is_end c.args.section) (located c.args.text.now design) ∙ ap (option_map (λ x. x.0)) found)
+
+pub returns-clause-gives : goal.returns-clause-gives
+returns-clause-gives c = λ design reads.
+    let found = sym (c.first_statement.ensures.gives design reads) ∙ ap (option_map located_view) c.in-Some.is in
+    sym (tokens_of_first (is_end c.args.section) (located c.args.text.now design) ∙ ap (option_map (λ x. x.0)) found)

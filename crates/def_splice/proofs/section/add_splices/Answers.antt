@@ -1,0 +1,38 @@
+use Rattle.std.proofs.Common.{◌≡◌, None, List, ℕ, ap, sym, subst, ◌∙◌, refl, rules}
+use Rattle.std.proofs.lemmas.Result.{err_from_is_err_and}
+use Rattle.design_model.specs.declared.mode.Section.TheVariants.{Components}
+use Rattle.def_grammar.specs.Located.{located}
+use Rattle.def_grammar.specs.Records.{read_def}
+use Rattle.edit_rules.specs.Edits.{of_section}
+use Rattle.edit_rules.specs.Plans.{cuts_for, lowest, outcome_of}
+use Rattle.edit_rules.specs.SectionEdits.{add_component, component_text, new_component, putting}
+use Rattle.def_splice.specs.LookupViews.{section_plan_of}
+use Rattle.def_splice.specs.SpliceViews.{AreCuts}
+use Rattle.def_splice.proofs.PlaceLemmas.{design_of}
+use Rattle.def_splice.proofs.PlanLemmas.{follows, makes, refused, wants}
+use Rattle.def_splice.proofs.section.add_splices.Goals as goal
+
+pub returns-in-Some-clause-makes : goal.returns-in-Some-clause-makes
+returns-in-Some-clause-makes g c =
+    let read = design_of (read_def c.args.text.now) c.requires.reads in
+    let plan = section_plan_of c.args.library.now c.args.text.now read.0 (add_component c.args.component.now c.args.cell.now) in
+    (read.0, read.1, refused c.args.text.now plan c.in-Some.code (sym (c.add_refusal.ensures read.0 read.1) ∙ c.in-Some.is))
+
+pub returns-in_err-put-clause-makes : goal.returns-in_err-put-clause-makes
+returns-in_err-put-clause-makes g c =
+    let read = design_of (read_def c.args.text.now) c.requires.reads in
+    let plan = section_plan_of c.args.library.now c.args.text.now read.0 (add_component c.args.component.now c.args.cell.now) in
+    let free : lowest plan.refusals ≡ None = sym (c.add_refusal.ensures read.0 read.1) ∙ c.in_default.is in
+    let p = err_from_is_err_and c.from_residual.result c.from_residual.ensures.1 in
+    rw (p.1, p.2) (outcome_of c.args.text.now plan, (read.0, read.1, refl), wants c.args.text.now plan free)
+
+pub returns-clause-makes : goal.returns-clause-makes
+returns-clause-makes g c =
+    let read = design_of (read_def c.args.text.now) c.requires.reads in
+    let text = c.args.text.now in
+    let plan = section_plan_of c.args.library.now text read.0 (add_component c.args.component.now c.args.cell.now) in
+    let free : lowest plan.refusals ≡ None = sym (c.add_refusal.ensures read.0 read.1) ∙ c.in_default.is in
+    let put : c.deref.result.now ≡ component_text c.args.component.now c.args.cell.now = search rules in
+    let said = new_component c.args.component.now c.args.cell.now in
+    let cuts = subst (λ (bytes : List ℕ). AreCuts {A = g.row.A.Denot} text (cuts_for text (putting Components bytes said (located text read.0) read.0)) c.entry_put.result) put (c.entry_put.ensures.cuts read.0 said read.1) in
+    makes c.args.library.now text (of_section (add_component c.args.component.now c.args.cell.now)) read.0 read.1 plan refl c.entry_put.result (follows text plan free c.entry_put.result (cuts_for text plan.changes) refl cuts)

@@ -1,0 +1,50 @@
+use Rattle.std.proofs.Common.{◌≡◌, ◌≤◌, ◌-◌, ◌∷◌, [], List, ℕ, Some, decimal, length, take, drop, ap, ap₂, sym, subst, ◌∙◌, arith, refl, rules}
+use Rattle.std.specs.Option.{option_map}
+use Rattle.design_model.specs.declared.mode.Section.TheVariants.{Components}
+use Rattle.statement_model.specs.Cuts.{Cut, end_of_all}
+use Rattle.statement_model.specs.Reading.{pos_of}
+use Rattle.statement_model.specs.Tokens.{Token}
+use Rattle.def_grammar.specs.Located.{located}
+use Rattle.def_grammar.specs.Records.{read_def}
+use Rattle.edit_rules.specs.Plans.{cut_of, cuts_for}
+use Rattle.edit_rules.specs.SectionEdits.{count_change, entries_in, take_change, taking, two_changes}
+use Rattle.lefdef_tokens.specs.Views.{pieces_of}
+use Rattle.def_splice.specs.SpliceViews.{AreCuts, change_cut, cut_view}
+use Rattle.def_splice.proofs.OrderLemmas.{before_component, header_long}
+use Rattle.def_splice.proofs.PlaceLemmas.{design_of}
+use Rattle.def_splice.proofs.TokenLemmas.{pieces_counted, taken_from}
+use Rattle.def_splice.proofs.section.entry_taken.Goals as goal
+
+pub change_splice-requires : goal.change_splice-requires
+change_splice-requires g c =
+    let read = design_of (read_def c.args.text.now) c.requires.reads in
+    let head = sym (c.header_of.ensures.gives read.0 read.1) ∙ ap (option_map pieces_of) c.in-Some.is in
+    let many = header_long c.args.text.now read.0 read.1 Components (pieces_of c.in-Some.header) head in
+    omega (arith, many)
+
+pub two_splices-requires-clause-apart : goal.two_splices-requires-clause-apart
+two_splices-requires-clause-apart g c =
+    let read = design_of (read_def c.args.text.now) c.requires.reads in
+    let head = sym (c.header_of.ensures.gives read.0 read.1) ∙ ap (option_map pieces_of) c.in-Some.is in
+    let hs = pieces_of c.in-Some.header in
+    let ps = pieces_of c.args.entry in
+    let hi : c.in_ok-first.first.hi ≡ end_of_all (take 1 (drop 1 hs)) = ap (λ (x : Cut). x.hi) c.in_ok-first.ensures.cut in
+    let lo : c.in_ok-second.second.lo ≡ pos_of ps = ap (λ (x : Cut). x.lo) c.in_ok-second.ensures.cut ∙ taken_from c.args.entry.text.now ps c.len.result [] in
+    rw (hi, lo) (before_component c.args.text.now read.0 read.1 c.args.component.now hs ps head (c.requires.found read.0 read.1))
+
+pub returns-clause-cuts : goal.returns-clause-cuts
+returns-clause-cuts g c = λ design reads.
+    let text = c.args.text.now in
+    let hs = pieces_of c.in-Some.header in
+    let ps = pieces_of c.args.entry in
+    let head = sym (c.header_of.ensures.gives design reads) ∙ ap (option_map pieces_of) c.in-Some.is in
+    let fewer = length (entries_in Components design) - 1 in
+    let number : c.deref.result.now ≡ decimal c.saturating_sub-count.result = search rules in
+    let less : c.saturating_sub-count.result ≡ c.entries_in.result - 1 = search rules in
+    let put : c.deref.result.now ≡ decimal fewer = number ∙ ap decimal (less ∙ ap (λ (n : ℕ). n - 1) (c.entries_in.ensures.gives design reads)) in
+    let one : cut_view c.in_ok-first.first ≡ cut_of text hs (count_change Components fewer) = c.in_ok-first.ensures.cut ∙ ap₂ (λ (t p : List ℕ). change_cut t hs 1 1 p) c.in-Some.ensures.text put in
+    let many : c.len.result ≡ length ps = c.len.ensures ∙ sym (pieces_counted c.args.entry) in
+    let two : cut_view c.in_ok-second.second ≡ cut_of text ps (take_change ps) = c.in_ok-second.ensures.cut ∙ ap₂ (λ (t : List ℕ) (n : ℕ). change_cut t ps 0 n []) c.requires.same many in
+    let same : cut_view c.in_ok-first.first ∷ cut_view c.in_ok-second.second ∷ [] ≡ cuts_for text (taking Components ps (located text design) design)
+    = ap₂ (λ (a b : Cut). a ∷ b ∷ []) one two ∙ ap (λ o. cuts_for text (two_changes o (count_change Components fewer) (Some ps) (take_change ps))) (sym head) in
+    subst (λ (cuts : List Cut). AreCuts {A = g.row.A.Denot} text cuts c.two_splices.result) same c.two_splices.ensures.cuts

@@ -1,0 +1,34 @@
+-- Statements that a test finds among those of a text.
+use Rattle.std.specs.Prelude.{ℕ, Bool, true, false, List, [], ◌∷◌, Option, Some, None, if◌then◌else◌}
+use Rattle.std.specs.List.{list_any}
+use Rattle.statement_model.specs.Tokens.{Token}
+use Rattle.def_grammar.specs.Records.{Entry, Record}
+use Rattle.def_grammar.specs.Terminals.{Terminal}
+use Rattle.def_grammar.specs.Located.{component_at, located}
+use Rattle.lef_grammar.specs.Library.{Library}
+use Rattle.edit_rules.specs.Plans.{Plan}
+use Rattle.edit_rules.specs.SectionEdits.{SectionChange, section_plan}
+use Rattle.edit_rules.specs.NetEdits.{terminals_of}
+
+-- the first of which a test holds, with its tokens
+abbrev pub first_where : (Record → Bool) → List (List Token × Record) → Option (List Token × Record)
+first_where test [] = None
+first_where test (x ∷ xs) = if test x.1 then Some x else first_where test xs
+
+-- a test of an entry, where a statement is one
+abbrev pub of_entry : (Entry → Bool) → Option Entry → Bool
+of_entry test None = false
+of_entry test (Some e) = test e
+
+-- an entry lists a terminal that passes a test
+abbrev pub lists_some : (Terminal → Bool) → Entry → Bool
+lists_some test e = list_any test (terminals_of e)
+
+-- how many of one thing pass a test
+abbrev pub count_of : Bool → ℕ
+count_of true = 1
+count_of false = 0
+
+-- the plan of an edit of a section, of a text with this design
+abbrev pub section_plan_of : Library → List ℕ → List Record → SectionChange → Plan
+section_plan_of library text design change = section_plan library (located text design) design (λ name. component_at name (located text design)) change
