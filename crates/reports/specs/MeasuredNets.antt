@@ -1,0 +1,41 @@
+-- What is kept of each net.
+use Rattle.std.specs.Prelude.{ℕ, List, [], ◌∷◌, map, Option}
+use Rattle.std.specs.Option.{option_map}
+use denote.Ref.{Bor}
+use Rattle.std.specs.declared.vec.Vec.{Vec}
+use Rattle.design_model.specs.Geometry.{Rectangle}
+use Rattle.design_model.specs.Views.{rectangle_of}
+use Rattle.form_meanings.specs.Firsts.{with_all}
+use Rattle.connection_rules.specs.NetParts.{Net}
+use Rattle.net_lists.specs.declared.parts.OwnedShape.{OwnedShape}
+use Rattle.measure_rules.specs.NetBoxes.{box_round, rectangles_of}
+use Rattle.reports.specs.declared.net_table.Measures.{Measures}
+
+-- a net: its name, its length, and the box round its shapes, if it has some
+pub record MeasuredNet : Type 0 where
+  pub name : List ℕ
+  pub net_length : ℕ
+  pub net_box : Option Rectangle
+
+abbrev pub name_of : MeasuredNet → List ℕ
+name_of n = n.name
+
+-- nets of these lengths
+abbrev pub measured : List Net → List ℕ → List MeasuredNet
+measured [] lengths = []
+measured (n ∷ ns) [] = []
+measured (n ∷ ns) (l ∷ ls) = record { name = n.name; net_length = l; net_box = box_round (rectangles_of n) } ∷ measured ns ls
+
+-- the first of each name
+abbrev pub firsts : List MeasuredNet → List MeasuredNet
+firsts ns = with_all name_of [] ns
+
+abbrev pub measures_view : List ℕ → Measures → MeasuredNet
+measures_view name m = record { name = name; net_length = m.length; net_box = option_map rectangle_of m.bounds }
+
+abbrev pub entry_view : {A : Type 0} → Vec ℕ A × Measures → MeasuredNet
+entry_view e = measures_view e.0.items e.1
+
+-- the rectangle of a shape
+abbrev pub shape_box : OwnedShape → Rectangle
+shape_box s = rectangle_of s.rect

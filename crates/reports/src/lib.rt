@@ -1,0 +1,20 @@
+//! What is measured of a design: the lengths of its nets, the boxes round them, and how dense the cells of its grid are.
+//!
+//! Begin with `Reports::open`, which makes it all once; then ask `net_length`, `net_box`, `total_length`, `cell` and `place_cell`.
+//! What they answer is defined in `measure_rules/specs`; `specs/Answers` says that of all of them together (`ReportsOn`). The nets come
+//! from `design_nets`, components that take part from `place_checks`, the lines of the grid from `design_grid`, and sums by cells from
+//! `cell_sums`.
+//!
+//! `Reports` owns what it holds and lends nothing: a name, a length and a box for each net, and the sums of cells that are in use.
+//! While it is made it holds the design's nets with all their shapes. Making it is all that takes memory, and its one error is
+//! `AllocError`.
+#![tactic(auto)]
+
+mod densities;
+mod layer_count;
+mod net_box;
+mod net_table;
+mod reports;
+mod total;
+
+pub use reports::Reports;

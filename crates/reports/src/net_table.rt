@@ -1,0 +1,89 @@
+//! Nets by their names.
+
+ghost use Rattle.std.specs.Prelude.{◌≡◌, [], IfOk, OnOk, length};
+ghost use Rattle.std.specs.Option.{option_map};
+ghost use Rattle.form_meanings.specs.Firsts.{find_named, with_first};
+ghost use Rattle.reports.specs.MeasuredNets.{firsts, measured, measures_view, name_of};
+
+use crate::net_box::box_round;
+use design_model::geometry::Rect;
+use indexmap::IndexMap;
+use net_lists::NetList;
+use std::alloc::{AllocError, Allocator, Global};
+use std::hash::{BuildHasherDefault, FoldHasher};
+use std::marker::Model;
+
+/// The length of a net, in database units, and the least rectangle round its shapes, if it has some.
+#[derive(Clone, Copy)]
+pub(crate) struct Measures {
+    pub(crate) length: u64,
+    pub(crate) bounds: Option<Rect>,
+}
+
+/// The measures of nets by their names, each name once.
+#[derive(Drop)]
+pub(crate) struct NetTable<A: Allocator = Global> {
+    nets: IndexMap<Vec<u8, A>, Measures, BuildHasherDefault<FoldHasher>, A>,
+}
+
+impl<A: Allocator> Model for NetTable<A> {
+    ghost use Rattle.std.specs.Prelude.{List, map};
+    ghost use Rattle.reports.specs.MeasuredNets.{MeasuredNet, entry_view};
+
+    ghost Value = { List MeasuredNet };
+
+    ghost view = { λ t. map entry_view t.nets.entries };
+}
+
+impl<A: Allocator + Copy> NetTable<A> {
+    /// No nets. It takes no memory.
+    fn new(alloc: A) -> NetTable<A>
+        ensures { result ≡ [] }
+    {
+        NetTable {
+            nets: IndexMap::with_hasher(alloc, BuildHasherDefault::new()),
+        }
+    }
+
+    /// Puts a net behind the others, unless its name is taken. The name is copied.
+    fn add(&mut self, alloc: A, name: &[u8], measures: Measures) -> Result<(), AllocError>
+        ensures { OnOk result (self.new ≡ with_first name_of self.old (measures_view name.now measures)) }
+    {
+        if self.nets.contains_key(name) {
+            return Ok(());
+        }
+        let name = Vec::from_slice(alloc, name)?;
+        self.nets.insert(name, measures)?;
+        Ok(())
+    }
+
+    /// The measures of the net of a name.
+    pub(crate) fn get(&self, name: &[u8]) -> Option<Measures>
+        ensures { option_map (measures_view name.now) result ≡ find_named name_of self.now name.now }
+    {
+        self.nets.get(name).copied()
+    }
+}
+
+/// Nets by their names, with these lengths.
+pub(crate) fn table_of<A: Allocator + Copy>(
+    alloc: A,
+    nets: &NetList<'_, A>,
+    lengths: &[u64],
+) -> Result<NetTable<A>, AllocError>
+    requires { length lengths.now ≡ length nets.now }
+    ensures { IfOk result (λ t. t ≡ firsts (measured nets.now lengths.now)) }
+{
+    let mut table = NetTable::new(alloc);
+    let mut left = nets.nets();
+    let mut lengths_left = lengths;
+    while let Some(net) = left.next() {
+        let measures = Measures {
+            length: lengths_left[0],
+            bounds: box_round(net.shapes),
+        };
+        table.add(alloc, net.name, measures)?;
+        lengths_left = &lengths_left[1..];
+    }
+    Ok(table)
+}

@@ -1,0 +1,124 @@
+//! What is measured of a design.
+
+ghost use Rattle.std.specs.Prelude.{◌≡◌, ◌<◌, ◌≤◌, ◌^◌, IfOk, flat_map};
+ghost use Rattle.std.specs.List.{All};
+ghost use Rattle.std.specs.Option.{option_map};
+ghost use Rattle.design_model.specs.Ranges.{IsWithin};
+ghost use Rattle.design_model.specs.Views.{rectangle_of};
+ghost use Rattle.design_rules.specs.Boxes.{scale};
+ghost use Rattle.measure_rules.specs.GridCells.{lines_along_x, lines_along_y};
+ghost use Rattle.measure_rules.specs.Lengths.{total_length};
+ghost use Rattle.reports.specs.Answers.{ReportsOn, box_in, cell_in, length_in, place_cell_in};
+
+use crate::densities::{cells_of, place_cells_of};
+use crate::layer_count::layer_count;
+use crate::net_table::{NetTable, table_of};
+use crate::total::total_of;
+use cell_library::library::Library;
+use cell_sums::CellSums;
+use design_model::geometry::Rect;
+use design_model::identifier::LayerId;
+use design_names::names::Names;
+use design_nets::{MeasuredNets, measured_nets};
+use design_wires::wires::DesignWires;
+use measure_laws::lengths::none_is_longer;
+use place_checks::boxes::boxes_of;
+use std::alloc::{AllocError, Allocator, Global};
+use std::marker::Model;
+
+/// The lengths of all nets and the boxes round them, and how dense the cells of the grid are, of one design.
+#[derive(Drop)]
+pub struct Reports<A: Allocator = Global> {
+    layers: usize,
+    nets: NetTable<A>,
+    total: u64,
+    cells: CellSums<A>,
+    place_cells: CellSums<A>,
+}
+
+impl<A: Allocator> Model for Reports<A> {
+    ghost use Rattle.reports.specs.Answers.{Answers};
+
+    ghost Value = { Answers };
+
+    ghost view = { λ r. record { layers = r.layers; nets = r.nets; total_length = r.total; cells = r.cells; place_cells = r.place_cells } };
+}
+
+impl<A: Allocator + Copy> Reports<A> {
+    /// Measures a design whose text reads, so that its scale, its lengths and the lines of its grid are in range.
+    pub fn open(
+        alloc: A,
+        library: &Library<'_, A>,
+        names: &Names<'_, '_, A>,
+    ) -> Result<Reports<A>, AllocError>
+        requires some { 0 < scale names.now }
+        requires few { scale names.now ≤ 100000 }
+        requires lengths { total_length library.now names.now (scale names.now) < 2 ^ 64 }
+        requires across { All (IsWithin 2147483647) (flat_map lines_along_x names.now) }
+        requires upward { All (IsWithin 2147483647) (flat_map lines_along_y names.now) }
+        ensures { IfOk result (ReportsOn library.entry.now names.entry.now) }
+    {
+        none_is_longer();
+        let layers = layer_count(alloc, library)?;
+        let wires = DesignWires::new(alloc, library, names)?;
+        let measured = measured_nets(alloc, library, names, &wires)?;
+        let boxes = boxes_of(alloc, library, names.records())?;
+        let nets = table_of(alloc, &measured.nets, &measured.lengths)?;
+        let cells = cells_of(alloc, names, measured.nets.shapes())?;
+        let place_cells = place_cells_of(alloc, names, &boxes)?;
+        let total = total_of(&measured.lengths);
+        Ok(Reports {
+            layers,
+            nets,
+            total,
+            cells,
+            place_cells,
+        })
+    }
+
+    /// The length of a net along the centres of its wires, in database units; `None` where there is no such net.
+    pub fn net_length(&self, name: &[u8]) -> Option<u64>
+        ensures { result ≡ length_in self.now name.now }
+    {
+        match self.nets.get(name) {
+            Some(net) => Some(net.length),
+            None => None,
+        }
+    }
+
+    /// The least rectangle round all shapes of a net, in database units, if it has some; `None` where there is no such net.
+    pub fn net_box(&self, name: &[u8]) -> Option<Option<Rect>>
+        ensures { option_map (option_map rectangle_of) result ≡ box_in self.now name.now }
+    {
+        match self.nets.get(name) {
+            Some(net) => Some(net.bounds),
+            None => None,
+        }
+    }
+
+    /// The lengths of all nets together, in database units.
+    pub fn total_length(&self) -> u64
+        ensures { result ≡ self.now.total_length }
+    {
+        self.total
+    }
+
+    /// The area that shapes of nets on a layer have in common with the cell in a column and a row of the grid, in squares of
+    /// database units, overlaps counted each time; `None` where there is no such cell or layer.
+    pub fn cell(&self, i: usize, j: usize, layer: LayerId) -> Option<u128>
+        ensures { result ≡ cell_in self.now i j layer.0 }
+    {
+        if layer.0 < self.layers {
+            self.cells.sum(layer.0, i, j)
+        } else {
+            None
+        }
+    }
+
+    /// The same of the boxes of components that take part.
+    pub fn place_cell(&self, i: usize, j: usize) -> Option<u128>
+        ensures { result ≡ place_cell_in self.now i j }
+    {
+        self.place_cells.sum(0, i, j)
+    }
+}
