@@ -1,5 +1,5 @@
 -- Edits of a design (own): the cuts that they make in a text, and what they make of its records.
-use Rattle.std.specs.Prelude.{ℕ, List, map, Some, Result, ℤ, if◌then◌else◌}
+use Rattle.std.specs.Prelude.{ℕ, List, map, Option, Some, None, Result, ℤ, if◌then◌else◌}
 use Rattle.std.specs.Str.{bytes_eq}
 use Rattle.edit_model.specs.declared.edit.Edit.{Edit}
 use Rattle.edit_model.specs.declared.edit.Edit.TheVariants as edits
@@ -12,9 +12,9 @@ use Rattle.def_grammar.specs.Located.{component_at, entry_at, is_entry, located}
 use Rattle.def_grammar.specs.Records.{Entry, component, Record, entry}
 use Rattle.lef_grammar.specs.Library.{Library}
 use Rattle.edit_rules.specs.ComponentEdits.{ComponentChange, place_at, remaster_as, unplace_it, edited_component, component_plan}
-use Rattle.edit_rules.specs.NetEdits.{NetChange, edited_net, net_plan, section_of_net}
+use Rattle.edit_rules.specs.NetEdits.{NetChange, connect_to, disconnect_from, route_by, unroute_all, edited_net, net_plan, section_of_net}
 use Rattle.edit_rules.specs.Plans.{Plan, outcome_of}
-use Rattle.edit_rules.specs.SectionEdits.{SectionChange, edited_sections, section_plan}
+use Rattle.edit_rules.specs.SectionEdits.{SectionChange, add_blockage, add_component, remove_component, edited_sections, section_plan}
 pub use Rattle.edit_rules.specs.Plans.{is_long}
 
 -- an edit, by the group that it is of, with its names as lists of bytes

@@ -84,6 +84,11 @@ four_words ws = None
 pub data Question : Type 0 where
   report : Question
   shown : Section → List ℕ → Question
+  total_length : Question
+  length_of : List ℕ → Question
+  box_of : List ℕ → Question
+  density_of : Result ℤ NumFault → Result ℤ NumFault → List ℕ → Question
+  place_density_of : Result ℤ NumFault → Result ℤ NumFault → Question
 
 -- what a line of a script asks: one with a wrong number is refused before the session is asked
 pub data Order : Type 0 where
@@ -149,6 +154,32 @@ show_order line = do
   section ← find section_word sections s
   Some (ask (shown section name))
 
+-- `length`, or `length n`
+abbrev pub total_order : List ℕ → Option Order
+total_order line = if no_words (line_words line) then Some (ask total_length) else None
+
+abbrev pub net_length_order : List ℕ → Option Order
+net_length_order line = one_word (line_words line) >>= λ n. Some (ask (length_of n))
+
+abbrev pub length_order : List ℕ → Option Order
+length_order line = or_later (total_order line) (net_length_order line)
+
+-- `box n`
+abbrev pub box_order : List ℕ → Option Order
+box_order line = one_word (line_words line) >>= λ n. Some (ask (box_of n))
+
+-- `cell i j l`
+abbrev pub cell_order : List ℕ → Option Order
+cell_order line = do
+  (i, j, layer) ← three_words (line_words line)
+  Some (ask (density_of (whole i) (whole j) layer))
+
+-- `pcell i j`
+abbrev pub place_cell_order : List ℕ → Option Order
+place_cell_order line = do
+  (i, j) ← two_words (line_words line)
+  Some (ask (place_density_of (whole i) (whole j)))
+
 -- an edit that a line asks for
 abbrev pub change_order : Change → Option Order
 change_order change = Some (make (design_edit change))
@@ -168,7 +199,9 @@ abbrev pub Command : Type 0
 Command = List ℕ × (List ℕ → Option Order)
 
 abbrev pub questions : List Command
-questions = (codes "check", check_order) ∷ (codes "show", show_order) ∷ []
+questions =
+    (codes "check", check_order) ∷ (codes "show", show_order) ∷ (codes "length", length_order) ∷ (codes "box", box_order) ∷ (codes "cell", cell_order)
+    ∷ (codes "pcell", place_cell_order) ∷ []
 
 abbrev pub component_edits : List Command
 component_edits = (codes "place", place_order) ∷ (codes "unplace", unplace_order) ∷ (codes "remaster", remaster_order) ∷ []

@@ -3,12 +3,12 @@
 ghost use Rattle.std.specs.Prelude.{◌≡◌, ◌+◌, ◌<◌, ◌≤◌, ◌^◌, ◌⊎◌, IfErr, IfOk, IsErrOf, IsOk, OnErr, length};
 ghost use Rattle.counted_devices.specs.Counting.{HasFailed};
 ghost use Rattle.report_rules.specs.Output.{LineAnswers, counted, reply_line};
-ghost use Rattle.edit_rules.specs.Script.{ask, order_of, script_lines, unescaped};
+ghost use Rattle.edit_rules.specs.Script.{order_of, script_lines, unescaped};
 ghost use Rattle.def_grammar.specs.Records.{read_def};
 ghost use Rattle.edit_script.specs.Answered.{AnswersText, Grows, HasRoom, RefusesText, counts_of};
-ghost use Rattle.script_lines.specs.Orders.{question_seen};
 ghost use Rattle.edit_script.specs.Ends.{AnswersPart, AnswersWhole, IsScript, RunsOver, RunsWhole, StopsBy, StopsOver, StopsUnread, TookAllTurns, WritesRun, WritesRunPart, hard_after_run};
 
+use crate::questions::answer_question;
 use cell_library::lef_texts::LefTexts;
 use cell_library::library::{Library, LibraryError};
 use counted_devices::counted::{CountedRead, CountedWrite, Failures};
@@ -18,8 +18,8 @@ use design_model::MAX_TEXT;
 use design_model::fault::{Fault, ReadError};
 use edit_model::edit::{Done, EditCode, EditRefusal};
 use edit_session::session::Session;
-use script_lines::answer::{bad_text, check_text, entry_text, reply_text};
-use script_lines::command::{Command, Question, parse};
+use script_lines::answer::{bad_text, reply_text};
+use script_lines::command::{Command, parse};
 use script_lines::escape::{EscapedBytes, unescaped};
 use script_lines::line::next_line;
 use std::alloc::{AllocError, Allocator};
@@ -99,7 +99,7 @@ fn put_text<A: Allocator + Copy>(
 }
 
 /// The answer to an edit, which is counted.
-fn counted_reply<A: Allocator>(
+pub(crate) fn counted_reply<A: Allocator>(
     alloc: A,
     number: u64,
     reply: Result<Done, EditRefusal>,
@@ -116,34 +116,6 @@ fn counted_reply<A: Allocator>(
         Err(_) => tally.refused += 1,
     }
     Ok(text)
-}
-
-/// The answer to a question, which is counted where it is refused.
-fn answer_question<A: Allocator + Copy>(
-    alloc: A,
-    session: &Session<'_, '_, A>,
-    number: u64,
-    question: Question<'_>,
-    tally: &mut Tally,
-) -> Result<Vec<u8, A>, AllocError>
-    requires room { HasRoom tally.old }
-    requires reads { IsOk (read_def session.now.text) }
-    ensures gives { IfOk result (λ v. LineAnswers session.now.library number (ask (question_seen question.entry)) session.now.text (counts_of tally.old) v.items session.now.text (counts_of tally.new)) }
-    ensures grows { Grows tally.old tally.new }
-{
-    match question {
-        Question::Report => {
-            let lines = session.diagnostics()?;
-            check_text(alloc, &lines)
-        }
-        Question::Show(section, name) => match session.statement(section, name) {
-            Some(entry) => entry_text(alloc, entry.bytes),
-            None => {
-                let reply = Err(EditRefusal::Refused(EditCode::UnknownName));
-                counted_reply(alloc, number, reply, tally)
-            }
-        },
-    }
 }
 
 /// Answers a line, and counts it.

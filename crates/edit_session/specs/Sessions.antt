@@ -16,6 +16,7 @@ use Rattle.statement_model.specs.Tokens.{Token, Lexed, left_from}
 use Rattle.def_grammar.specs.Records.{Entry, Record, def, entry, read_def}
 use Rattle.lef_grammar.specs.Library.{Library}
 use Rattle.report_rules.specs.Diagnostics.{diagnostics}
+use Rattle.reports.specs.Answers.{Answers, ReportsOn}
 use Rattle.edit_rules.specs.Edits.{Change, applied, is_long}
 use Rattle.def_grammar.specs.Located.{located, bytes_of, entry_at}
 use Rattle.edit_rules.specs.Runs.{Makes, WantsMemory, new_text, text_outcome}
@@ -81,3 +82,11 @@ Views text s name found =
     × (read_def text ≡ Ok design)
     × MatchOption found (entry_at s name (located text design) ≡ None)
     (λ v. (ps : List Token) × (entry_at s name (located text design) ≡ Some (ps, entry (entry_view v.parts))) × (v.bytes.now ≡ bytes_of text ps) × (v.pos ≡ pos_of ps))
+
+-- what is measured of what a text reads as
+abbrev pub Measures : {B : Type 0} → List ℕ → (List Record → B) → B → Type 0
+Measures text of value = (design : List Record) × (read_def text ≡ Ok design) × (value ≡ of design)
+
+-- answers are those on what a text reads as
+abbrev pub AnswersOn : Library → List ℕ → Answers → Type 0
+AnswersOn library text answers = (design : List Record) → read_def text ≡ Ok design → ReportsOn library design answers

@@ -1,15 +1,18 @@
 //! An editor session over a chip design kept as its LEF and DEF text.
 //!
 //! Begin with `session::Session::open`, on a library that was read and a DEF text; then `edit`, `text_edit`, `statement`,
-//! `diagnostics` and `write_to`. What the calls say is `specs/Sessions`, over `Runs` and `Diagnostics` of
-//! `design_rules`: every answer is that of reading the present text afresh, and each text of a session reads.
+//! `diagnostics`, `net_length`, `net_box`, `total_length`, `cell`, `place_cell` and `write_to`. What the calls say is
+//! `specs/Sessions`, over `Runs` of `edit_rules`, `Diagnostics` of `report_rules` and the definitions of `measure_rules`: every
+//! answer is that of reading the present text afresh, and each text of a session reads.
 //!
-//! A session borrows its library and keeps a copy of the text, of which it lends entries (`view::View`). `open` answers `ReadError` (the text's
-//! fault, or refused memory), an edit `EditRefusal`, and then the text is as it was, `diagnostics` answers
+//! A session borrows its library and keeps a copy of the text, of which it lends entries (`view::View`), and from the first
+//! question on measures up to the next edit what `reports` made. `open` answers `ReadError` (the text's
+//! fault, or refused memory), an edit `EditRefusal`, and then the text is as it was, `diagnostics` and questions on measures answer
 //! `AllocError`, and `write_to` `WriteFault`, where a first part of the text was written. Offsets of a text edit are
 //! bytes from 0, with the end after the last byte.
 #![tactic(auto)]
 
+mod measures;
 pub mod report;
 pub mod session;
 pub mod view;

@@ -8,8 +8,16 @@ ghost use Rattle.def_grammar.specs.Records.{read_def};
 ghost use Rattle.edit_rules.specs.Edits.{change_of};
 ghost use Rattle.edit_rules.specs.Runs.{Answers, design_edit, text_edit};
 ghost use Rattle.report_lines.specs.Kinds.{HaveTheirKinds};
-ghost use Rattle.edit_session.specs.Sessions.{EditsText, HasParts, KeepsTheRest, OpensAs, ReadsEdited, ReplacesText, Reports, Views};
+ghost use Rattle.std.specs.Option.{option_map};
+ghost use Rattle.design_model.specs.Views.{rectangle_of};
+ghost use Rattle.design_rules.specs.Boxes.{scale};
+ghost use Rattle.lef_grammar.specs.Measures.{place_among};
+ghost use Rattle.measure_rules.specs.Density.{cell_density, place_density};
+ghost use Rattle.measure_rules.specs.Lengths.{net_length, total_length};
+ghost use Rattle.measure_rules.specs.NetBoxes.{net_box};
+ghost use Rattle.edit_session.specs.Sessions.{AnswersOn, EditsText, HasParts, KeepsTheRest, Measures, OpensAs, ReadsEdited, ReplacesText, Reports, Views};
 
+use crate::measures::reports_of;
 use crate::report::report;
 use crate::view::{View, view_of};
 use cell_library::library::Library;
@@ -21,9 +29,12 @@ use def_splice::splices::splices;
 use design_model::MAX_TEXT;
 use design_model::diagnostic::DiagLines;
 use design_model::fault::ReadError;
+use design_model::geometry::Rect;
+use design_model::identifier::LayerId;
 use design_model::mode::Section;
 use edit_laws::editing::{edits_are_applied, edits_keep_the_rest};
 use edit_model::edit::{Done, Edit, EditCode, EditRefusal};
+use reports::Reports;
 use std::alloc::{AllocError, Allocator, Global};
 use std::io::Write;
 use std::marker::Model;
@@ -33,19 +44,22 @@ use std::marker::Model;
 pub struct Session<'s, 'l, A: Allocator = Global> {
     library: &'s Library<'l, A>,
     text: Vec<u8, A>,
+    /// What was measured of the present text, if that was asked since it was last edited.
+    reports: Option<Reports<A>>,
 }
 
 impl<'s, 'l, A: Allocator> Model for Session<'s, 'l, A> {
-    ghost use Rattle.std.specs.Prelude.{◌≤◌, length, IsOk};
+    ghost use Rattle.std.specs.Prelude.{◌≤◌, length, IfSome, IsOk};
     ghost use Rattle.design_model.specs.declared.TheConstants.{MAX_TEXT};
     ghost use Rattle.def_grammar.specs.Records.{read_def};
     ghost use Rattle.edit_session.specs.Contents.{Content};
+    ghost use Rattle.edit_session.specs.Sessions.{AnswersOn};
 
     ghost Value = { Content };
 
     ghost view = { λ s. record { library = s.library.now; text = s.text.items } };
 
-    ghost invariant = { λ s. (length s.text.items ≤ MAX_TEXT) × IsOk (read_def s.text.items) };
+    ghost invariant = { λ s. (length s.text.items ≤ MAX_TEXT) × IsOk (read_def s.text.items) × IfSome s.reports (AnswersOn s.library.now s.text.items) };
 }
 
 impl<'s, 'l, A: Allocator + Copy> Session<'s, 'l, A> {
@@ -61,7 +75,11 @@ impl<'s, 'l, A: Allocator + Copy> Session<'s, 'l, A> {
     {
         read_def(alloc, text)?;
         let text = Vec::from_slice(alloc, text)?;
-        Ok(Session { library, text })
+        Ok(Session {
+            library,
+            text,
+            reports: None,
+        })
     }
 
     /// Opens a session on a text, which it takes. One that doesn't read is let go.
@@ -74,7 +92,11 @@ impl<'s, 'l, A: Allocator + Copy> Session<'s, 'l, A> {
         ensures library { IfOk result (λ s. s.library ≡ library.now) }
     {
         read_def(*text.allocator(), &text)?;
-        Ok(Session { library, text })
+        Ok(Session {
+            library,
+            text,
+            reports: None,
+        })
     }
 
     /// The present text.
@@ -93,6 +115,7 @@ impl<'s, 'l, A: Allocator + Copy> Session<'s, 'l, A> {
         ensures reads { IsOk (read_def self.new.text) }
     {
         edit_text(self.library, &mut self.text, edit)?;
+        self.reports = None;
         Ok(Done { reads: 0, tests: 0 })
     }
 
@@ -104,6 +127,7 @@ impl<'s, 'l, A: Allocator + Copy> Session<'s, 'l, A> {
     {
         let new = replaced_text(*self.text.allocator(), &self.text, a, b, new)?;
         self.text = new;
+        self.reports = None;
         Ok(Done { reads: 0, tests: 0 })
     }
 
@@ -122,6 +146,86 @@ impl<'s, 'l, A: Allocator + Copy> Session<'s, 'l, A> {
         ensures kinds { IfOk result (λ lines. HaveTheirKinds lines) }
     {
         report(*self.text.allocator(), self.library, &self.text)
+    }
+
+    /// What is measured of the present text, which no field has then.
+    fn take_reports(&mut self) -> Result<Reports<A>, AllocError>
+        ensures reports { IfOk result (AnswersOn self.old.library self.old.text) }
+        ensures same { self.new ≡ self.old }
+    {
+        match self.reports.take() {
+            Some(reports) => Ok(reports),
+            None => reports_of(*self.text.allocator(), self.library, &self.text),
+        }
+    }
+
+    /// The length of the wires of a net, in database units; `None` where there is no such net. Measures are made at the first
+    /// question after an edit, and kept up to the next.
+    pub fn net_length(&mut self, net: &[u8]) -> Result<Option<u64>, AllocError>
+        ensures length { IfOk result (Measures self.old.text (λ design. net_length self.old.library design (scale design) net.now)) }
+        ensures same { self.new ≡ self.old }
+    {
+        let reports = self.take_reports()?;
+        let length = reports.net_length(net);
+        self.reports = Some(reports);
+        Ok(length)
+    }
+
+    /// The least rectangle round all shapes of a net, in database units, if it has some; `None` where there is no such net.
+    pub fn net_box(&mut self, net: &[u8]) -> Result<Option<Option<Rect>>, AllocError>
+        ensures bounds { IfOk result (λ b. Measures self.old.text (λ design. net_box self.old.library design (scale design) net.now) (option_map (option_map rectangle_of) b)) }
+        ensures same { self.new ≡ self.old }
+    {
+        let reports = self.take_reports()?;
+        let bounds = reports.net_box(net);
+        self.reports = Some(reports);
+        Ok(bounds)
+    }
+
+    /// The lengths of all nets together, in database units.
+    pub fn total_length(&mut self) -> Result<u64, AllocError>
+        ensures total { IfOk result (Measures self.old.text (λ design. total_length self.old.library design (scale design))) }
+        ensures same { self.new ≡ self.old }
+    {
+        let reports = self.take_reports()?;
+        let total = reports.total_length();
+        self.reports = Some(reports);
+        Ok(total)
+    }
+
+    /// The area that shapes of nets on a layer have in common with the cell in a column and a row of the grid, in squares of
+    /// database units, overlaps counted each time; `None` where there is no such cell or layer.
+    pub fn cell(
+        &mut self,
+        column: usize,
+        row: usize,
+        layer: LayerId,
+    ) -> Result<Option<u128>, AllocError>
+        ensures density { IfOk result (Measures self.old.text (λ design. cell_density self.old.library design column row layer.0)) }
+        ensures same { self.new ≡ self.old }
+    {
+        let reports = self.take_reports()?;
+        let density = reports.cell(column, row, layer);
+        self.reports = Some(reports);
+        Ok(density)
+    }
+
+    /// The same of the boxes of components that take part.
+    pub fn place_cell(&mut self, column: usize, row: usize) -> Result<Option<u128>, AllocError>
+        ensures density { IfOk result (Measures self.old.text (λ design. place_density self.old.library design column row)) }
+        ensures same { self.new ≡ self.old }
+    {
+        let reports = self.take_reports()?;
+        let density = reports.place_cell(column, row);
+        self.reports = Some(reports);
+        Ok(density)
+    }
+
+    /// The place of a layer of this name among the library's.
+    pub fn layer(&self, name: &[u8]) -> Option<LayerId>
+        ensures { option_map (λ l. l.0) result ≡ place_among self.now.library.layers name.now }
+    {
+        self.library.layer(name)
     }
 
     /// How many bytes the present text has.

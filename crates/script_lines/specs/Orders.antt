@@ -4,7 +4,7 @@ use Rattle.design_model.specs.Units.{whole}
 use Rattle.form_meanings.specs.Words.{◌>>=◌}
 use Rattle.edit_rules.specs.Edits.{change_of}
 use Rattle.edit_rules.specs.Runs.{design_edit, text_edit}
-use Rattle.edit_rules.specs.Script.{Question, report, shown, Order, nothing, make, refuse, ask, bad, range_order, unescaped}
+use Rattle.edit_rules.specs.Script.{Question, report, shown, total_length, length_of, box_of, density_of, place_density_of, Order, nothing, make, refuse, ask, bad, range_order, unescaped}
 use Rattle.script_lines.specs.declared.command.Command as command
 use Rattle.script_lines.specs.declared.command.Question as code_question
 use Rattle.script_lines.specs.declared.command.Command.{Command}
@@ -12,6 +12,11 @@ use Rattle.script_lines.specs.declared.command.Command.{Command}
 abbrev pub question_seen : code_question.Question → Question
 question_seen code_question.TheVariants.Report = report
 question_seen (code_question.TheVariants.Show section name) = shown section name.now
+question_seen code_question.TheVariants.TotalLength = total_length
+question_seen (code_question.TheVariants.Length name) = length_of name.now
+question_seen (code_question.TheVariants.Box name) = box_of name.now
+question_seen (code_question.TheVariants.Cell column row layer) = density_of column row layer.now
+question_seen (code_question.TheVariants.PlaceCell column row) = place_density_of column row
 
 abbrev pub text_seen : ℕ → ℕ → Option (List ℕ) → Order
 text_seen a b None = bad

@@ -11,7 +11,10 @@ use std::alloc::{AllocError, Allocator};
 use unit_numbers::print;
 
 /// Puts a number after some bytes.
-fn push_number<A: Allocator>(text: &mut Vec<u8, A>, number: u64) -> Result<(), AllocError>
+pub(crate) fn push_number<A: Allocator>(
+    text: &mut Vec<u8, A>,
+    number: u64,
+) -> Result<(), AllocError>
     ensures { OnOk result (text.new.items ≡ text.old.items ++ decimal number) }
 {
     let mut buffer = Buffer::new();

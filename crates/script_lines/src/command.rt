@@ -8,7 +8,9 @@ ghost use Rattle.script_lines.specs.Orders.{order_seen, text_or_none};
 use crate::component_edits::{place, remaster, unplace};
 use crate::escape::{EscapedBytes, checked};
 use crate::line::{next_word, no_words, two_words};
+use crate::measures::{cell, length, net_box, place_cell};
 use design_model::mode::Section;
+use design_model::number::NumFault;
 use design_model::word::is_word;
 use edit_model::edit::{Edit, EditCode};
 use unit_numbers::whole;
@@ -20,6 +22,23 @@ pub enum Question<'a> {
     Report,
     /// The entry of a section with this name.
     Show(Section, &'a [u8]),
+    /// The lengths of all nets together.
+    TotalLength,
+    /// The length of a net.
+    Length(&'a [u8]),
+    /// The box round a net.
+    Box(&'a [u8]),
+    /// How dense a cell is on a layer.
+    Cell {
+        column: Result<i32, NumFault>,
+        row: Result<i32, NumFault>,
+        layer: &'a [u8],
+    },
+    /// How dense a cell is with components.
+    PlaceCell {
+        column: Result<i32, NumFault>,
+        row: Result<i32, NumFault>,
+    },
 }
 
 /// What a line of a script asks.
@@ -106,6 +125,14 @@ fn question_named<'a>(name: &[u8], line: &'a [u8]) -> Option<Command<'a>>
         check(line)
     } else if is_word(name, b"show") {
         show(line)
+    } else if is_word(name, b"length") {
+        length(line)
+    } else if is_word(name, b"box") {
+        net_box(line)
+    } else if is_word(name, b"cell") {
+        cell(line)
+    } else if is_word(name, b"pcell") {
+        place_cell(line)
     } else {
         None
     }

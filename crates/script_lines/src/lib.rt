@@ -14,4 +14,6 @@ pub mod command;
 mod component_edits;
 pub mod escape;
 pub mod line;
+pub mod measured;
+mod measures;
 mod numbers;

@@ -1,0 +1,31 @@
+//! What is measured of a text.
+
+ghost use Rattle.std.specs.Prelude.{IfOk, IsOk};
+ghost use Rattle.def_grammar.specs.Records.{read_def};
+ghost use Rattle.edit_session.specs.Sessions.{AnswersOn};
+
+use cell_library::library::Library;
+use def_reader::records::statements_of;
+use design_names::names::names_of;
+use line_laws::scales::scales_are_good;
+use measure_laws::lengths::lengths_fit;
+use measure_laws::ranges::lines_fit;
+use reports::Reports;
+use std::alloc::{AllocError, Allocator};
+
+/// The lengths and boxes of all nets of a text that reads, and its cells. The text is read once.
+pub(crate) fn reports_of<A: Allocator + Copy>(
+    alloc: A,
+    library: &Library<'_, A>,
+    text: &[u8],
+) -> Result<Reports<A>, AllocError>
+    requires { IsOk (read_def text.now) }
+    ensures { IfOk result (AnswersOn library.now text.now) }
+{
+    scales_are_good();
+    lengths_fit();
+    lines_fit();
+    let records = statements_of(alloc, text)?;
+    let names = names_of(alloc, &records)?;
+    Reports::open(alloc, library, &names)
+}
