@@ -28,6 +28,27 @@ pub enum Edit<'a> {
         component: &'a [u8],
         cell: &'a [u8],
     },
+    /// Connects a component's pin, or for the owner `PIN` a pin of the design, to a net.
+    Connect {
+        net: &'a [u8],
+        owner: &'a [u8],
+        pin: &'a [u8],
+    },
+    /// Takes a terminal that a net lists by name from it.
+    Disconnect {
+        net: &'a [u8],
+        owner: &'a [u8],
+        pin: &'a [u8],
+    },
+    /// Puts wiring clauses, as DEF text, in the place of a net's.
+    Route {
+        net: &'a [u8],
+        wiring: &'a [u8],
+    },
+    /// Takes a net's wiring clauses out.
+    Unroute {
+        net: &'a [u8],
+    },
     /// Puts a component of a macro last in its section.
     Add {
         component: &'a [u8],

@@ -26,11 +26,20 @@ pub data Change : Type 0 where
 pattern abbrev pub place : List ℕ → ℤ → ℤ → Orient → Change
 place name x y o = of_component name (place_at x y o)
 
+-- bytes that are borrowed, where they are given
+abbrev pub lent : {A : Type 0} → (A → List ℕ) → Option A → Option (List ℕ)
+lent now None = None
+lent now (Some a) = Some (now a)
+
 -- the edit that a borrowed one is
 abbrev pub change_of : Edit → Change
 change_of (edits.Place name x y o) = of_component name.now (place_at x y o)
 change_of (edits.Unplace name) = of_component name.now unplace_it
 change_of (edits.Remaster name cell) = of_component name.now (remaster_as cell.now)
+change_of (edits.Connect net owner pin) = of_net net.now (connect_to owner.now pin.now)
+change_of (edits.Disconnect net owner pin) = of_net net.now (disconnect_from owner.now pin.now)
+change_of (edits.Route net wiring) = of_net net.now (route_by wiring.now)
+change_of (edits.Unroute net) = of_net net.now unroute_all
 change_of (edits.Add name cell) = of_section (add_component name.now cell.now)
 change_of (edits.Remove name) = of_section (remove_component name.now)
 change_of (edits.Block layer x1 y1 x2 y2) = of_section (add_blockage (lent (λ l. l.now) layer) x1 y1 x2 y2)

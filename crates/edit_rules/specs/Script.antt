@@ -11,7 +11,9 @@ use Rattle.form_meanings.specs.Words.{◌>>=◌, first}
 use Rattle.form_meanings.specs.Meaning.{find}
 use Rattle.def_grammar.specs.Located.{or_later}
 use Rattle.edit_rules.specs.ComponentEdits.{remaster_as, unplace_it}
-use Rattle.edit_rules.specs.Edits.{Change, of_component, place}
+use Rattle.edit_rules.specs.Edits.{Change, of_component, of_net, of_section, place}
+use Rattle.edit_rules.specs.NetEdits.{connect_to, disconnect_from, route_by, unroute_all}
+use Rattle.edit_rules.specs.SectionEdits.{add_blockage, add_component, remove_component}
 use Rattle.edit_rules.specs.Runs.{Step, design_edit, text_edit}
 
 -- a line without the carriage return before its line feed
@@ -79,6 +81,10 @@ three_words ws = None
 abbrev pub four_words : List (List ℕ) → Option (List ℕ × List ℕ × List ℕ × List ℕ)
 four_words (a ∷ b ∷ c ∷ d ∷ []) = Some (a, b, c, d)
 four_words ws = None
+
+abbrev pub five_words : List (List ℕ) → Option (List ℕ × List ℕ × List ℕ × List ℕ × List ℕ)
+five_words (a ∷ b ∷ c ∷ d ∷ e ∷ []) = Some (a, b, c, d, e)
+five_words ws = None
 
 -- what a line asks of a design
 pub data Question : Type 0 where
@@ -194,7 +200,60 @@ remaster_order line = do
   (c, m) ← two_words (line_words line)
   change_order (of_component c (remaster_as m))
 
--- the commands by their names: what is asked of a design, edits of a component, and of the text
+-- `add c m`
+abbrev pub add_order : List ℕ → Option Order
+add_order line = do
+  (c, m) ← two_words (line_words line)
+  change_order (of_section (add_component c m))
+
+-- `remove c`
+abbrev pub remove_order : List ℕ → Option Order
+remove_order line = one_word (line_words line) >>= λ c. change_order (of_section (remove_component c))
+
+-- `connect n c p`
+abbrev pub connect_order : List ℕ → Option Order
+connect_order line = do
+  (n, c, p) ← three_words (line_words line)
+  change_order (of_net n (connect_to c p))
+
+-- `disconnect n c p`
+abbrev pub disconnect_order : List ℕ → Option Order
+disconnect_order line = do
+  (n, c, p) ← three_words (line_words line)
+  change_order (of_net n (disconnect_from c p))
+
+-- `route n WIRING`, where WIRING is all that stands from its first byte on
+abbrev pub route_to : List ℕ → List ℕ → Option Order
+route_to n [] = None
+route_to n wiring = change_order (of_net n (route_by wiring))
+
+abbrev pub route_order : List ℕ → Option Order
+route_order line = do
+  (n, later) ← first_word line
+  route_to n (past is_blank later)
+
+-- `unroute n`
+abbrev pub unroute_order : List ℕ → Option Order
+unroute_order line = one_word (line_words line) >>= λ n. change_order (of_net n unroute_all)
+
+-- `block x1 y1 x2 y2`, or `block l x1 y1 x2 y2`
+abbrev pub coordinate : List ℕ → ℤ
+coordinate w = number_or_out (whole w)
+
+abbrev pub placement_order : List ℕ → Option Order
+placement_order line = do
+  (x1, y1, x2, y2) ← four_words (line_words line)
+  change_order (of_section (add_blockage None (coordinate x1) (coordinate y1) (coordinate x2) (coordinate y2)))
+
+abbrev pub layer_order : List ℕ → Option Order
+layer_order line = do
+  (layer, x1, y1, x2, y2) ← five_words (line_words line)
+  change_order (of_section (add_blockage (Some layer) (coordinate x1) (coordinate y1) (coordinate x2) (coordinate y2)))
+
+abbrev pub block_order : List ℕ → Option Order
+block_order line = or_later (placement_order line) (layer_order line)
+
+-- the commands by their names: what is asked of a design, edits of a component, of a net, and of a section, and of the text
 abbrev pub Command : Type 0
 Command = List ℕ × (List ℕ → Option Order)
 
@@ -206,15 +265,18 @@ questions =
 abbrev pub component_edits : List Command
 component_edits = (codes "place", place_order) ∷ (codes "unplace", unplace_order) ∷ (codes "remaster", remaster_order) ∷ []
 
-abbrev pub text_edits : List Command
-text_edits = (codes "text", text_order) ∷ []
+abbrev pub net_edits : List Command
+net_edits = (codes "connect", connect_order) ∷ (codes "disconnect", disconnect_order) ∷ (codes "route", route_order) ∷ (codes "unroute", unroute_order) ∷ []
+
+abbrev pub section_edits : List Command
+section_edits = (codes "add", add_order) ∷ (codes "remove", remove_order) ∷ (codes "block", block_order) ∷ (codes "text", text_order) ∷ []
 
 abbrev pub order_in : List Command → List ℕ → List ℕ → Option Order
 order_in commands name line = find (λ c. c.0) commands name >>= λ c. c.1 line
 
 -- a name, and what stands behind it
 abbrev pub named_order : List ℕ → List ℕ → Option Order
-named_order name line = or_later (order_in questions name line) (or_later (order_in component_edits name line) (order_in text_edits name line))
+named_order name line = or_later (order_in questions name line) (or_later (order_in component_edits name line) (or_later (order_in net_edits name line) (order_in section_edits name line)))
 
 abbrev pub words_order : Option (List ℕ × List ℕ) → Order
 words_order None = nothing

@@ -2,13 +2,15 @@
 
 ghost use Rattle.std.specs.Prelude.{◌≡◌, Some, drop};
 ghost use Rattle.form_meanings.specs.Words.{Gives};
-ghost use Rattle.edit_rules.specs.Script.{check_order, component_edits, first_word, named_order, number_or_out, order_in, order_of, questions, show_order, text_edits, text_order, unescaped, words_order};
+ghost use Rattle.edit_rules.specs.Script.{check_order, component_edits, first_word, named_order, net_edits, number_or_out, order_in, order_of, questions, section_edits, show_order, text_order, unescaped, words_order};
 ghost use Rattle.script_lines.specs.Orders.{order_seen, text_or_none};
 
 use crate::component_edits::{place, remaster, unplace};
 use crate::escape::{EscapedBytes, checked};
 use crate::line::{next_word, no_words, two_words};
 use crate::measures::{cell, length, net_box, place_cell};
+use crate::net_edits::{connect, disconnect, route, unroute};
+use crate::section_edits::{add, block, remove};
 use design_model::mode::Section;
 use design_model::number::NumFault;
 use design_model::word::is_word;
@@ -153,11 +155,34 @@ fn component_edit<'a>(name: &[u8], line: &'a [u8]) -> Option<Command<'a>>
     }
 }
 
-/// An edit of the text.
-fn text_edit<'a>(name: &[u8], line: &'a [u8]) -> Option<Command<'a>>
-    ensures { Gives order_seen result (order_in text_edits name.now line.now) }
+/// An edit of a net.
+fn net_edit<'a>(name: &[u8], line: &'a [u8]) -> Option<Command<'a>>
+    ensures { Gives order_seen result (order_in net_edits name.now line.now) }
 {
-    if is_word(name, b"text") {
+    if is_word(name, b"connect") {
+        connect(line)
+    } else if is_word(name, b"disconnect") {
+        disconnect(line)
+    } else if is_word(name, b"route") {
+        route(line)
+    } else if is_word(name, b"unroute") {
+        unroute(line)
+    } else {
+        None
+    }
+}
+
+/// An edit of a section, or of the text.
+fn section_edit<'a>(name: &[u8], line: &'a [u8]) -> Option<Command<'a>>
+    ensures { Gives order_seen result (order_in section_edits name.now line.now) }
+{
+    if is_word(name, b"add") {
+        add(line)
+    } else if is_word(name, b"remove") {
+        remove(line)
+    } else if is_word(name, b"block") {
+        block(line)
+    } else if is_word(name, b"text") {
         text(line)
     } else {
         None
@@ -174,7 +199,10 @@ fn named<'a>(name: &[u8], line: &'a [u8]) -> Option<Command<'a>>
     if let Some(command) = component_edit(name, line) {
         return Some(command);
     }
-    text_edit(name, line)
+    if let Some(command) = net_edit(name, line) {
+        return Some(command);
+    }
+    section_edit(name, line)
 }
 
 /// What the words of a line ask.

@@ -16,4 +16,6 @@ pub mod escape;
 pub mod line;
 pub mod measured;
 mod measures;
+mod net_edits;
 mod numbers;
+mod section_edits;

@@ -3,7 +3,7 @@
 ghost use Rattle.std.specs.Prelude.{◌≡◌, ◌≤◌, ◌==◌, length, not};
 ghost use Rattle.std.specs.List.{prefix_len};
 ghost use Rattle.form_meanings.specs.Words.{Gives};
-ghost use Rattle.edit_rules.specs.Script.{four_words, is_blank, line_words, no_words, one_word, past, three_words, trimmed, two_words};
+ghost use Rattle.edit_rules.specs.Script.{five_words, four_words, is_blank, line_words, no_words, one_word, past, three_words, trimmed, two_words};
 ghost use Rattle.script_lines.specs.Parts.{IsNextLine, IsNextWord};
 
 use bstr::ByteSlice;
@@ -57,7 +57,7 @@ fn line_len(text: &[u8]) -> usize
 }
 
 /// A line without the blanks that it begins with.
-fn without_blanks(line: &[u8]) -> &[u8]
+pub fn without_blanks(line: &[u8]) -> &[u8]
     ensures { result.now ≡ past is_blank line.now }
 {
     &line[blanks(line)..]
@@ -128,6 +128,21 @@ pub fn four_words(line: &[u8]) -> Option<(&[u8], &[u8], &[u8], &[u8])>
     let (fourth, line) = next_word(line)?;
     match next_word(line) {
         None => Some((first, second, third, fourth)),
+        Some(_) => None,
+    }
+}
+
+/// The words of a line that has five.
+pub fn five_words(line: &[u8]) -> Option<(&[u8], &[u8], &[u8], &[u8], &[u8])>
+    ensures { Gives (λ w. (w.0.now, w.1.now, w.2.now, w.3.now, w.4.now)) result (five_words (line_words line.now)) }
+{
+    let (first, line) = next_word(line)?;
+    let (second, line) = next_word(line)?;
+    let (third, line) = next_word(line)?;
+    let (fourth, line) = next_word(line)?;
+    let (fifth, line) = next_word(line)?;
+    match next_word(line) {
+        None => Some((first, second, third, fourth, fifth)),
         Some(_) => None,
     }
 }
