@@ -1,6 +1,6 @@
 //! The library that LEF texts define.
 
-ghost use Rattle.std.specs.Prelude.{◌≡◌, IfErr, OnOk, slice_get};
+ghost use Rattle.std.specs.Prelude.{◌≡◌, IfErr, OnOk, length, slice_get};
 ghost use Rattle.std.specs.Option.{option_map};
 ghost use Rattle.lef_grammar.specs.Library.{layer_named, macro_named, rule_named, site_named, via_named, with_text};
 ghost use Rattle.lef_grammar.specs.Measures.{place_among};
@@ -94,6 +94,13 @@ impl<'l, A: Allocator + Copy> Library<'l, A> {
     {
         let place = self.layers.place_of(name)?;
         Some(LayerId(place))
+    }
+
+    /// How many layers there are.
+    pub fn layer_count(&self) -> usize
+        ensures { result ≡ length self.now.layers }
+    {
+        self.layers.len()
     }
 
     /// The name of a layer by its place.

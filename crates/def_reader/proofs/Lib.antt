@@ -1,5 +1,5 @@
 mod CheckSteps
 mod KeySteps
-pub mod PlaceSteps
-pub mod RecordSteps
-pub mod SectionSteps
+mod PlaceSteps
+mod RecordSteps
+mod SectionSteps

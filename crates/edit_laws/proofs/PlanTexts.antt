@@ -1,18 +1,19 @@
 -- A text with the cuts of an accepted plan made reads as the new design.
 use Rattle.std.proofs.Common.{◌≡◌, ℕ, Bool, true, false, List, [], ◌∷◌, ◌++◌, length, Option, Some, None, Result, Ok, arith, refl, subst, ⊎_elim}
 use Rattle.std.proofs.lemmas.Bool.{cases_Bool as cases}
+use Rattle.std.specs.List.{All}
 use Rattle.edit_model.specs.declared.edit.EditCode.{EditCode}
 use Rattle.edit_model.specs.declared.edit.EditCode.TheVariants.{TooLong}
 use Rattle.design_model.specs.declared.fault.Fault.{Fault}
 use Rattle.design_model.specs.declared.mode.Mode.TheVariants.{Top}
-use Rattle.statement_model.specs.Tokens.{tokens}
+use Rattle.statement_model.specs.Tokens.{Token, tokens}
 use Rattle.statement_model.specs.Cuts.{Cut, with_cuts}
 use Rattle.statement_model.specs.Reading.{read_from, read_text}
 use Rattle.def_grammar.specs.Records.{Record, def, read_def}
-use Rattle.edit_rules.specs.Plans.{Plan, cuts_for, lowest, unless, is_long, outcome_of}
-use Rattle.splicing_laws.specs.KeepingLaws.{AreInOrder}
-use Rattle.edit_laws.specs.PlanLaws.{PlansAreApplied, PlansStandInOrder}
-use Rattle.edit_laws.specs.StatementLaws.{StatementsAreChanged, ChangesStandInOrder}
+use Rattle.def_grammar.specs.Located.{located}
+use Rattle.edit_rules.specs.Plans.{Plan, StatementChange, cuts_for, lowest, unless, is_long, outcome_of}
+use Rattle.edit_laws.specs.PlanLaws.{LiesWithin, PlansAreApplied, PlansStandInOrder}
+use Rattle.edit_laws.specs.StatementLaws.{Make, StatementsAreChanged, ChangesStandInOrder}
 
 -- a text that isn't long reads as its tokens do
 short_reads : (text : List ℕ) (r : Result (List Record) Fault) → is_long text ≡ false → read_from def (Top, []) (tokens text) ≡ r → read_def text ≡ r
@@ -58,8 +59,15 @@ plans_are_applied changed_so text design new plan cuts reads plans made =
     let changed = changed_so text 0 Top [] design new plan.changes (omega arith) (tokens_read text design reads) p.0 p.1 in
     subst (λ (cs : List Cut). read_def (with_cuts cs text) ≡ Ok new) a.cuts_are (short_reads (with_cuts (cuts_for text plan.changes) text) (Ok new) a.short changed)
 
+-- changes that make records lie within their statements
+all_within : (all : List (List Token × Record)) (changes : List (List Token × StatementChange)) (new : List Record) → Make all changes new → All LiesWithin changes
+all_within all [] new made = tt
+all_within all (x ∷ xs) new made = (made.2.within, all_within made.1.others xs made.3 made.4)
+
 pub plans_stand_in_order : ChangesStandInOrder → PlansStandInOrder
-plans_stand_in_order order_so text design new plan cuts reads plans made =
-    let a = accepted text plan cuts made in
-    let p = plans a.free in
-    subst (λ (cs : List Cut). AreInOrder 0 cs (length text)) a.cuts_are (order_so text 0 Top [] design new plan.changes (omega arith) (tokens_read text design reads) p.0)
+plans_stand_in_order order_so text design new plan reads plans free =
+    let p = plans free in
+    record {
+      within = all_within (located text design) plan.changes new p.0;
+      ordered = order_so text 0 Top [] design new plan.changes (omega arith) (tokens_read text design reads) p.0;
+    }

@@ -1,9 +1,11 @@
 -- Laws of plans, whatever edit has the plan.
-use Rattle.std.specs.Prelude.{◌≡◌, ℕ, List, [], length, None, Ok}
+use Rattle.std.specs.Prelude.{◌≡◌, ◌≤◌, ℕ, ◌+◌, List, [], length, None, Ok}
+use Rattle.std.specs.List.{All}
 use Rattle.statement_model.specs.Cuts.{Cut, with_cuts}
 use Rattle.def_grammar.specs.Records.{Record, read_def}
 use Rattle.def_grammar.specs.Located.{located}
-use Rattle.edit_rules.specs.Plans.{Plan, lowest, outcome_of}
+use Rattle.statement_model.specs.Tokens.{Token}
+use Rattle.edit_rules.specs.Plans.{Plan, StatementChange, cuts_for, lowest, outcome_of}
 use Rattle.splicing_laws.specs.KeepingLaws.{AreInOrder}
 use Rattle.edit_laws.specs.StatementLaws.{Make, AreOnce}
 
@@ -19,10 +21,19 @@ PlansAreApplied = (text : List ℕ) (design new : List Record) (plan : Plan) (cu
     → outcome_of text plan ≡ Ok cuts
     → read_def (with_cuts cuts text) ≡ Ok new
 
--- They stand in order within the text, so the bytes between them stay.
+-- the tokens that a change takes are some of its statement's
+abbrev pub LiesWithin : List Token × StatementChange → Type 0
+LiesWithin x = x.1.before + x.1.taken ≤ length x.0
+
+-- the changes of a plan lie within their statements, and their cuts stand in order within the text
+pub record StandInOrder (text : List ℕ) (plan : Plan) : Type 0 where
+  pub within : All LiesWithin plan.changes
+  pub ordered : AreInOrder 0 (cuts_for text plan.changes) (length text)
+
+-- Those of a plan that isn't refused for a reason of its own do, so the bytes between its cuts stay.
 abbrev pub PlansStandInOrder : Type 0
-PlansStandInOrder = (text : List ℕ) (design new : List Record) (plan : Plan) (cuts : List Cut)
+PlansStandInOrder = (text : List ℕ) (design new : List Record) (plan : Plan)
     → read_def text ≡ Ok design
     → Plans text design plan new
-    → outcome_of text plan ≡ Ok cuts
-    → AreInOrder 0 cuts (length text)
+    → lowest plan.refusals ≡ None
+    → StandInOrder text plan

@@ -1,6 +1,6 @@
 //! Laws of edits.
 
-ghost use Rattle.edit_laws.specs.EditLaws.{EditsAreApplied, EditsKeepTheRest};
+ghost use Rattle.edit_laws.specs.EditLaws.{EditsAreApplied, EditsKeepTheRest, EditsStandInOrder};
 
 use crate::components::component_plans_are_made;
 use crate::nets::net_plans_are_made;
@@ -17,12 +17,20 @@ pub fn edits_are_applied()
     plans_are_applied();
 }
 
-/// The cuts of an accepted edit of a text that reads stand in order within the text: the bytes around them stay.
-pub fn edits_keep_the_rest()
-    ensures { EditsKeepTheRest }
+/// The changes of an edit that isn't refused for a reason of its own lie within their statements, and their cuts stand in
+/// order within the text.
+pub fn edits_stand_in_order()
+    ensures { EditsStandInOrder }
 {
     component_plans_are_made();
     net_plans_are_made();
     section_plans_are_made();
     plans_stand_in_order();
+}
+
+/// The cuts of an accepted edit of a text that reads stand in order within the text: the bytes around them stay.
+pub fn edits_keep_the_rest()
+    ensures { EditsKeepTheRest }
+{
+    edits_stand_in_order();
 }

@@ -11,7 +11,8 @@ pub fn plans_are_applied()
     statements_are_changed();
 }
 
-/// The cuts of an accepted plan stand in order within the text.
+/// The changes of a plan that isn't refused for a reason of its own lie within their statements, and their cuts stand in order
+/// within the text.
 pub fn plans_stand_in_order()
     ensures { PlansStandInOrder }
 {

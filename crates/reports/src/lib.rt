@@ -11,7 +11,6 @@
 #![tactic(auto)]
 
 mod densities;
-mod layer_count;
 mod net_box;
 mod net_table;
 mod reports;

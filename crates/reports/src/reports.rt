@@ -11,7 +11,6 @@ ghost use Rattle.measure_rules.specs.Lengths.{total_length};
 ghost use Rattle.reports.specs.Answers.{ReportsOn, box_in, cell_in, length_in, place_cell_in};
 
 use crate::densities::{cells_of, place_cells_of};
-use crate::layer_count::layer_count;
 use crate::net_table::{NetTable, table_of};
 use crate::total::total_of;
 use cell_library::library::Library;
@@ -59,7 +58,7 @@ impl<A: Allocator + Copy> Reports<A> {
         ensures { IfOk result (ReportsOn library.entry.now names.entry.now) }
     {
         none_is_longer();
-        let layers = layer_count(alloc, library)?;
+        let layers = library.layer_count();
         let wires = DesignWires::new(alloc, library, names)?;
         let measured = measured_nets(alloc, library, names, &wires)?;
         let boxes = boxes_of(alloc, library, names.records())?;
