@@ -1,7 +1,6 @@
 -- A text with the cuts of an accepted plan made reads as the new design.
 use Rattle.std.proofs.Common.{◌≡◌, ℕ, Bool, true, false, List, [], ◌∷◌, ◌++◌, length, Option, Some, None, Result, Ok, arith, refl, subst, ⊎_elim}
 use Rattle.std.proofs.lemmas.Bool.{cases_Bool as cases}
-use Rattle.std.specs.List.{All}
 use Rattle.edit_model.specs.declared.edit.EditCode.{EditCode}
 use Rattle.edit_model.specs.declared.edit.EditCode.TheVariants.{TooLong}
 use Rattle.design_model.specs.declared.fault.Fault.{Fault}
@@ -12,7 +11,7 @@ use Rattle.statement_model.specs.Reading.{read_from, read_text}
 use Rattle.def_grammar.specs.Records.{Record, def, read_def}
 use Rattle.def_grammar.specs.Located.{located}
 use Rattle.edit_rules.specs.Plans.{Plan, StatementChange, cuts_for, lowest, unless, is_long, outcome_of}
-use Rattle.edit_laws.specs.PlanLaws.{LiesWithin, PlansAreApplied, PlansStandInOrder}
+use Rattle.edit_laws.specs.PlanLaws.{LieWithin, PlansAreApplied, PlansStandInOrder}
 use Rattle.edit_laws.specs.StatementLaws.{Make, StatementsAreChanged, ChangesStandInOrder}
 
 -- a text that isn't long reads as its tokens do
@@ -60,7 +59,7 @@ plans_are_applied changed_so text design new plan cuts reads plans made =
     subst (λ (cs : List Cut). read_def (with_cuts cs text) ≡ Ok new) a.cuts_are (short_reads (with_cuts (cuts_for text plan.changes) text) (Ok new) a.short changed)
 
 -- changes that make records lie within their statements
-all_within : (all : List (List Token × Record)) (changes : List (List Token × StatementChange)) (new : List Record) → Make all changes new → All LiesWithin changes
+all_within : (all : List (List Token × Record)) (changes : List (List Token × StatementChange)) (new : List Record) → Make all changes new → LieWithin changes
 all_within all [] new made = tt
 all_within all (x ∷ xs) new made = (made.2.within, all_within made.1.others xs made.3 made.4)
 

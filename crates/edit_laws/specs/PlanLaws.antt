@@ -1,6 +1,5 @@
 -- Laws of plans, whatever edit has the plan.
-use Rattle.std.specs.Prelude.{◌≡◌, ◌≤◌, ℕ, ◌+◌, List, [], length, None, Ok}
-use Rattle.std.specs.List.{All}
+use Rattle.std.specs.Prelude.{◌≡◌, ◌≤◌, ℕ, ◌+◌, List, [], ◌∷◌, length, None, Ok}
 use Rattle.statement_model.specs.Cuts.{Cut, with_cuts}
 use Rattle.def_grammar.specs.Records.{Record, read_def}
 use Rattle.def_grammar.specs.Located.{located}
@@ -21,13 +20,14 @@ PlansAreApplied = (text : List ℕ) (design new : List Record) (plan : Plan) (cu
     → outcome_of text plan ≡ Ok cuts
     → read_def (with_cuts cuts text) ≡ Ok new
 
--- the tokens that a change takes are some of its statement's
-abbrev pub LiesWithin : List Token × StatementChange → Type 0
-LiesWithin x = x.1.before + x.1.taken ≤ length x.0
+-- the tokens that each change takes are some of its statement's
+abbrev pub LieWithin : List (List Token × StatementChange) → Type 0
+LieWithin [] = Unit {0}
+LieWithin (x ∷ xs) = (x.1.before + x.1.taken ≤ length x.0) × LieWithin xs
 
 -- the changes of a plan lie within their statements, and their cuts stand in order within the text
 pub record StandInOrder (text : List ℕ) (plan : Plan) : Type 0 where
-  pub within : All LiesWithin plan.changes
+  pub within : LieWithin plan.changes
   pub ordered : AreInOrder 0 (cuts_for text plan.changes) (length text)
 
 -- Those of a plan that isn't refused for a reason of its own do, so the bytes between its cuts stay.
