@@ -3,6 +3,26 @@
 use clap::{Arg, ArgAction, Command, Error};
 use std::alloc::Global;
 
+/// The commands of a script, a line each.
+const SCRIPT_LINES: &str = "Lines of the script:
+  place c x y o          Place component c at (x, y), turned as o says
+  unplace c              Leave component c unplaced
+  remaster c m           Give component c the macro m
+  add c m                Add a component c of macro m
+  remove c               Take component c out
+  connect n c p          Connect pin p of component c, or with PIN for c of the design, to net n
+  disconnect n c p       Take that terminal from net n
+  route n WIRING         Give net n this wiring
+  unroute n              Take the wiring of net n out
+  block [l] x1 y1 x2 y2  Block routing on layer l, or placement, between two corners
+  text a b NEW           Put NEW in the place of the bytes from a up to b
+  check                  Report all diagnostics
+  length [n]             Tell the length of net n, or of all nets
+  box n                  Tell the least rectangle round the shapes of net n
+  cell i j l             Tell the area of shapes on layer l in a cell of the grid
+  pcell i j              Tell the area of components in a cell of the grid
+  show S n               Show the entry n of section S";
+
 /// What the command line asks for, borrowed from its words: paths of files.
 #[derive(Drop)]
 pub struct Request<'a> {
@@ -35,6 +55,7 @@ pub fn read_request<'a>(alloc: Global, words: &'a [&'a str]) -> Result<Request<'
         .num_args(1..);
     let command = Command::new(alloc, "defedit")
         .about("Edits a DEF text by a script")
+        .after_help(SCRIPT_LINES)
         .arg(def)?
         .arg(script)?
         .arg(out)?
