@@ -6,6 +6,7 @@
 mod design_wires;
 mod device_runs;
 mod devices;
+mod edit_calls;
 mod entry_names;
 mod grid_sums;
 mod heaps;

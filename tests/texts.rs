@@ -21,3 +21,24 @@ LAYER via1\n  TYPE CUT ;\nEND via1\n\
 LAYER met2\n  TYPE ROUTING ;\n  WIDTH 0.14 ;\n  SPACING 0.14 ;\nEND met2\n\
 VIA M1M2 DEFAULT\n  LAYER met1 ;\n    RECT -0.1 -0.1 0.1 0.1 ;\n  LAYER via1 ;\n    RECT -0.05 -0.05 0.05 0.05 ;\n\
   LAYER met2 ;\n    RECT -0.1 -0.1 0.1 0.1 ;\nEND M1M2\n";
+
+/// Two layers of metal, a site, an inverter with three pins, and a buffer with one.
+pub const PINNED: &[u8] = b"LAYER met1 TYPE ROUTING ; WIDTH 0.14 ; END met1\n\
+LAYER via1 TYPE CUT ; END via1\n\
+LAYER met2 TYPE ROUTING ; WIDTH 0.14 ; END met2\n\
+SITE core CLASS CORE ; SIZE 0.46 BY 2.72 ; END core\n\
+MACRO INV CLASS CORE ; SIZE 0.92 BY 2.72 ; SITE core ;\n\
+PIN A PORT LAYER met1 ; RECT 0.1 1 0.3 1.2 ; END END A\n\
+PIN Y PORT LAYER met1 ; RECT 0.6 1 0.8 1.2 ; END END Y\n\
+PIN VDD PORT LAYER met1 ; RECT 0 2.48 0.92 2.72 ; END END VDD END INV\n\
+MACRO BUF CLASS CORE ; SIZE 0.92 BY 2.72 ; SITE core ;\n\
+PIN A PORT LAYER met1 ; RECT 0.1 1 0.3 1.2 ; END END A END BUF\n";
+
+/// Two inverters with a wire between them, a supply, and a grid of two cells across.
+pub const TWO_CONNECTED: &[u8] = b"UNITS DISTANCE MICRONS 1000 ;\n\
+GCELLGRID X 0 DO 3 STEP 1000 ;\nGCELLGRID Y 0 DO 2 STEP 3000 ;\n\
+COMPONENTS 2 ;\n- u1 INV + PLACED ( 0 0 ) N ;\n- u2 INV + PLACED ( 920 0 ) N ;\nEND COMPONENTS\n\
+BLOCKAGES 0 ;\nEND BLOCKAGES\n\
+SPECIALNETS 1 ;\n- VDD ( * VDD ) + USE POWER ;\nEND SPECIALNETS\n\
+NETS 1 ;\n- n1 ( u1 Y ) ( u2 A ) + ROUTED met1 ( 700 1100 ) ( 1120 * ) ;\nEND NETS\n\
+END DESIGN\n";

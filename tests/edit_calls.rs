@@ -1,0 +1,173 @@
+//! All edits of a design by the calls of a session, what is measured of it, and each growth of each edit refused in turn.
+
+use crate::texts::{PINNED, TWO_CONNECTED};
+use cell_library::lef_texts::LefTexts;
+use cell_library::library::Library;
+use counted_devices::counted::Counted;
+use design_model::geometry::{Orient, Rect};
+use design_model::identifier::LayerId;
+use edit_model::edit::{Done, Edit, EditRefusal};
+use edit_session::session::Session;
+use linked_list_allocator::LocalHeap;
+use std::alloc::Global;
+use std::test::Fail;
+
+/// The edits of a session, one of each kind, each of which is accepted after those before it.
+const EDITS: [Edit<'static>; 10] = [
+    Edit::Place { component: b"u1", x: 460, y: -1, orient: Orient::FS },
+    Edit::Unplace { component: b"u2" },
+    Edit::Remaster { component: b"u1", cell: b"BUF" },
+    Edit::Connect { net: b"VDD", owner: b"u1", pin: b"A" },
+    Edit::Disconnect { net: b"n1", owner: b"u2", pin: b"A" },
+    Edit::Route { net: b"VDD", wiring: b"+ ROUTED met1 10 ( 0 0 ) ( 10 * )" },
+    Edit::Unroute { net: b"n1" },
+    Edit::Add { component: b"u3", cell: b"INV" },
+    Edit::Remove { component: b"u2" },
+    Edit::Block { layer: Some(b"met1"), x1: 0, y1: 0, x2: 10, y2: -10 },
+];
+
+/// The text after all of them.
+const EDITED: &[u8] = b"UNITS DISTANCE MICRONS 1000 ;\n\
+GCELLGRID X 0 DO 3 STEP 1000 ;\nGCELLGRID Y 0 DO 2 STEP 3000 ;\n\
+COMPONENTS 2 ;\n- u1 BUF + PLACED ( 460 -1 ) FS ;\n\n- u3 INV ;\nEND COMPONENTS\n\
+BLOCKAGES 1 ;\n- LAYER met1 RECT ( 0 0 ) ( 10 -10 ) ;\nEND BLOCKAGES\n\
+SPECIALNETS 1 ;\n- VDD ( * VDD ) ( u1 A ) + USE POWER + ROUTED met1 10 ( 0 0 ) ( 10 * ) ;\nEND SPECIALNETS\n\
+NETS 1 ;\n- n1 ( u1 Y )   ;\nEND NETS\n\
+END DESIGN\n";
+
+#[test]
+fn each_kind_of_edit_of_a_session(rt: HostRuntime) -> Result<(), Fail> {
+    let alloc = rt.alloc();
+    let mut lefs = LefTexts::new(alloc);
+    lefs.push(PINNED)?;
+    let library = Library::read(alloc, &lefs)?;
+    let mut session = Session::open(alloc, &library, TWO_CONNECTED)?;
+    for edit in &EDITS {
+        assert_eq!(rt; session.edit(edit), Ok(Done { reads: 0, tests: 0 }));
+    }
+    let mut out = Counted::new(Vec::new(alloc));
+    session.write_to(&mut out)?;
+    assert_eq!(rt; out.into_inner().as_slice(), EDITED);
+    Ok(())
+}
+
+/// What a session tells of a net, of all nets, and of a cell.
+#[derive(Clone, Copy, PartialEq, Eq, Debug)]
+struct Told {
+    length: Option<u64>,
+    bounds: Option<Option<Rect>>,
+    total: u64,
+    first: Option<u128>,
+    outside: Option<u128>,
+    placed: Option<u128>,
+}
+
+/// What a session of this design tells, before an edit and after it.
+fn told(session: &mut Session<'_, '_>) -> Result<Told, Fail> {
+    Ok(Told {
+        length: session.net_length(b"n1")?,
+        bounds: session.net_box(b"n1")?,
+        total: session.total_length()?,
+        first: session.cell(0, 0, LayerId(0))?,
+        outside: session.cell(2, 0, LayerId(0))?,
+        placed: session.place_cell(1, 0)?,
+    })
+}
+
+#[test]
+fn measures_follow_the_text(rt: HostRuntime) -> Result<(), Fail> {
+    let alloc = rt.alloc();
+    let mut lefs = LefTexts::new(alloc);
+    lefs.push(PINNED)?;
+    let library = Library::read(alloc, &lefs)?;
+    let mut session = Session::open(alloc, &library, TWO_CONNECTED)?;
+    let bounds = Rect { x1: 600, y1: 1000, x2: 1220, y2: 1200 };
+    let before = Told {
+        length: Some(420),
+        bounds: Some(Some(bounds)),
+        total: 420,
+        // The pin Y is 200 by 200, the wire 370 by 140 up to x = 1000, and the supply pins are 920 and 80 by 240.
+        first: Some(40000 + 51800 + 240000),
+        outside: None,
+        // Of the second inverter 840 by 2720 lie there.
+        placed: Some(2284800),
+    };
+    assert_eq!(rt; told(&mut session)?, before);
+    session.edit(&Edit::Unroute { net: b"n1" })?;
+    session.edit(&Edit::Unplace { component: b"u2" })?;
+    let pin = Rect { x1: 600, y1: 1000, x2: 800, y2: 1200 };
+    let after = Told {
+        length: Some(0),
+        bounds: Some(Some(pin)),
+        total: 0,
+        first: Some(40000 + 220800),
+        outside: None,
+        placed: Some(0),
+    };
+    assert_eq!(rt; told(&mut session)?, after);
+    assert!(rt; session.net_length(b"n2")?.is_none());
+    assert!(rt; session.net_box(b"n2")?.is_none());
+    assert!(rt; session.cell(0, 0, LayerId(3))?.is_none());
+    Ok(())
+}
+
+/// What a session in a heap of this many bytes answers to an edit, and its text then; none where the heap is too small to open it.
+fn edited_in(
+    alloc: Global,
+    lefs: &LefTexts,
+    size: usize,
+    edit: &Edit<'_>,
+) -> Result<Option<(Result<Done, EditRefusal>, Vec<u8>)>, Fail> {
+    let heap = LocalHeap::new(alloc, size)?;
+    let Ok(library) = Library::read(&heap, lefs) else {
+        return Ok(None);
+    };
+    let Ok(mut session) = Session::open(&heap, &library, TWO_CONNECTED) else {
+        return Ok(None);
+    };
+    let reply = session.edit(edit);
+    let mut out = Counted::new(Vec::new(alloc));
+    if session.write_to(&mut out).is_err() {
+        return Err(Fail::from("the text was not written"));
+    }
+    Ok(Some((reply, out.into_inner())))
+}
+
+/// An edit of each kind that the first text accepts.
+const FIRST_EDITS: [Edit<'static>; 10] = [
+    Edit::Place { component: b"u1", x: 123456789, y: 123456789, orient: Orient::FS },
+    Edit::Unplace { component: b"u2" },
+    Edit::Remaster { component: b"u1", cell: b"BUF" },
+    Edit::Connect { net: b"VDD", owner: b"u1", pin: b"A" },
+    Edit::Disconnect { net: b"n1", owner: b"u2", pin: b"A" },
+    Edit::Route { net: b"n1", wiring: b"+ ROUTED met1 ( 0 0 ) ( 10 * ) + ROUTED met1 ( 0 0 ) ( 10 * )" },
+    Edit::Unroute { net: b"n1" },
+    Edit::Add { component: b"u3", cell: b"INV" },
+    Edit::Remove { component: b"u2" },
+    Edit::Block { layer: None, x1: 123456789, y1: 123456789, x2: 1, y2: 1 },
+];
+
+#[test]
+fn each_growth_refused_leaves_the_text_of_each_edit(rt: HostRuntime) -> Result<(), Fail> {
+    let mut lefs = LefTexts::new(rt.alloc());
+    lefs.push(PINNED)?;
+    for edit in &FIRST_EDITS {
+        let mut accepted = false;
+        for size in 0..512usize {
+            match edited_in(rt.alloc(), &lefs, 64 * size, edit)? {
+                Some((Ok(_), text)) => {
+                    accepted = true;
+                    assert!(rt; text.as_slice() != TWO_CONNECTED);
+                }
+                Some((Err(refusal), text)) => {
+                    assert_eq!(rt; refusal, EditRefusal::Memory);
+                    assert_eq!(rt; text.as_slice(), TWO_CONNECTED);
+                    assert!(rt; !accepted);
+                }
+                None => assert!(rt; !accepted),
+            }
+        }
+        assert!(rt; accepted);
+    }
+    Ok(())
+}
