@@ -210,7 +210,14 @@ fn cell_answer<A: Allocator + Copy>(
     ensures grows { Grows tally.old tally.new }
 {
     match session.layer(layer) {
-        Some(id) => on_layer(alloc, session, number, place_of(column, row), (id, layer), tally),
+        Some(id) => on_layer(
+            alloc,
+            session,
+            number,
+            place_of(column, row),
+            (id, layer),
+            tally,
+        ),
         None => refused(alloc, number, EditCode::UnknownName, tally),
     }
 }
