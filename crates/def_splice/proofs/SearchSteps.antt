@@ -46,7 +46,7 @@ tokens_of_first test [] = refl
 tokens_of_first test (x ∷ xs) = elim (cases_Bool (test x.1)) [ inl is ↦ rw is refl | inr other ↦ rw other (tokens_of_first test xs) ]
 
 -- an entry of which a test holds is one of the statements
-any_entry : (test : Entry → Bool) (rec : Record) (o : Option Entry) (rs : List Record) → entry_of rec ≡ o → list_any test (filter_map entry_of (rec ∷ rs)) ≡ (of_entry test o || list_any test (filter_map entry_of rs))
+pub any_entry : (test : Entry → Bool) (rec : Record) (o : Option Entry) (rs : List Record) → entry_of rec ≡ o → list_any test (filter_map entry_of (rec ∷ rs)) ≡ (of_entry test o || list_any test (filter_map entry_of rs))
 any_entry test rec None rs is = rw is refl
 any_entry test rec (Some e) rs is = rw is refl
 
