@@ -156,8 +156,8 @@ module _ (law : RecordsAreLocated def) (text : List ℕ) (design : List Record) 
     without_net o none is =
         let missing : stands_in design Nets name ≡ false = stands_found Nets ∙ ap is_some none in
         elim (cases_Bool (list_any (lists_in SpecialNets name c p) (filter_map entry_of design) && not (list_any (lists_in Nets name c p) (filter_map entry_of design)))) [
-        | inl so ↦ rw so is
-        | inr not_so ↦ rw (not_so, missing) is
+          | inl so ↦ rw so is
+          | inr not_so ↦ rw (not_so, missing) is
         ]
 
     module _ (x : List Token × Record) (is : found_in Nets ≡ Some x) where

@@ -30,7 +30,10 @@ module _ (library : Library) (design : List Record) (change : NetChange) where
   planned None x is = absurd (cc)
   planned (Some y) x is = of_record y.0 (entry_of y.1) x is
 
-  none_of_record : (ps : List Token) (o : Option Entry) → None ≡ (o >>= λ e. Some {List Token × Entry} (ps, e)) → plan_of_record library design change ps o ≡ refused_plan UnknownName
+  abbrev with_it : List Token → Entry → Option (List Token × Entry)
+  with_it ps e = Some (ps, e)
+
+  none_of_record : (ps : List Token) (o : Option Entry) → None ≡ (o >>= λ e. with_it ps e) → plan_of_record library design change ps o ≡ refused_plan UnknownName
   none_of_record ps None is = refl
   none_of_record ps (Some e) is = absurd (cc)
 

@@ -51,7 +51,6 @@ module _ (law : RecordsAreLocated def) (text : List ℕ) (design : List Record) 
 
   module _ (x : List Token × Component) (found : Some x ≡ component_at name (located text design)) where
     pub has_macro_pin : (m : Option Macro) → macro_named library x.1.cell ≡ m → Has (has_pin pin m)
-    has_macro_pin m is = sym (
-    ap (λ (o : Option Component). has_pin pin (o >>= λ (d : Component). macro_named library d.cell)) (named_is ∙ ap what (sym found))
-    ∙ ap (has_pin pin) is
-    )
+    has_macro_pin m is =
+        let named = named_is ∙ ap what (sym found) in
+        sym (ap (λ (o : Option Component). has_pin pin (o >>= λ (d : Component). macro_named library d.cell)) named ∙ ap (has_pin pin) is)

@@ -12,26 +12,44 @@ use Rattle.edit_laws.proofs.NetEntries.{terminal_words}
 use Rattle.edit_rules.specs.NetEdits.{before_terminal, front_of, is_terminal, tokens_of_first, tokens_of_terminals}
 use Rattle.def_splice.specs.NetViews.{IsAround, tokens_before, tokens_taken}
 
-past_two : (ps : List Token) → length (past 2 ps) ≡ length ps - 2
+pub past_two : (ps : List Token) → length (past 2 ps) ≡ length ps - 2
 past_two [] = refl
 past_two (p ∷ []) = refl
 past_two (p ∷ q ∷ ps) = omega arith
 
--- what is left behind some words and two tokens
-pub left_behind : (ws : List (List ℕ)) (ps : List Token) → length (behind ws (past 2 ps)) ≡ (length ps - 2) - length ws
+left_behind : (ws : List (List ℕ)) (ps : List Token) → length (behind ws (past 2 ps)) ≡ (length ps - 2) - length ws
 left_behind ws ps = ap length (behind_is_drop ws (past 2 ps)) ∙ length-drop (length ws) (past 2 ps) ∙ ap (λ (n : ℕ). n - length ws) (past_two ps)
 
-pub left_two : (ps : List Token) → length (past 2 ps) ≡ length ps - 2
-left_two ps = past_two ps
+-- the terminals of an entry stand behind its first two tokens, and so many are left behind them
+module _ (ts : List Terminal) (ps : List Token) (left : ℕ) (is : left ≡ length (behind (spell_all (spell terminal) ts) (past 2 ps))) where
+  pub left_within : left ≤ length ps
+  left_within = let n = is ∙ left_behind (spell_all (spell terminal) ts) ps in omega (arith, n)
+
+  pub end_is : front_of ts ≤ length ps → length ps - left ≡ front_of ts
+  end_is fits = let n = is ∙ left_behind (spell_all (spell terminal) ts) ps in omega (arith, n, fits)
+
+-- the first of some elements passes a test, or doesn't
+module _ {A : Type 0} (t : A → Bool) (x : A) (xs : List A) where
+  none_first : t x ≡ true → take_while (λ y. not (t y)) (x ∷ xs) ≡ []
+  none_first is = take_while-cons (λ y. not (t y)) x xs ∙ rw is refl
+
+  one_first : t x ≡ false → take_while (λ y. not (t y)) (x ∷ xs) ≡ x ∷ take_while (λ y. not (t y)) xs
+  one_first isnt = take_while-cons (λ y. not (t y)) x xs ∙ rw isnt refl
+
+  any_here : t x ≡ true → list_any t (x ∷ xs) ≡ true
+  any_here is = rw is refl
+
+  any_later : t x ≡ false → list_any t (x ∷ xs) ≡ list_any t xs
+  any_later isnt = rw isnt refl
 
 module _ (c p : List ℕ) where
   -- the first terminal is this one, or another
   module _ (t : Terminal) (ts : List Terminal) where
     none_before : is_terminal c p t ≡ true → before_terminal c p (t ∷ ts) ≡ []
-    none_before is = take_while-cons (λ u. not (is_terminal c p u)) t ts ∙ rw is refl
+    none_before is = none_first (is_terminal c p) t ts is
 
     one_before : is_terminal c p t ≡ false → before_terminal c p (t ∷ ts) ≡ t ∷ before_terminal c p ts
-    one_before isnt = take_while-cons (λ u. not (is_terminal c p u)) t ts ∙ rw isnt refl
+    one_before isnt = one_first (is_terminal c p) t ts isnt
 
     here_before : is_terminal c p t ≡ true → tokens_before c p (t ∷ ts) ≡ 0
     here_before is = ap tokens_of_terminals (none_before is)
@@ -60,7 +78,7 @@ module _ (c p : List ℕ) where
         let old = going.before ∙ ap (λ (ts : List Terminal). count + tokens_before c p ts) next in
         let now = later_before t later isnt in
         record {
-          listed = going.listed ∙ ap (list_any (is_terminal c p)) next ∙ rw isnt refl;
+          listed = going.listed ∙ ap (list_any (is_terminal c p)) next ∙ any_later (is_terminal c p) t later isnt;
           before = omega (arith, old, now, words);
           taken = going.taken ∙ ap (tokens_taken c p) next ∙ later_taken t later isnt;
         }
@@ -71,7 +89,7 @@ module _ (c p : List ℕ) where
         let now = here_before t later is in
         let own : tokens_taken c p all ≡ length (spell terminal t) = going.taken ∙ ap (tokens_taken c p) next ∙ here_taken t later is in
         record {
-          listed = going.listed ∙ ap (list_any (is_terminal c p)) next ∙ rw is refl;
+          listed = going.listed ∙ ap (list_any (is_terminal c p)) next ∙ any_here (is_terminal c p) t later is;
           first = omega (arith, old, now);
           own = omega (arith, own, words);
           some = let long = terminal_words t in omega (arith, long, words);

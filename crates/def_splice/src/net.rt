@@ -27,11 +27,7 @@ use lefdef_tokens::TokenRun;
 use std::alloc::{AllocError, Allocator};
 
 /// `( owner pin )`, with a space before it.
-fn terminal_text<A: Allocator>(
-    alloc: A,
-    owner: &[u8],
-    pin: &[u8],
-) -> Result<Vec<u8, A>, AllocError>
+fn terminal_text<A: Allocator>(alloc: A, owner: &[u8], pin: &[u8]) -> Result<Vec<u8, A>, AllocError>
     ensures { IfOk result (λ v. v.items ≡ terminal_text owner.now pin.now) }
 {
     let mut put = Vec::from_slice(alloc, b" ( ")?;

@@ -49,12 +49,7 @@ fn lists_terminal(statement: &Statement<'_>, owner: &[u8], pin: &[u8]) -> bool
 }
 
 /// The entry of a net in SPECIALNETS, where it lists a terminal.
-fn special_entry_with<'t>(
-    text: &'t [u8],
-    name: &[u8],
-    owner: &[u8],
-    pin: &[u8],
-) -> Option<Read<'t>>
+fn special_entry_with<'t>(text: &'t [u8], name: &[u8], owner: &[u8], pin: &[u8]) -> Option<Read<'t>>
     requires { IsOk (read_def text.now) }
     ensures gives { (design : List Record) → read_def text.now ≡ Ok design → option_map located_view result ≡ listing owner.now pin.now (entry_at SpecialNets name.now (located text.now design)) }
     ensures lent { IfSome result (λ x. ReadIn text.now x) }
@@ -70,12 +65,7 @@ fn special_entry_with<'t>(
 }
 
 /// The entry of a net from which a terminal is taken: that in NETS, unless that in SPECIALNETS alone lists it.
-pub fn listing_entry<'t>(
-    text: &'t [u8],
-    name: &[u8],
-    owner: &[u8],
-    pin: &[u8],
-) -> Option<Read<'t>>
+pub fn listing_entry<'t>(text: &'t [u8], name: &[u8], owner: &[u8], pin: &[u8]) -> Option<Read<'t>>
     requires { IsOk (read_def text.now) }
     ensures gives { (design : List Record) → read_def text.now ≡ Ok design → option_map located_view result ≡ entry_at (section_of_net (disconnect_from owner.now pin.now) name.now design) name.now (located text.now design) }
     ensures lent { IfSome result (λ x. ReadIn text.now x) }
