@@ -89,8 +89,9 @@ pub fn with_tokens<'t>(found: Option<Read<'t>>) -> Option<(Entry<'t>, TokenRun<'
     let Some(read) = found else {
         return None;
     };
+    let tokens = read.tokens;
     match read.statement {
-        Statement::Entry(entry) => Some((entry, read.tokens)),
+        Statement::Entry(entry) => Some((entry, tokens)),
         _ => None,
     }
 }

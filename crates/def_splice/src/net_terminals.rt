@@ -1,6 +1,6 @@
 //! How many tokens of an entry of NETS or SPECIALNETS stand before its terminals' end, before one of them, and are its own.
 
-ghost use Rattle.std.specs.Prelude.{◌≡◌, ◌≤◌, ◌+◌, ◌×◌, [], List, length, true, false, IfSome, MatchOption};
+ghost use Rattle.std.specs.Prelude.{◌≡◌, ◌≤◌, ◌+◌, [], List, length, true, false, IfSome, MatchOption};
 ghost use Rattle.std.specs.List.{list_any};
 ghost use Rattle.form_meanings.specs.Meaning.{spell_all};
 ghost use Rattle.statement_model.specs.Form.{spell};
