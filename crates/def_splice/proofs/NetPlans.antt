@@ -26,7 +26,7 @@ module _ (library : Library) (design : List Record) (change : NetChange) where
       let here : List Token × Entry = (ps, e) in
       ap (λ (y : List Token × Entry). plan_of_entry library design change y.0 y.1) (sym (some_same x here is))
 
-  pub planned : (found : Option (List Token × Record)) (x : List Token × Entry) → Some x ≡ (found >>= entry_with) → net_plan library design change found ≡ plan_of_entry library design change x.0 x.1
+  pub planned : (found : Option (List Token × Record)) (x : List Token × Entry) → Some x ≡ entry_with found → net_plan library design change found ≡ plan_of_entry library design change x.0 x.1
   planned None x is = absurd (cc)
   planned (Some y) x is = of_record y.0 (entry_of y.1) x is
 
@@ -37,7 +37,7 @@ module _ (library : Library) (design : List Record) (change : NetChange) where
   none_of_record ps None is = refl
   none_of_record ps (Some e) is = absurd (cc)
 
-  pub unplanned : (found : Option (List Token × Record)) → None ≡ (found >>= entry_with) → net_plan library design change found ≡ refused_plan UnknownName
+  pub unplanned : (found : Option (List Token × Record)) → None ≡ entry_with found → net_plan library design change found ≡ refused_plan UnknownName
   unplanned None is = refl
   unplanned (Some y) is = none_of_record y.0 (entry_of y.1) is
 
@@ -64,7 +64,7 @@ module _ (library : Library) (design : List Record) (c p : List ℕ) (ps : List 
 -- an edit of a net follows the plan of its entry
 module _ (library : Library) (text name : List ℕ) (change : NetChange) (design : List Record) (reads : read_def text ≡ Ok design) where
   abbrev found : Option (List Token × Entry)
-  found = entry_at (section_of_net change name design) name (located text design) >>= entry_with
+  found = entry_with (entry_at (section_of_net change name design) name (located text design))
 
   pub unknown_net : {A : Type 0} → None ≡ found → MakesSplices {A = A} library text (of_net name change) (Err (Refused UnknownName))
   unknown_net {A} none =

@@ -15,6 +15,7 @@ use Rattle.lef_grammar.specs.Library.{Library, Macro, macro_named}
 use Rattle.lef_grammar.specs.MacroShapes.{LibraryMacro, in_library}
 use Rattle.entry_rules.specs.Unknown.{component_named}
 use Rattle.edit_rules.specs.NetEdits.{has_pin}
+use Rattle.def_splice.specs.NetViews.{macro_of}
 use Rattle.def_splice.proofs.SearchSteps.{all_said, said}
 
 abbrev what : Option (List Token × Component) → Option Component
@@ -44,7 +45,7 @@ module _ (law : RecordsAreLocated def) (text : List ℕ) (design : List Record) 
   named_is = ap (λ (rs : List Record). component_named rs name) (sym (all_said law text design reads)) ∙ named_where name (located text design)
 
   abbrev Has : Bool → Type 0
-  Has b = b ≡ has_pin pin (component_named design name >>= λ (d : Component). macro_named library d.cell)
+  Has b = b ≡ has_pin pin (macro_of library design name)
 
   pub has_no_component : None ≡ component_at name (located text design) → Has false
   has_no_component none = sym (ap (λ (o : Option Component). has_pin pin (o >>= λ (d : Component). macro_named library d.cell)) (named_is ∙ ap what (sym none)))

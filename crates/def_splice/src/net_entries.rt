@@ -3,7 +3,6 @@
 ghost use Rattle.std.specs.Prelude.{◌≡◌, ℕ, List, Ok, IfSome, IsOk};
 ghost use Rattle.std.specs.Option.{option_map};
 ghost use Rattle.design_model.specs.declared.mode.Section.TheVariants.{SpecialNets};
-ghost use Rattle.form_meanings.specs.Words.{◌>>=◌};
 ghost use Rattle.def_grammar.specs.Located.{entry_at, located};
 ghost use Rattle.def_grammar.specs.Records.{entry_of, read_def, Record};
 ghost use Rattle.def_reader.specs.EntryViews.{EntryAt};
@@ -83,7 +82,7 @@ pub fn listing_entry<'t>(text: &'t [u8], name: &[u8], owner: &[u8], pin: &[u8]) 
 
 /// An entry that was found, with its tokens.
 pub fn with_tokens<'t>(found: Option<Read<'t>>) -> Option<(Entry<'t>, TokenRun<'t>)>
-    ensures gives { option_map entry_seen result ≡ (option_map located_view found.entry >>= entry_with) }
+    ensures gives { option_map entry_seen result ≡ entry_with (option_map located_view found.entry) }
     ensures lent { (text : List ℕ) → IfSome found.entry (λ x. ReadIn text x) → IfSome result (λ x. EntryAt (pieces_of x.1) x.0 × (x.1.text.now ≡ text)) }
 {
     let Some(read) = found else {

@@ -1,14 +1,12 @@
 //! The pins that a net can be connected to.
 
-ghost use Rattle.std.specs.Prelude.{◌≡◌, ◌&&◌, not, codes, if◌then◌else◌, List, Ok, IsOk};
+ghost use Rattle.std.specs.Prelude.{◌≡◌, List, Ok, IsOk};
 ghost use Rattle.std.specs.List.{filter_map, list_any};
 ghost use Rattle.design_model.specs.declared.mode.Section.TheVariants.{Pins};
-ghost use Rattle.form_meanings.specs.Words.{◌>>=◌, is_word};
-ghost use Rattle.def_grammar.specs.Components.{Component};
 ghost use Rattle.def_grammar.specs.Records.{entry_of, read_def, Record};
-ghost use Rattle.lef_grammar.specs.Library.{macro_named};
-ghost use Rattle.entry_rules.specs.Unknown.{component_named, stands_in};
+ghost use Rattle.entry_rules.specs.Unknown.{stands_in};
 ghost use Rattle.edit_rules.specs.NetEdits.{has_pin, is_pin, lists};
+ghost use Rattle.def_splice.specs.NetViews.{macro_of, names_pin};
 
 use crate::lookups::component_entry;
 use crate::names::is_name_text;
@@ -40,7 +38,7 @@ fn has_pin<A: Allocator + Copy>(
     pin: &[u8],
 ) -> bool
     requires { IsOk (read_def text.now) }
-    ensures { (design : List Record) → read_def text.now ≡ Ok design → result ≡ has_pin pin.now (component_named design component.now >>= λ (d : Component). macro_named library.now d.cell) }
+    ensures { (design : List Record) → read_def text.now ≡ Ok design → result ≡ has_pin pin.now (macro_of library.now design component.now) }
 {
     records_are_read::<Statement<'_>>();
     let Some((parts, _)) = component_entry(text, component) else {
@@ -60,7 +58,7 @@ fn names_pin<A: Allocator + Copy>(
     pin: &[u8],
 ) -> bool
     requires { IsOk (read_def text.now) }
-    ensures { (design : List Record) → read_def text.now ≡ Ok design → result ≡ (if is_word (codes "PIN") owner.now then stands_in design Pins pin.now else not (is_word (codes "VPIN") owner.now) && has_pin pin.now (component_named design owner.now >>= λ (d : Component). macro_named library.now d.cell)) }
+    ensures { (design : List Record) → read_def text.now ≡ Ok design → result ≡ names_pin library.now design owner.now pin.now }
 {
     if is_word(owner, b"PIN") {
         return is_design_pin(text, pin);
