@@ -1,9 +1,10 @@
 -- The tokens of an entry of a net before and behind one of its terminals, counted.
-use Rattle.std.proofs.Common.{◌≡◌, ◌≤◌, ◌<◌, ◌+◌, ◌-◌, ℕ, suc, Bool, true, false, not, List, [], ◌∷◌, length, take_while, drop, refl, sym, ap, ◌∙◌, arith, length-drop, length-append}
+use Rattle.std.proofs.Common.{◌≡◌, ◌≤◌, ◌<◌, ◌+◌, ◌-◌, ℕ, suc, Bool, true, false, not, List, [], ◌∷◌, length, take_while, drop, Some, refl, sym, ap, ◌∙◌, arith, length-drop, length-append}
 use Rattle.std.specs.List.{list_any}
 use Rattle.std.proofs.lemmas.List.Sums.{take_while-cons}
 use Rattle.form_meanings.specs.Meaning.{spell_all}
-use Rattle.statement_model.specs.Form.{spell}
+use Rattle.form_meanings.specs.Words.{Rest}
+use Rattle.statement_model.specs.Form.{read, spell}
 use Rattle.statement_model.specs.Tokens.{Token, without_first}
 use Rattle.def_grammar.specs.Terminals.{Terminal, terminal}
 use Rattle.lefdef_tokens.specs.Places.{behind, past}
@@ -27,6 +28,10 @@ module _ (ts : List Terminal) (ps : List Token) (left : ℕ) (is : left ≡ leng
 
   pub end_is : front_of ts ≤ length ps → length ps - left ≡ front_of ts
   end_is fits = let n = is ∙ left_behind (spell_all (spell terminal) ts) ps in omega (arith, n, fits)
+
+-- a terminal that is read leaves so many words fewer
+pub words_left : (r : Rest) (t : Terminal) (later : Rest) → read terminal r ≡ Some (t, later) → length r.words ≡ length (spell terminal t) + length later.words
+words_left r t later reads = ap length (terminal.exact.shows r (t, later) reads).words ∙ length-append (spell terminal t) later.words
 
 -- the first of some elements passes a test, or doesn't
 module _ {A : Type 0} (t : A → Bool) (x : A) (xs : List A) where

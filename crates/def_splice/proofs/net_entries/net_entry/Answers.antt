@@ -12,4 +12,4 @@ returns-in-Some-clause-gives c = λ design reads.
 pub returns-clause-gives : goal.returns-clause-gives
 returns-clause-gives c = λ design reads.
     let none = sym (c.entry_named.ensures.gives design reads) ∙ ap (option_map located_view) c.in_default.is in
-    special_found c.records_are_read.ensures.located c.args.text.now design reads c.args.name.now _ none (c.entry_named-in_default.ensures.gives design reads)
+    special_found c.records_are_read.ensures.located c.args.text.now design reads c.args.name.now _ none (c.entry_named-2.ensures.gives design reads)
