@@ -66,11 +66,11 @@ module _ (library : Library) (text name : List ℕ) (change : NetChange) (design
   abbrev found : Option (List Token × Entry)
   found = entry_with (entry_at (section_of_net change name design) name (located text design))
 
-  pub unknown_net : {A : Type 0} → None ≡ found → MakesSplices {A = A} library text (of_net name change) (Err (Refused UnknownName))
-  unknown_net {A} none =
+  pub unknown_net : (A : Type 0) → None ≡ found → MakesSplices {A = A} library text (of_net name change) (Err (Refused UnknownName))
+  unknown_net A none =
       let plan = refused_plan UnknownName in
       let is = unplanned library design change (entry_at (section_of_net change name design) name (located text design)) none in
-      makes library text (of_net name change) design reads plan is {A} (Err (Refused UnknownName)) (refused text plan UnknownName refl)
+      makes library text (of_net name change) design reads plan is {A = A} (Err (Refused UnknownName)) (refused text plan UnknownName refl)
 
   module _ (x : List Token × Entry) (is : Some x ≡ found) where
     pub net_planned : plan_of library text design (of_net name change) ≡ plan_of_entry library design change x.0 x.1

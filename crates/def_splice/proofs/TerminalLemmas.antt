@@ -13,7 +13,7 @@ use Rattle.edit_laws.proofs.NetEntries.{terminal_words}
 use Rattle.edit_rules.specs.NetEdits.{before_terminal, front_of, is_terminal, tokens_of_first, tokens_of_terminals}
 use Rattle.def_splice.specs.NetViews.{IsAround, tokens_before, tokens_taken}
 
-pub past_two : (ps : List Token) → length (past 2 ps) ≡ length ps - 2
+past_two : (ps : List Token) → length (past 2 ps) ≡ length ps - 2
 past_two [] = refl
 past_two (p ∷ []) = refl
 past_two (p ∷ q ∷ ps) = omega arith
@@ -102,14 +102,3 @@ module _ (c p : List ℕ) where
 
   pub none_found : (all : List Terminal) (count : ℕ) (left : List Terminal) (here : ℕ) → Going all count left here → left ≡ [] → list_any (is_terminal c p) all ≡ false
   none_found all count left here going none = going.listed ∙ ap (list_any (is_terminal c p)) none
-
-  -- so its place is counted from the entry's first token
-  module _ (ts : List Terminal) (ps : List Token) (count before after : ℕ) (around : IsAround c p ts count before after) (left : count ≡ length ps - 2) where
-    pub place_is : length ps - before ≡ front_of (before_terminal c p ts)
-    place_is = omega (arith, around.first, around.some, left)
-
-    pub own_is : before - after ≡ tokens_taken c p ts
-    own_is = omega (arith, around.own)
-
-    pub is_within : (length ps - before) + (before - after) ≤ length ps
-    is_within = omega (arith, around.first, around.some, left)

@@ -1,6 +1,7 @@
 use Rattle.std.proofs.Common.{◌≡◌, ◌≤◌, ◌∷◌, [], length, None, Some, Err, ap, sym, subst, ◌∙◌, refl}
 use Rattle.std.specs.Option.{option_map}
 use Rattle.def_grammar.specs.Records.{read_def}
+use Rattle.edit_model.specs.declared.edit.EditRefusal.TheVariants.{Refused}
 use Rattle.edit_rules.specs.NetEdits.{connect_to, front_of, plan_of_entry, terminal_text, terminals_of}
 use Rattle.edit_rules.specs.Plans.{lowest}
 use Rattle.def_splice.specs.NetViews.{connect_refusals, entry_seen, entry_with}
@@ -16,7 +17,7 @@ returns-in_default-clause-makes g c =
     let read = design_of (read_def c.args.text.now) c.requires.reads in
     let change = connect_to c.args.owner.now c.args.pin.now in
     let none = sym (ap (option_map entry_seen) c.in_default.is) ∙ c.with_tokens.ensures.gives ∙ ap entry_with (c.net_entry.ensures.gives read.0 read.1) in
-    unknown_net c.args.library.now c.args.text.now c.args.net.now change read.0 read.1 none
+    unknown_net c.args.library.now c.args.text.now c.args.net.now change read.0 read.1 g.row.A.Denot none
 
 pub returns-in-Some-connect_refusal-clause-makes : goal.returns-in-Some-connect_refusal-clause-makes
 returns-in-Some-connect_refusal-clause-makes g c =
@@ -27,7 +28,7 @@ returns-in-Some-connect_refusal-clause-makes g c =
     let found = sym (ap (option_map entry_seen) c.in-Some.is) ∙ c.with_tokens.ensures.gives ∙ ap entry_with (c.net_entry.ensures.gives read.0 read.1) in
     let plan = plan_of_entry c.args.library.now read.0 change x.0 x.1 in
     let code = c.in-Some-connect_refusal.code in
-    net_makes {A = g.row.A.Denot} c.args.library.now text c.args.net.now change read.0 read.1 x found text refl _ (refused text plan code (sym (c.connect_refusal.ensures read.0 read.1) ∙ c.in-Some-connect_refusal.is))
+    net_makes c.args.library.now text c.args.net.now change read.0 read.1 x found {A = g.row.A.Denot} text refl (Err (Refused code)) (refused text plan code (sym (c.connect_refusal.ensures read.0 read.1) ∙ c.in-Some-connect_refusal.is))
 
 pub entry_connected-requires-clause-within : goal.entry_connected-requires-clause-within
 entry_connected-requires-clause-within g c =

@@ -14,7 +14,7 @@ returns-in_default-clause-makes g c =
     let read = design_of (read_def c.args.text.now) c.requires.reads in
     let change = disconnect_from c.args.owner.now c.args.pin.now in
     let none = sym (ap (option_map entry_seen) c.in_default.is) ∙ c.with_tokens.ensures.gives ∙ ap entry_with (c.listing_entry.ensures.gives read.0 read.1) in
-    unknown_net c.args.library.now c.args.text.now c.args.net.now change read.0 read.1 none
+    unknown_net c.args.library.now c.args.text.now c.args.net.now change read.0 read.1 g.row.A.Denot none
 
 pub returns-clause-makes : goal.returns-clause-makes
 returns-clause-makes g c =
