@@ -7,6 +7,7 @@ ghost use Rattle.edit_rules.specs.Edits.{change_of};
 ghost use Rattle.def_splice.specs.SpliceViews.{AreInOrder, MakesSplices};
 
 use crate::component::{place_splices, remaster_splices, unplace_splices};
+use crate::net::{connect_splices, disconnect_splices};
 use crate::section::{add_splices, block_splices, remove_splices};
 use cell_library::library::Library;
 use design_model::MAX_TEXT;
@@ -36,6 +37,10 @@ pub fn splices<A: Allocator + Copy>(
         Edit::Unplace { component } => unplace_splices(alloc, library, text, component),
         Edit::Remaster { component, cell } => remaster_splices(
             alloc, library, text, component, cell,
+        ),
+        Edit::Connect { net, owner, pin } => connect_splices(alloc, library, text, net, owner, pin),
+        Edit::Disconnect { net, owner, pin } => disconnect_splices(
+            alloc, library, text, net, owner, pin,
         ),
         Edit::Add { component, cell } => add_splices(alloc, library, text, component, cell),
         Edit::Remove { component } => remove_splices(alloc, library, text, component),
