@@ -17,7 +17,10 @@ ghost use Rattle.def_splice.specs.SpliceViews.{AreCuts, AreInOrder, MakesSplices
 ghost use Rattle.def_splice.specs.LookupViews.{section_plan_of, MayPut, StandWithin};
 
 use crate::fitting::two_splices;
-use crate::lookups::{component_entry, end_of, entries_in, has_macro, has_section, header_of, is_listed, is_unknown_layer};
+use crate::lookups::{
+    component_entry, end_of, entries_in, has_macro, has_section, header_of, is_listed,
+    is_unknown_layer,
+};
 use crate::names::is_component_name;
 use crate::place::{is_held, is_out};
 use crate::section_texts::{blockage_text, component_text, count_text};

@@ -1,4 +1,4 @@
-use Rattle.std.proofs.Common.{◌≡◌, ◌≤◌, ◌∷◌, [], None, length, ap, sym, ◌∙◌, refl, true, not}
+use Rattle.std.proofs.Common.{◌≡◌, ◌∷◌, [], None, ap, sym, ◌∙◌, refl, true}
 use Rattle.std.proofs.lemmas.Result.{err_from_is_err_and}
 use Rattle.edit_rules.specs.ComponentEdits.{is_known_macro, remaster_plan}
 use Rattle.edit_rules.specs.Plans.{lowest}

@@ -1,4 +1,4 @@
-use Rattle.std.proofs.Common.{◌≡◌, ◌≤◌, ◌+◌, ◌-◌, true, nat_lt, length, arith, refl, sym, ap, ◌∙◌}
+use Rattle.std.proofs.Common.{◌-◌, nat_lt, length, arith, sym, ap, ◌∙◌}
 use Rattle.def_splice.proofs.LongLemmas.{later, left_length, order_later, overfull, room_left}
 use Rattle.def_splice.proofs.fitting.is_long.Goals as goal
 

@@ -1,5 +1,4 @@
 use Rattle.std.proofs.Common.{◌≡◌, length, drop, map, nat_lt}
-use Rattle.design_model.specs.declared.TheConstants.{MAX_TEXT}
 use Rattle.edit_rules.specs.Plans.{is_long}
 use Rattle.statement_model.specs.Cuts.{cut_from}
 use Rattle.def_splice.specs.SpliceViews.{cut_view, made, AreInOrder}

@@ -1,4 +1,4 @@
-use Rattle.std.proofs.Common.{◌≡◌, ◌+◌, ◌≤◌, [], length, ap, sym, ◌∙◌, arith, refl}
+use Rattle.std.proofs.Common.{length, ap, sym, ◌∙◌, arith}
 use Rattle.design_model.specs.declared.mode.Mode.TheVariants.{Top}
 use Rattle.lefdef_tokens.specs.Views.{pieces_of}
 use Rattle.statement_reader.specs.Located.{located_at}

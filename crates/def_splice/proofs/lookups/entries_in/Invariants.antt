@@ -1,4 +1,4 @@
-use Rattle.std.proofs.Common.{◌≡◌, ◌≤◌, ◌+◌, ◌-◌, length, map}
+use Rattle.std.proofs.Common.{◌≡◌, ◌≤◌, ◌+◌, ◌-◌, length}
 use Rattle.design_model.specs.declared.mode.Mode.TheVariants.{Top}
 use Rattle.statement_reader.specs.Located.{located_at}
 use Rattle.def_grammar.specs.Records.{def}

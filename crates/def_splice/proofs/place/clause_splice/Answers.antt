@@ -2,7 +2,7 @@ use Rattle.std.proofs.Common.{◌-◌, length, take, ap, ◌∙◌}
 use Rattle.std.proofs.lemmas.List.{length-map}
 use Rattle.lefdef_tokens.specs.TokenViews.{span_of}
 use Rattle.lefdef_tokens.specs.Views.{pieces_of}
-use Rattle.def_splice.proofs.PlaceLemmas.{if_ok, span_end, span_start}
+use Rattle.def_splice.proofs.PlaceLemmas.{if_ok, span_end}
 use Rattle.def_splice.proofs.place.clause_splice.Goals as goal
 
 pub returns-in-None-clause-gives : goal.returns-in-None-clause-gives

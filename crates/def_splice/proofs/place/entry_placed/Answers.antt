@@ -1,9 +1,9 @@
-use Rattle.std.proofs.Common.{◌≡◌, ◌||◌, false, None, ◌∷◌, [], length, ap, refl, sym, rules, arith, ◌∙◌}
+use Rattle.std.proofs.Common.{◌≡◌, false, ◌∷◌, [], length, ap, refl, rules, arith, ◌∙◌}
 use Rattle.std.proofs.lemmas.Result.{err_from_is_err_and}
 use Rattle.std.specs.Option.{option_map}
 use Rattle.def_grammar.specs.Placing.{placing, is_held}
 use Rattle.edit_rules.specs.ComponentEdits.{is_out, place_change, place_plan, placed_text}
-use Rattle.edit_rules.specs.Plans.{cut_of, lowest}
+use Rattle.edit_rules.specs.Plans.{cut_of}
 use Rattle.lefdef_tokens.specs.Views.{pieces_of}
 use Rattle.place_parts.specs.ClauseViews.{clause_view}
 use Rattle.place_parts.specs.ComponentViews.{component_view}

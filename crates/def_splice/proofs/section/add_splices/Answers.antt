@@ -1,4 +1,4 @@
-use Rattle.std.proofs.Common.{◌≡◌, None, List, ℕ, ap, sym, subst, ◌∙◌, refl, rules}
+use Rattle.std.proofs.Common.{◌≡◌, None, List, ℕ, sym, subst, ◌∙◌, refl, rules}
 use Rattle.std.proofs.lemmas.Result.{err_from_is_err_and}
 use Rattle.design_model.specs.declared.mode.Section.TheVariants.{Components}
 use Rattle.def_grammar.specs.Located.{located}
