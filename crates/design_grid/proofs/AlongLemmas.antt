@@ -83,5 +83,5 @@ line_placed a b n fa fb few =
     let fits : SFits w64 (pos n *ℤ b) = fits_signed_mul w64 (pos n) b (2 ^ 31) (2 ^ 31) few near (omega arith) in
     let small : unsigned_abs (pos n *ℤ b) ≤ 2 ^ 62 = omega (arith, unsigned_abs-mul (pos n) b, mul-le-mul few near) in
     let past : to_z w64 (of_z w64 (to_z w64 n *ℤ to_z w64 (of_z w64 (to_z w32 (of_z w32 b))))) ≡ pos n *ℤ b =
-        ap (λ (x : ℤ). to_z w64 (of_z w64 x)) (ap₂ (λ (x y : ℤ). x *ℤ y) (to_z_pos w64 n (omega arith)) (wide b fb)) ∙ to_z-of_z w64 (pos n *ℤ b) fits in
+    ap (λ (x : ℤ). to_z w64 (of_z w64 x)) (ap₂ (λ (x y : ℤ). x *ℤ y) (to_z_pos w64 n (omega arith)) (wide b fb)) ∙ to_z-of_z w64 (pos n *ℤ b) fits in
     ap (λ (x : ℤ). to_z w64 (of_z w64 x)) (ap₂ (λ (x y : ℤ). x +ℤ y) (wide a fa) past) ∙ to_z-of_z w64 (a +ℤ pos n *ℤ b) (sum_near a (pos n *ℤ b) fa small)

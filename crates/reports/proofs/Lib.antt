@@ -1,7 +1,7 @@
-mod BoxSteps
-mod CellAnswers
-mod DensitySteps
-mod MeasuredSteps
-mod NetAnswers
-mod TableLemmas
-mod TotalSteps
+pub mod BoxSteps
+pub mod CellAnswers
+pub mod DensitySteps
+pub mod MeasuredSteps
+pub mod NetAnswers
+pub mod TableLemmas
+pub mod TotalSteps

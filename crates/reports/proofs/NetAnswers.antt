@@ -5,7 +5,6 @@ use Rattle.std.specs.Option.{option_map}
 use Rattle.std.specs.Str.{bytes_eq}
 use Rattle.std.proofs.lemmas.List.{length-map}
 use Rattle.std.proofs.lemmas.List.Sums.{sum-map, sum_by-cons}
-use Rattle.std.proofs.lemmas.Slice.Eq.{bytes_eq-Decides}
 use Rattle.design_model.specs.Geometry.{Rectangle}
 use Rattle.form_meanings.specs.Firsts.{find_named, has_name}
 use Rattle.def_grammar.specs.Records.{Record}
@@ -19,12 +18,7 @@ use Rattle.measure_laws.specs.LengthLaws.{NoneIsLonger}
 use Rattle.drawn_parts.specs.DrawnLengths.{capped}
 use Rattle.design_wires.proofs.FirstLemmas.{firsts_found}
 use Rattle.reports.specs.MeasuredNets.{MeasuredNet, firsts, measured, name_of}
-
-bytes_eq_sym : (a b : List ℕ) → bytes_eq a b ≡ bytes_eq b a
-bytes_eq_sym a b = grind (arith, bytes_eq-Decides)
-
-same_bytes : (a b : List ℕ) → bytes_eq a b ≡ true → a ≡ b
-same_bytes a b t = grind (arith, bytes_eq-Decides)
+use Rattle.reports.proofs.TableLemmas.{bytes_eq_sym, same_bytes}
 
 abbrev length_in : MeasuredNet → ℕ
 length_in n = n.net_length

@@ -12,10 +12,10 @@ use Rattle.form_meanings.specs.Firsts.{find_named, has_name, with_first}
 use Rattle.reports.specs.MeasuredNets.{MeasuredNet, entry_view, measures_view, name_of}
 use Rattle.reports.specs.declared.net_table.Measures.{Measures}
 
-bytes_eq_sym : (a b : List ℕ) → bytes_eq a b ≡ bytes_eq b a
+pub bytes_eq_sym : (a b : List ℕ) → bytes_eq a b ≡ bytes_eq b a
 bytes_eq_sym a b = grind (arith, bytes_eq-Decides)
 
-same_bytes : (a b : List ℕ) → bytes_eq a b ≡ true → a ≡ b
+pub same_bytes : (a b : List ℕ) → bytes_eq a b ≡ true → a ≡ b
 same_bytes a b t = grind (arith, bytes_eq-Decides)
 
 abbrev Entry : Type 0 → Type 0
