@@ -1,11 +1,11 @@
 -- Lines along one axis, and lines that are put in one after the other.
-use Rattle.std.proofs.Common.{◌≡◌, ℕ, zero, suc, ◌+◌, ◌-◌, ◌<◌, ◌≤◌, true, false, List, [], ◌∷◌, ◌++◌, drop, flat_map, get_or, length, map, refl, sym, ap, ap₂, ◌∙◌, add-one, append_assoc, drop-cons, arith, ℤ, pos, negsuc, ◌+ℤ◌, ◌*ℤ◌, ◌*◌, ◌^◌, to_z, of_z, w32, w64}
+use Rattle.std.proofs.Common.{◌≡◌, ℕ, zero, suc, ◌+◌, ◌-◌, ◌<◌, ◌≤◌, true, false, List, [], ◌∷◌, ◌++◌, flat_map, map, refl, sym, ap, ap₂, ◌∙◌, add-one, append_assoc, arith, ℤ, pos, negsuc, ◌+ℤ◌, ◌*ℤ◌, ◌^◌, to_z, of_z, w32, w64}
 use Rattle.std.proofs.Math.Nat.{mul-le-mul}
 use Rattle.std.proofs.lemmas.Int.{fits_signed_mul, ints, to_z-of_z, to_z_pos, unsigned_abs-mul}
 use Rattle.std.specs.Int.RustNames.{unsigned_abs}
 use mir.Val.{SFits}
 use Rattle.std.proofs.lemmas.List.{append-nil}
-use Rattle.def_grammar.specs.Grids.{Axis, along_x, along_y, GcellGrid, GridLines}
+use Rattle.def_grammar.specs.Grids.{Axis, along_x, along_y, GridLines}
 use Rattle.def_grammar.specs.Records.{Record, top}
 use Rattle.def_grammar.specs.Top as tops
 use Rattle.shape_rules.specs.Classes.{numbers}
