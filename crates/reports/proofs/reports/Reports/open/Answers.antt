@@ -1,9 +1,9 @@
-use Rattle.std.proofs.Common.{◌≡◌, List, map, refl, sym, ap, ap₂, ◌∙◌, ℕ, flat_map, sum}
+use Rattle.std.proofs.Common.{ap, ap₂, flat_map, map, refl, sum, ◌∙◌}
 use Rattle.std.specs.Option.{option_map}
 use Rattle.design_model.specs.Views.{rectangle_of}
 use Rattle.connection_rules.specs.NetLines.{NetShape, shapes_of_net}
 use Rattle.form_meanings.specs.Firsts.{find_named}
-use Rattle.design_rules.specs.Boxes.{scale}
+use Rattle.design_rules.specs.Boxes.{boxes, scale}
 use Rattle.drawn_parts.specs.DrawnLengths.{capped}
 use Rattle.measure_rules.specs.Lengths.{length_of}
 use Rattle.net_lists.specs.OwnedShapes.{head_of}
@@ -26,7 +26,7 @@ returns g c =
     let lengths_are = c.deref.ensures.value ∙ c.in_ok-measured.ensures.lengths in
     let table_is = c.in_ok-nets.ensures ∙ ap₂ (λ ns ls. firsts (measured ns ls)) nets_are lengths_are in
     let shapes = c.shapes.result.now in
-    let boxes_are = c.in_ok-boxes.ensures ∙ ? in
+    let boxes_are = ap (map boxed_view) c.deref-2.ensures.value ∙ c.in_ok-boxes.ensures ∙ ap (boxes library) c.records.ensures in
     record {
       net_length = λ name. ap (λ ns. option_map (λ (n : MeasuredNet). n.net_length) (find_named name_of ns name)) table_is ∙ length_is library design u no_longer few name;
       net_box = λ name. ap (λ ns. option_map (λ (n : MeasuredNet). n.net_box) (find_named name_of ns name)) table_is ∙ box_is library design u (λ n. capped (length_of library design u n)) name;
