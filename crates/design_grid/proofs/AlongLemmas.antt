@@ -1,11 +1,11 @@
 -- Lines along one axis, and lines that are put in one after the other.
-use Rattle.std.proofs.Common.{◌≡◌, ℕ, zero, suc, ◌+◌, ◌-◌, ◌<◌, ◌≤◌, true, false, List, [], ◌∷◌, ◌++◌, drop, flat_map, get_or, length, map, refl, sym, ap, ap₂, ◌∙◌, add-one, append_assoc, drop-cons, arith, ℤ, pos, negsuc, ◌+ℤ◌, ◌*ℤ◌, ◌*◌, ◌^◌, to_z, of_z, w32, w64}
+use Rattle.std.proofs.Common.{◌≡◌, ℕ, zero, suc, ◌+◌, ◌-◌, ◌<◌, ◌≤◌, true, false, List, [], ◌∷◌, ◌++◌, flat_map, map, refl, sym, ap, ap₂, ◌∙◌, add-one, append_assoc, arith, ℤ, pos, negsuc, ◌+ℤ◌, ◌*ℤ◌, ◌^◌, to_z, of_z, w32, w64}
 use Rattle.std.proofs.Math.Nat.{mul-le-mul}
 use Rattle.std.proofs.lemmas.Int.{fits_signed_mul, ints, to_z-of_z, to_z_pos, unsigned_abs-mul}
 use Rattle.std.specs.Int.RustNames.{unsigned_abs}
 use mir.Val.{SFits}
 use Rattle.std.proofs.lemmas.List.{append-nil}
-use Rattle.def_grammar.specs.Grids.{Axis, along_x, along_y, GcellGrid, GridLines}
+use Rattle.def_grammar.specs.Grids.{Axis, along_x, along_y, GridLines}
 use Rattle.def_grammar.specs.Records.{Record, top}
 use Rattle.def_grammar.specs.Top as tops
 use Rattle.shape_rules.specs.Classes.{numbers}
@@ -83,5 +83,5 @@ line_placed a b n fa fb few =
     let fits : SFits w64 (pos n *ℤ b) = fits_signed_mul w64 (pos n) b (2 ^ 31) (2 ^ 31) few near (omega arith) in
     let small : unsigned_abs (pos n *ℤ b) ≤ 2 ^ 62 = omega (arith, unsigned_abs-mul (pos n) b, mul-le-mul few near) in
     let past : to_z w64 (of_z w64 (to_z w64 n *ℤ to_z w64 (of_z w64 (to_z w32 (of_z w32 b))))) ≡ pos n *ℤ b =
-        ap (λ (x : ℤ). to_z w64 (of_z w64 x)) (ap₂ (λ (x y : ℤ). x *ℤ y) (to_z_pos w64 n (omega arith)) (wide b fb)) ∙ to_z-of_z w64 (pos n *ℤ b) fits in
+    ap (λ (x : ℤ). to_z w64 (of_z w64 x)) (ap₂ (λ (x y : ℤ). x *ℤ y) (to_z_pos w64 n (omega arith)) (wide b fb)) ∙ to_z-of_z w64 (pos n *ℤ b) fits in
     ap (λ (x : ℤ). to_z w64 (of_z w64 x)) (ap₂ (λ (x y : ℤ). x +ℤ y) (wide a fa) past) ∙ to_z-of_z w64 (a +ℤ pos n *ℤ b) (sum_near a (pos n *ℤ b) fa small)

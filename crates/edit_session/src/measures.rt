@@ -14,10 +14,10 @@ use reports::Reports;
 use std::alloc::{AllocError, Allocator};
 
 /// The lengths and boxes of all nets of a text that reads, and its cells. The text is read once.
-pub(crate) fn reports_of<A: Allocator + Copy>(
+pub(crate) fn reports_of<'t, A: Allocator + Copy>(
     alloc: A,
-    library: &Library<'_, A>,
-    text: &[u8],
+    library: &'t Library<'_, A>,
+    text: &'t [u8],
 ) -> Result<Reports<A>, AllocError>
     requires { IsOk (read_def text.now) }
     ensures { IfOk result (AnswersOn library.now text.now) }

@@ -45,10 +45,10 @@ impl<A: Allocator> Model for Reports<A> {
 
 impl<A: Allocator + Copy> Reports<A> {
     /// Measures a design whose text reads, so that its scale, its lengths and the lines of its grid are in range.
-    pub fn open(
+    pub fn open<'t>(
         alloc: A,
-        library: &Library<'_, A>,
-        names: &Names<'_, '_, A>,
+        library: &'t Library<'_, A>,
+        names: &Names<'_, 't, A>,
     ) -> Result<Reports<A>, AllocError>
         requires some { 0 < scale names.now }
         requires few { scale names.now ≤ 100000 }

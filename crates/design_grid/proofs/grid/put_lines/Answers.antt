@@ -1,4 +1,4 @@
-use Rattle.std.proofs.Common.{rules, arith, ℕ, ℤ, map, nat_abs, sym, ap, ◌∙◌, ◌++◌, ◌∷◌, [], ◌<◌, ◌≤◌}
+use Rattle.std.proofs.Common.{rules, ℕ, nat_abs, ◌<◌, ◌≤◌}
 use Rattle.def_grammar.specs.Numbers.{int_of}
 use Rattle.measure_rules.specs.GridCells.{line_at}
 use Rattle.place_parts.specs.GridViews.{lines_view}

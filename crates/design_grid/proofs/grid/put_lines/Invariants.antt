@@ -1,4 +1,4 @@
-use Rattle.std.proofs.Common.{◌≡◌, ◌≤◌, ◌^◌, ◌++◌, ◌-◌, map, nat_abs}
+use Rattle.std.proofs.Common.{◌≡◌, ◌++◌, ◌-◌, map, nat_abs}
 use Rattle.def_grammar.specs.Numbers.{int_of}
 use Rattle.shape_rules.specs.Classes.{numbers}
 use Rattle.measure_rules.specs.GridCells.{line_at}

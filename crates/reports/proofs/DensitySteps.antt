@@ -1,0 +1,40 @@
+-- Densities of shapes that are added one after the other.
+use Rattle.std.proofs.Common.{◌≡◌, ℕ, ◌+◌, ◌<◌, ◌≤◌, ◌==◌, List, [], ◌∷◌, ◌++◌, Some, get_or, length, map, take, refl, sym, ap, ap₂, ◌∙◌, ℤ, arith, if◌then◌else◌}
+use Rattle.std.proofs.lemmas.List.{length-append, map-append, take_all, take_more}
+use Rattle.std.proofs.lemmas.List.Sums.{sum_by_push}
+use Rattle.design_model.specs.Geometry.{Rectangle}
+use Rattle.lef_grammar.specs.Measures.{Shape}
+use Rattle.measure_rules.specs.Density.{area_on, common_area, density}
+use Rattle.measure_rules.specs.GridCells.{cell_among}
+use Rattle.cell_sums.specs.Tables.{Adds, CellTable, IsNew, sums}
+use Rattle.reports.specs.Densities.{HoldsDensities}
+
+module _ (columns rows : List ℤ) where
+  -- nothing was added
+  pub none_held : (t : CellTable) → IsNew columns rows t → HoldsDensities columns rows [] t
+  none_held t new = record { columns_are = new.columns; rows_are = new.rows; count = new.added; densities = λ layer i j cell e. new.sums layer i j }
+
+  -- one more
+  one_held : (shapes : List Shape) (s : Shape) (old new : CellTable) → HoldsDensities columns rows shapes old → Adds s.layer s.box old new → HoldsDensities columns rows (shapes ++ s ∷ []) new
+  one_held shapes s old new held adds = record {
+    columns_are = adds.columns ∙ held.columns_are;
+    rows_are = adds.rows ∙ held.rows_are;
+    count = adds.added ∙ ap (λ n. n + 1) held.count ∙ sym (length-append shapes (s ∷ []));
+    densities = λ layer i j cell e.
+        let there : cell_among old.columns old.rows i j ≡ Some cell = ap₂ (λ cs rs. cell_among cs rs i j) held.columns_are held.rows_are ∙ e in
+        adds.sums layer i j cell there
+        ∙ ap (λ n. n + (if s.layer == layer then common_area cell s.box else 0)) (held.densities layer i j cell e)
+        ∙ sym (sum_by_push (area_on layer cell) shapes s);
+  }
+
+  module _ {X : Type 0} (view : X → Shape) (xs : List X) where
+    pub next_held : (i : ℕ) (x : X) (layer : ℕ) (box : Rectangle) (old new : CellTable) → i < length xs → x ≡ get_or xs i x → record { layer = layer; box = box } ≡ view x
+        → HoldsDensities columns rows (map view (take i xs)) old → Adds layer box old new → HoldsDensities columns rows (map view (take (i + 1) xs)) new
+    next_held i x layer box old new below is seen held adds =
+        let before = take i xs in
+        let more : take (i + 1) xs ≡ before ++ x ∷ [] = take_more xs i x below ∙ ap (λ y. before ++ y ∷ []) (sym is) in
+        let mapped : map view (take (i + 1) xs) ≡ map view before ++ view x ∷ [] = ap (map view) more ∙ map-append view before (x ∷ []) in
+        rw (mapped, ← seen) (one_held (map view before) (record { layer = layer; box = box }) old new held adds)
+
+    pub all_held : (i : ℕ) (t : CellTable) → length xs ≤ i → HoldsDensities columns rows (map view (take i xs)) t → HoldsDensities columns rows (map view xs) t
+    all_held i t past held = rw (take_all i xs past) at held

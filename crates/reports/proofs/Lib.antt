@@ -1,0 +1,7 @@
+pub mod BoxSteps
+pub mod CellAnswers
+pub mod DensitySteps
+pub mod MeasuredSteps
+pub mod NetAnswers
+pub mod TableLemmas
+pub mod TotalSteps
