@@ -1,3 +1,6 @@
+pub mod ClosedForms
+pub mod ClosedWiring
+pub mod CommentSteps
 pub mod LongLemmas
 pub mod OrderLemmas
 pub mod PlaceLemmas
@@ -5,4 +8,8 @@ pub mod PlanLemmas
 pub mod PutLemmas
 pub mod SearchSteps
 pub mod SpliceLemmas
+pub mod TextSteps
 pub mod TokenLemmas
+pub mod WiringLemmas
+pub mod WiringPlans
+pub mod WiringTexts

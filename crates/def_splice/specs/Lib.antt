@@ -1,2 +1,3 @@
 pub mod LookupViews
 pub mod SpliceViews
+pub mod WiringViews
