@@ -6,16 +6,13 @@ use Rattle.std.proofs.lemmas.Bool.{cases_Bool}
 use Rattle.statement_model.specs.Tokens.{Token}
 use Rattle.design_model.specs.declared.mode.Section.{Section}
 use Rattle.def_grammar.specs.Parts.{is_some}
-use Rattle.def_grammar.specs.Records.{component_of, def, Entry, Record, entry_of, read_def, section_of}
+use Rattle.def_grammar.specs.Records.{def, Entry, Record, entry_of, read_def, section_of}
 use Rattle.edit_rules.specs.SectionEdits.{entries_in, is_section, tokens_where}
-use Rattle.std.specs.Str.{bytes_eq}
-use Rattle.form_meanings.proofs.Steps.{some_same}
-use Rattle.def_grammar.specs.Components.{Component}
-use Rattle.def_grammar.specs.Located.{component_at, component_if, located, or_later}
+use Rattle.def_grammar.specs.Located.{located}
 use Rattle.design_model.specs.declared.mode.Mode.TheVariants.{Top}
 use Rattle.statement_reader.specs.ReadingLaws.{RecordsAreLocated}
-use Rattle.def_reader.proofs.RecordSteps.{located_is}
 use Rattle.def_splice.specs.LookupViews.{count_of, first_where, of_entry}
+use Rattle.def_splice.proofs.LocatedStatements.{located_is}
 
 module _ (test : Record → Bool) (front later : List (List Token × Record)) (ps : List Token) (rec : Record) (first : front ≡ (ps, rec) ∷ later) where
   pub here : test rec ≡ true → first_where test front ≡ Some (ps, rec)
@@ -46,7 +43,7 @@ tokens_of_first test [] = refl
 tokens_of_first test (x ∷ xs) = elim (cases_Bool (test x.1)) [ inl is ↦ rw is refl | inr other ↦ rw other (tokens_of_first test xs) ]
 
 -- an entry of which a test holds is one of the statements
-any_entry : (test : Entry → Bool) (rec : Record) (o : Option Entry) (rs : List Record) → entry_of rec ≡ o → list_any test (filter_map entry_of (rec ∷ rs)) ≡ (of_entry test o || list_any test (filter_map entry_of rs))
+pub any_entry : (test : Entry → Bool) (rec : Record) (o : Option Entry) (rs : List Record) → entry_of rec ≡ o → list_any test (filter_map entry_of (rec ∷ rs)) ≡ (of_entry test o || list_any test (filter_map entry_of rs))
 any_entry test rec None rs is = rw is refl
 any_entry test rec (Some e) rs is = rw is refl
 
@@ -63,31 +60,3 @@ module _ (law : RecordsAreLocated def) (text : List ℕ) (design : List Record) 
 pub is_there : (test : Record → Bool) (xs : List (List Token × Record)) → is_some (tokens_where test xs) ≡ not (not (list_any test (said xs)))
 is_there test [] = refl
 is_there test (x ∷ xs) = elim (cases_Bool (test x.1)) [ inl is ↦ rw is refl | inr other ↦ rw other (is_there test xs) ]
-
--- the statement whose tokens are found
-with_tokens : (test : Record → Bool) (o : Option (List Token × Record)) (ps : List Token) → option_map (λ (x : List Token × Record). x.0) o ≡ Some ps → (rec : Record) × (o ≡ Some (ps, rec))
-with_tokens test None ps h = absurd (cc)
-with_tokens test (Some x) ps h = (x.1, ap (λ (qs : List Token). Some (qs, x.1)) (some_same x.0 ps h))
-
-pub found_with : (test : Record → Bool) (xs : List (List Token × Record)) (ps : List Token) → tokens_where test xs ≡ Some ps → (rec : Record) × (first_where test xs ≡ Some (ps, rec))
-found_with test xs ps h = with_tokens test (first_where test xs) ps (sym (tokens_of_first test xs) ∙ h)
-
--- the entry of a component is one of its section
-abbrev pub has_name : List ℕ → Record → Bool
-has_name name r = is_some (component_if name [] (component_of r))
-
-named_if : (name : List ℕ) (ps : List Token) (o : Option Component) → option_map (λ (x : List Token × Component). x.0) (component_if name ps o) ≡ (if is_some (component_if name [] o) then Some ps else None)
-named_if name ps None = refl
-named_if name ps (Some c) = elim (cases_Bool (bytes_eq c.name name)) [ inl is ↦ rw is refl | inr other ↦ rw other refl ]
-
-later_or : (x y : Option (List Token × Component)) → option_map (λ (z : List Token × Component). z.0) (or_later x y) ≡ or_later (option_map (λ (z : List Token × Component). z.0) x) (option_map (λ (z : List Token × Component). z.0) y)
-later_or None y = refl
-later_or (Some x) y = refl
-
-pub component_found : (name : List ℕ) (xs : List (List Token × Record)) → option_map (λ (x : List Token × Component). x.0) (component_at name xs) ≡ tokens_where (has_name name) xs
-component_found name [] = refl
-component_found name (x ∷ xs) =
-    later_or (component_if name x.0 (component_of x.1)) (component_at name xs)
-    ∙ ap (λ (z : Option (List Token)). or_later z (option_map (λ (y : List Token × Component). y.0) (component_at name xs))) (named_if name x.0 (component_of x.1))
-    ∙ ap (or_later (if has_name name x.1 then Some x.0 else None)) (component_found name xs)
-    ∙ elim (cases_Bool (has_name name x.1)) [ inl is ↦ rw is refl | inr other ↦ rw other refl ]

@@ -1,12 +1,10 @@
 -- The tokens of a run, counted, and what they span.
-use Rattle.std.proofs.Common.{[], ◌∷◌, ◌≡◌, ℕ, zero, suc, List, length, take, sym, ap, ◌∙◌, refl, arith}
+use Rattle.std.proofs.Common.{◌≡◌, ℕ, zero, suc, List, length, take, sym, ap, ◌∙◌, refl, arith}
 use Rattle.std.proofs.lemmas.List.{length-map, length-take-le}
 use Rattle.statement_model.specs.Cuts.{end_of_all}
 use Rattle.statement_model.specs.Tokens.{Token, left_from}
 use Rattle.edit_rules.specs.Plans.{gap_after}
-use Rattle.def_splice.specs.SpliceViews.{change_cut}
 use Rattle.def_splice.proofs.PlaceLemmas.{isnt_zero}
-use Rattle.statement_model.specs.Reading.{pos_of}
 use Rattle.lefdef_tokens.specs.Views.{pieces_of, words_of}
 use Rattle.lefdef_tokens.specs.declared.token_run.TokenRun.{TokenRun}
 
@@ -24,9 +22,3 @@ pieces_counted run = sym (length-map (pieces_of run) (λ p. p.bytes))
 pub gap_behind : (n : ℕ) (ps : List Token) → ¬ (n ≡ 0) → gap_after n ps ≡ end_of_all (take n ps)
 gap_behind zero ps some = absurd (some refl)
 gap_behind (suc n) ps some = rw (isnt_zero (suc n) (omega arith)) refl
-
--- tokens that are taken from the first on begin where it does
-pub taken_from : (text : List ℕ) (ps : List Token) (n : ℕ) (put : List ℕ) → (change_cut text ps 0 n put).lo ≡ pos_of ps
-taken_from text ps zero put = refl
-taken_from text [] (suc n) put = rw (isnt_zero (suc n) (omega arith)) refl
-taken_from text (p ∷ ps) (suc n) put = rw (isnt_zero (suc n) (omega arith)) refl

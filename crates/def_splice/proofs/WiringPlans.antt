@@ -32,10 +32,12 @@ use Rattle.lefdef_tokens.specs.Places.{behind, past}
 use Rattle.lefdef_tokens.specs.Views.{pieces_of, words_of}
 use Rattle.lefdef_tokens.specs.declared.token_run.TokenRun.{TokenRun}
 use Rattle.lefdef_tokens.proofs.PlaceLemmas.{behind_is_drop}
+use Rattle.def_splice.specs.NetViews.{entry_with}
 use Rattle.def_splice.specs.SpliceViews.{FollowsAll, MakesSplices, change_cut, cut_view}
-use Rattle.def_splice.specs.WiringViews.{Clauses, IsWired, StandBehind, any_passes, are_wiring, clauses_in, is_other, is_said, is_wired, is_wired_entry, is_wired_record, left_of, nets_in, put_text, reads_wiring, route_refusals, route_so, said_in, section_of, shown, size_before, tokens_of, unroute_refusals, unroute_so, wiring_change, wiring_on}
+use Rattle.def_splice.specs.WiringViews.{Clauses, IsWired, StandBehind, any_passes, are_wiring, clauses_in, is_other, is_said, is_wired, is_wired_seen, left_of, nets_in, put_text, reads_wiring, route_refusals, route_so, said_in, section_of, shown, size_before, tokens_of, unroute_refusals, unroute_so, wiring_change, wiring_on}
 use Rattle.def_splice.specs.declared.wiring_clauses.EntryClauses.{EntryClauses}
 use Rattle.def_splice.specs.declared.wiring_clauses.NetSection.{NetSection}
+use Rattle.def_splice.proofs.NetPlans.{net_planned, planned, unplanned}
 use Rattle.def_splice.proofs.PlanLemmas.{makes, refused}
 use Rattle.def_splice.proofs.WiringLemmas.{any_shown, barred_same, before_size, none_same, taken_size}
 
@@ -205,7 +207,7 @@ module _ (library : Library) (text name : List ℕ) (design : List Record) (read
     routed_makes {A} bytes own_text r same follows =
         let so = route_so (pieces_of run) own_front bytes (left_of cs) (is_said (reads_wiring (section_of cs)) bytes) in
         let here : FollowsAll {A = A} text so r = subst (λ (t : List ℕ). FollowsAll {A = A} t so r) same follows in
-        let is : plan_of library text design (of_net name (route_by bytes)) ≡ own_plan (route_by bytes) = ap (net_plan library design (route_by bytes)) w.is in
+        let is : plan_of library text design (of_net name (route_by bytes)) ≡ own_plan (route_by bytes) = net_planned library text name (route_by bytes) design reads (pieces_of run, w.own) w.is in
         let entry_same = routed_same library design text (pieces_of run) own_front bytes w.own w.clauses.wired (within (route_by bytes) is) front_so in
         let shown_same = ap₂ (λ (xs : Clauses) (section : NetSection). outcome_of text (route_so (pieces_of run) own_front bytes xs (is_said (reads_wiring section) bytes))) w.clauses.shows w.clauses.section in
         makes library text (of_net name (route_by bytes)) design reads (own_plan (route_by bytes)) is r (follows_too text (own_plan (route_by bytes)) so r (entry_same ∙ shown_same) here)
@@ -215,7 +217,7 @@ module _ (library : Library) (text name : List ℕ) (design : List Record) (read
     unrouted_makes {A} own_text r same follows =
         let so = unroute_so (pieces_of run) own_front (left_of cs) in
         let here : FollowsAll {A = A} text so r = subst (λ (t : List ℕ). FollowsAll {A = A} t so r) same follows in
-        let is : plan_of library text design (of_net name unroute_all) ≡ own_plan unroute_all = ap (net_plan library design unroute_all) w.is in
+        let is : plan_of library text design (of_net name unroute_all) ≡ own_plan unroute_all = net_planned library text name unroute_all design reads (pieces_of run, w.own) w.is in
         let entry_same = unrouted_same library design text (pieces_of run) own_front w.own w.clauses.wired (within unroute_all is) front_so in
         let shown_same = ap (λ (xs : Clauses). outcome_of text (unroute_so (pieces_of run) own_front xs)) w.clauses.shows in
         makes library text (of_net name unroute_all) design reads (own_plan unroute_all) is r (follows_too text (own_plan unroute_all) so r (entry_same ∙ shown_same) here)
@@ -232,19 +234,24 @@ module _ (library : Library) (design : List Record) where
   unroute_unknown ps (special_net n) isnt = absurd (cc)
   unroute_unknown ps _ isnt = refl
 
-  -- an entry that is unknown to a change, or none
-  by_record : (change : NetChange) → ((ps : List Token) (e : Entry) → is_wired e ≡ false → plan_of_entry library design change ps e ≡ refused_plan UnknownName)
-      → (ps : List Token) (e : Option Entry) → is_wired_entry e ≡ false → plan_of_record library design change ps e ≡ refused_plan UnknownName
-  by_record change unknown ps None isnt = refl
-  by_record change unknown ps (Some e) isnt = unknown ps e isnt
+  by_seen : (change : NetChange) → ((ps : List Token) (e : Entry) → is_wired e ≡ false → plan_of_entry library design change ps e ≡ refused_plan UnknownName)
+      → (found : Option (List Token × Record)) (o : Option (List Token × Entry)) → o ≡ entry_with found → is_wired_seen o ≡ false → net_plan library design change found ≡ refused_plan UnknownName
+  by_seen change unknown found None is isnt = unplanned library design change found is
+  by_seen change unknown found (Some x) is isnt = planned library design change found x is ∙ unknown x.0 x.1 isnt
 
-  by_found : (change : NetChange) → ((ps : List Token) (e : Entry) → is_wired e ≡ false → plan_of_entry library design change ps e ≡ refused_plan UnknownName)
-      → (found : Option (List Token × Record)) → is_wired_record found ≡ false → net_plan library design change found ≡ refused_plan UnknownName
-  by_found change unknown None isnt = refl
-  by_found change unknown (Some x) isnt = by_record change unknown x.0 (entry_of x.1) isnt
+-- so its edit is refused
+module _ (library : Library) (text name : List ℕ) (design : List Record) (reads : read_def text ≡ Ok design) where
+  abbrev found_there : Option (List Token × Record)
+  found_there = entry_at (section_of_net unroute_all name design) name (located text design)
 
-  pub route_refused : (text : List ℕ) (bytes : List ℕ) (found : Option (List Token × Record)) → is_wired_record found ≡ false → outcome_of text (net_plan library design (route_by bytes) found) ≡ Err UnknownName
-  route_refused text bytes found isnt = ap (outcome_of text) (by_found (route_by bytes) (route_unknown bytes) found isnt)
+  pub route_refused : (A : Type 0) (bytes : List ℕ) → is_wired_seen (entry_with found_there) ≡ false → MakesSplices {A = A} library text (of_net name (route_by bytes)) (Err (Refused UnknownName))
+  route_refused A bytes isnt =
+      let plan = refused_plan UnknownName in
+      let is = by_seen library design (route_by bytes) (route_unknown library design bytes) found_there (entry_with found_there) refl isnt in
+      makes library text (of_net name (route_by bytes)) design reads plan is {A = A} (Err (Refused UnknownName)) (refused text plan UnknownName refl)
 
-  pub unroute_refused : (text : List ℕ) (found : Option (List Token × Record)) → is_wired_record found ≡ false → outcome_of text (net_plan library design unroute_all found) ≡ Err UnknownName
-  unroute_refused text found isnt = ap (outcome_of text) (by_found unroute_all unroute_unknown found isnt)
+  pub unroute_refused : (A : Type 0) → is_wired_seen (entry_with found_there) ≡ false → MakesSplices {A = A} library text (of_net name unroute_all) (Err (Refused UnknownName))
+  unroute_refused A isnt =
+      let plan = refused_plan UnknownName in
+      let is = by_seen library design unroute_all (unroute_unknown library design) found_there (entry_with found_there) refl isnt in
+      makes library text (of_net name unroute_all) design reads plan is {A = A} (Err (Refused UnknownName)) (refused text plan UnknownName refl)

@@ -1,14 +1,16 @@
 -- Statements that a test finds among those of a text.
 use Rattle.std.specs.Prelude.{ℕ, Bool, true, false, List, [], ◌∷◌, Option, Some, None, if◌then◌else◌}
 use Rattle.std.specs.List.{list_any}
+use Rattle.design_model.specs.declared.mode.Section.{Section}
 use Rattle.statement_model.specs.Tokens.{Token}
 use Rattle.def_grammar.specs.Records.{Entry, Record}
 use Rattle.def_grammar.specs.Terminals.{Terminal}
 use Rattle.def_grammar.specs.Located.{component_at, located}
 use Rattle.lef_grammar.specs.Library.{Library}
-use Rattle.edit_rules.specs.Plans.{Plan}
-use Rattle.edit_rules.specs.SectionEdits.{SectionChange, section_plan}
+use Rattle.edit_rules.specs.Plans.{Plan, StatementChange}
+use Rattle.edit_rules.specs.SectionEdits.{SectionChange, putting, section_plan}
 use Rattle.edit_rules.specs.NetEdits.{terminals_of}
+use Rattle.edit_laws.specs.PlanLaws.{StandInOrder}
 
 -- the first of which a test holds, with its tokens
 abbrev pub first_where : (Record → Bool) → List (List Token × Record) → Option (List Token × Record)
@@ -32,3 +34,11 @@ count_of false = 0
 -- the plan of an edit of a section, of a text with this design
 abbrev pub section_plan_of : Library → List ℕ → List Record → SectionChange → Plan
 section_plan_of library text design change = section_plan library (located text design) design (λ name. component_at name (located text design)) change
+
+-- changes lie within their statements, and their cuts stand in order within a text
+abbrev pub StandWithin : List ℕ → List (List Token × StatementChange) → Type 0
+StandWithin text changes = StandInOrder text (record { refusals = []; changes = changes })
+
+-- so do those that put these bytes into a section of a text with this design, whatever entry they say
+abbrev pub MayPut : List ℕ → List Record → Section → List ℕ → Type 0
+MayPut text design section put = (said : Entry) × StandWithin text (putting section put said (located text design) design)

@@ -12,7 +12,7 @@ use Rattle.statement_model.specs.Tokens.{Open, Token, between, comment, string, 
 use Rattle.def_grammar.specs.Clauses.{KeptClause}
 use Rattle.def_grammar.specs.Nets.{is_net, net_clause}
 use Rattle.def_grammar.specs.Parts.{is_some}
-use Rattle.def_grammar.specs.Records.{Entry, Record, entry, entry_of, net, special_net}
+use Rattle.def_grammar.specs.Records.{Entry, Record, net, special_net}
 use Rattle.def_grammar.specs.SpecialNets.{special_clause}
 use Rattle.def_grammar.specs.Terminals.{Terminal, terminal}
 use Rattle.lefdef_tokens.specs.Places.{behind, past}
@@ -22,6 +22,7 @@ use Rattle.wire_parts.specs.NetViews.{net_by_word, net_clauses_of}
 use Rattle.wire_parts.specs.SpecialNetViews.{special_by_word, special_clauses_of}
 use Rattle.edit_rules.specs.NetEdits.{Role, apart, wiring, barring, is_barring, is_held, is_wiring, net_role, opens_comment, special_role, terminals_of, whole_text}
 use Rattle.edit_rules.specs.Plans.{Plan, StatementChange}
+use Rattle.def_splice.specs.NetViews.{entry_with}
 use Rattle.def_splice.specs.declared.wiring_clauses.Role as code_role
 use Rattle.def_splice.specs.declared.wiring_clauses.Role.TheVariants as roles
 use Rattle.def_splice.specs.declared.wiring_clauses.RoleTest as code_test
@@ -124,23 +125,19 @@ pub record AreOf (e : Entry) (cs : code_clauses.EntryClauses) : Type 0 where
   pub shows : clauses_in e ≡ left_of cs
   pub section : nets_in e ≡ section_of cs
 
-abbrev pub is_wired_entry : Option Entry → Bool
-is_wired_entry None = false
-is_wired_entry (Some e) = is_wired e
+abbrev pub is_wired_seen : Option (List Token × Entry) → Bool
+is_wired_seen None = false
+is_wired_seen (Some x) = is_wired x.1
 
-abbrev pub is_wired_record : Option (List Token × Record) → Bool
-is_wired_record None = false
-is_wired_record (Some x) = is_wired_entry (entry_of x.1)
-
--- of the statement that was found, these are the clauses and the tokens
+-- of the entry that was found, these are the clauses and the tokens
 pub record IsWired (found : Option (List Token × Record)) (cs : code_clauses.EntryClauses) (run : TokenRun) : Type 0 where
   pub own : Entry
-  pub is : found ≡ Some (pieces_of run, entry own)
+  pub is : Some (pieces_of run, own) ≡ entry_with found
   pub clauses : AreOf own cs
   pub stand : StandBehind (pieces_of run) (terminals_of own) cs
 
 abbrev pub FoundWired : Option (List Token × Record) → Option (code_clauses.EntryClauses × TokenRun) → Type 0
-FoundWired found None = is_wired_record found ≡ false
+FoundWired found None = is_wired_seen (entry_with found) ≡ false
 FoundWired found (Some x) = IsWired found x.0 x.1
 
 -- What a text says, by a reading of its words with a ; behind them.

@@ -1,12 +1,11 @@
 //! The splices of an edit of a section: an entry put last into it, or taken out.
 
-ghost use Rattle.std.specs.Prelude.{◌≡◌, ◌≤◌, ◌||◌, length, List, Ok, Some, IfOk, IsOk};
-ghost use Rattle.std.specs.Option.{option_map};
+ghost use Rattle.std.specs.Prelude.{◌≡◌, ◌≤◌, ◌||◌, length, List, Ok, IfOk, IsOk};
 ghost use Rattle.design_model.specs.declared.TheConstants.{MAX_TEXT};
 ghost use Rattle.design_model.specs.declared.mode.Section.TheVariants.{Components};
 ghost use Rattle.statement_model.specs.Form.{spell};
 ghost use Rattle.def_grammar.specs.Components.{component_form};
-ghost use Rattle.def_grammar.specs.Located.{component_at, located};
+ghost use Rattle.def_grammar.specs.Located.{located};
 ghost use Rattle.def_grammar.specs.Placing.{is_held, placing};
 ghost use Rattle.def_grammar.specs.Records.{read_def, Entry, Record};
 ghost use Rattle.lefdef_tokens.specs.Views.{pieces_of, words_of};
@@ -15,7 +14,7 @@ ghost use Rattle.edit_rules.specs.Edits.{lent, of_section};
 ghost use Rattle.edit_rules.specs.Plans.{cuts_for, lowest};
 ghost use Rattle.edit_rules.specs.SectionEdits.{add_blockage, add_component, putting, remove_component, taking};
 ghost use Rattle.def_splice.specs.SpliceViews.{AreCuts, AreInOrder, MakesSplices};
-ghost use Rattle.def_splice.specs.LookupViews.{section_plan_of};
+ghost use Rattle.def_splice.specs.LookupViews.{section_plan_of, MayPut, StandWithin};
 
 use crate::fitting::two_splices;
 use crate::lookups::{component_entry, end_of, entries_in, has_macro, has_section, header_of, is_listed, is_unknown_layer};
@@ -27,6 +26,7 @@ use cell_library::library::Library;
 use design_model::MAX_TEXT;
 use design_model::mode::Section;
 use design_model::sequence::Sequence;
+use edit_laws::editing::edits_stand_in_order;
 use edit_model::edit::{EditCode, EditRefusal, Splices};
 use lefdef_tokens::TokenRun;
 use place_parts::component_parts::ComponentParts;
@@ -42,6 +42,7 @@ fn entry_put<A: Allocator + Copy>(
 ) -> Result<Splices<A>, EditRefusal>
     requires fits { length text.now ≤ MAX_TEXT }
     requires reads { IsOk (read_def text.now) }
+    requires stand { (design : List Record) → read_def text.now ≡ Ok design → MayPut text.now design section put.now }
     ensures cuts { (design : List Record) → (said : Entry) → read_def text.now ≡ Ok design → AreCuts text.now (cuts_for text.now (putting section put.now said (located text.now design) design)) result }
     ensures order { IfOk result (λ ss. AreInOrder 0 ss (length text.now)) }
 {
@@ -99,6 +100,7 @@ pub fn add_splices<A: Allocator + Copy>(
         return Err(EditRefusal::Refused(code));
     }
     let put = component_text(alloc, component, cell)?;
+    edits_stand_in_order();
     entry_put(alloc, text, Section::Components, &put)
 }
 
@@ -148,6 +150,7 @@ pub fn block_splices<A: Allocator + Copy>(
         return Err(EditRefusal::Refused(code));
     }
     let put = blockage_text(alloc, layer, x1, y1, x2, y2)?;
+    edits_stand_in_order();
     entry_put(alloc, text, Section::Blockages, &put)
 }
 
@@ -155,13 +158,12 @@ pub fn block_splices<A: Allocator + Copy>(
 fn entry_taken<'t, A: Allocator + Copy>(
     alloc: A,
     text: &'t [u8],
-    component: &[u8],
     entry: TokenRun<'t>,
 ) -> Result<Splices<A>, EditRefusal>
     requires fits { length text.now ≤ MAX_TEXT }
     requires reads { IsOk (read_def text.now) }
     requires same { entry.text.now ≡ text.now }
-    requires found { (design : List Record) → read_def text.now ≡ Ok design → option_map (λ x. x.0) (component_at component.now (located text.now design)) ≡ Some (pieces_of entry) }
+    requires stand { (design : List Record) → read_def text.now ≡ Ok design → StandWithin text.now (taking Components (pieces_of entry) (located text.now design) design) }
     ensures cuts { (design : List Record) → read_def text.now ≡ Ok design → AreCuts text.now (cuts_for text.now (taking Components (pieces_of entry.entry) (located text.now design) design)) result }
     ensures order { IfOk result (λ ss. AreInOrder 0 ss (length text.now)) }
 {
@@ -207,5 +209,6 @@ pub fn remove_splices<A: Allocator + Copy>(
     if is_listed(text, component) {
         return Err(EditRefusal::Refused(EditCode::Connection));
     }
-    entry_taken(alloc, text, component, entry)
+    edits_stand_in_order();
+    entry_taken(alloc, text, entry)
 }

@@ -12,12 +12,11 @@ ghost use Rattle.def_splice.specs.SpliceViews.{AreInOrder, FollowsAll, MakesSpli
 ghost use Rattle.def_splice.specs.WiringViews.{is_said, put_text, reads_wiring, route_refusals, route_so, unroute_refusals, unroute_so, FoundWired};
 
 use crate::fitting::one_splice;
-use crate::net_entries::net_entry;
+use crate::net_entries::{net_entry, with_tokens};
 use crate::token_splices::change_splice;
 use crate::wiring_clauses::{EntryClauses, NetSection, RoleTest, WiringClauses, any, is_barred, wiring_place};
 use crate::wiring_text::is_wiring;
 use cell_library::library::Library;
-use def_reader::statement::Statement;
 use design_model::MAX_TEXT;
 use design_model::sequence::Sequence;
 use edit_laws::editing::edits_stand_in_order;
@@ -31,11 +30,7 @@ fn wired_entry<'t>(text: &'t [u8], net: &[u8]) -> Option<(EntryClauses<'t>, Toke
     ensures gives { (design : List Record) → read_def text.now ≡ Ok design → FoundWired (entry_at (section_of_net unroute_all net.now design) net.now (located text.now design)) result }
     ensures text { IfSome result (λ x. x.1.text.now ≡ text.now) }
 {
-    let Some(read) = net_entry(text, net) else {
-        return None;
-    };
-    let tokens = read.tokens;
-    let Statement::Entry(entry) = read.statement else {
+    let Some((entry, tokens)) = with_tokens(net_entry(text, net)) else {
         return None;
     };
     let Some(clauses) = EntryClauses::of(&entry) else {

@@ -6,10 +6,11 @@ use Rattle.def_grammar.specs.Records.{read_def}
 use Rattle.edit_rules.specs.Edits.{of_section}
 use Rattle.edit_rules.specs.Plans.{cuts_for, lowest, outcome_of}
 use Rattle.edit_rules.specs.SectionEdits.{add_component, component_text, new_component, putting}
-use Rattle.def_splice.specs.LookupViews.{section_plan_of}
+use Rattle.def_splice.specs.LookupViews.{StandWithin, section_plan_of}
 use Rattle.def_splice.specs.SpliceViews.{AreCuts}
 use Rattle.def_splice.proofs.PlaceLemmas.{design_of}
 use Rattle.def_splice.proofs.PlanLemmas.{follows, makes, refused, wants}
+use Rattle.def_splice.proofs.StandingLemmas.{of_plan}
 use Rattle.def_splice.proofs.section.add_splices.Goals as goal
 
 pub returns-in-Some-clause-makes : goal.returns-in-Some-clause-makes
@@ -25,6 +26,17 @@ returns-in_err-put-clause-makes g c =
     let free : lowest plan.refusals ≡ None = sym (c.add_refusal.ensures read.0 read.1) ∙ c.in_default.is in
     let p = err_from_is_err_and c.from_residual.result c.from_residual.ensures.1 in
     rw (p.1, p.2) (outcome_of c.args.text.now plan, (read.0, read.1, refl), wants c.args.text.now plan free)
+
+pub entry_put-requires-clause-stand : goal.entry_put-requires-clause-stand
+entry_put-requires-clause-stand g c = λ design reads.
+    let text = c.args.text.now in
+    let change = add_component c.args.component.now c.args.cell.now in
+    let plan = section_plan_of c.args.library.now text design change in
+    let free : lowest plan.refusals ≡ None = sym (c.add_refusal.ensures design reads) ∙ c.in_default.is in
+    let put : c.deref.result.now ≡ component_text c.args.component.now c.args.cell.now = search rules in
+    let said = new_component c.args.component.now c.args.cell.now in
+    let stand = of_plan text plan (c.edits_stand_in_order.ensures c.args.library.now text design (of_section change) reads free) in
+    (said, subst (λ (bytes : List ℕ). StandWithin text (putting Components bytes said (located text design) design)) (sym put) stand)
 
 pub returns-clause-makes : goal.returns-clause-makes
 returns-clause-makes g c =

@@ -1,7 +1,9 @@
-use Rattle.std.proofs.Common.{◌≡◌, None, Some, List, false, ap, sym, ◌∙◌, refl}
+use Rattle.std.proofs.Common.{◌≡◌, None, Option, Some, List, false, ap, sym, subst, ◌∙◌, refl}
 use Rattle.std.specs.List.{filter_map, list_any}
 use Rattle.std.specs.Option.{option_map}
 use Rattle.design_model.specs.declared.mode.Section.TheVariants.{Components}
+use Rattle.statement_model.specs.Tokens.{Token}
+use Rattle.def_grammar.specs.Components.{Component}
 use Rattle.def_grammar.specs.Located.{component_at, located}
 use Rattle.def_grammar.specs.Placing.{is_held, placing}
 use Rattle.def_grammar.specs.Records.{entry_of, read_def}
@@ -11,10 +13,24 @@ use Rattle.edit_rules.specs.SectionEdits.{lists_of, remove_component, taking, to
 use Rattle.lefdef_tokens.specs.Views.{pieces_of}
 use Rattle.place_parts.specs.ComponentViews.{component_view}
 use Rattle.def_reader.specs.RecordViews.{entry_view}
-use Rattle.def_splice.specs.LookupViews.{section_plan_of}
+use Rattle.def_splice.specs.LookupViews.{StandWithin, section_plan_of}
 use Rattle.def_splice.proofs.PlaceLemmas.{design_of}
 use Rattle.def_splice.proofs.PlanLemmas.{follows, makes}
+use Rattle.def_splice.proofs.StandingLemmas.{of_plan}
 use Rattle.def_splice.proofs.section.remove_splices.Goals as goal
+
+pub entry_taken-requires-clause-stand : goal.entry_taken-requires-clause-stand
+entry_taken-requires-clause-stand g c = λ design reads.
+    let text = c.args.text.now in
+    let name = c.args.component.now in
+    let all = located text design in
+    let plan = section_plan_of c.args.library.now text design (remove_component name) in
+    let found : component_at name all ≡ Some (entry_view (c.in-Some.parts, c.in-Some.entry)) = sym (c.component_entry.ensures.gives design reads) ∙ ap (option_map entry_view) c.in-Some.is in
+    let held : is_held (placing (component_view c.in-Some.parts).clauses) ≡ false = sym c.stays.ensures ∙ c.if-stays.false in
+    let listed : list_any (lists_of name) (filter_map entry_of design) ≡ false = sym (c.is_listed.ensures design reads) ∙ c.if-is_listed.false in
+    let free : lowest plan.refusals ≡ None = rw (found, held, listed) refl in
+    let stand = of_plan text plan (c.edits_stand_in_order.ensures c.args.library.now text design (of_section (remove_component name)) reads free) in
+    subst (λ (o : Option (List Token × Component)). StandWithin text (taking Components (tokens_of_found o) all design)) found stand
 
 pub returns-clause-makes : goal.returns-clause-makes
 returns-clause-makes g c =

@@ -3,8 +3,8 @@ use Rattle.lefdef_tokens.specs.Views.{pieces_of}
 use Rattle.statement_reader.specs.Located.{located_at}
 use Rattle.def_grammar.specs.Records.{def}
 use Rattle.def_reader.specs.StatementViews.{record_view}
-use Rattle.def_reader.proofs.RecordSteps.{located_is}
 use Rattle.def_splice.specs.LookupViews.{first_where}
+use Rattle.def_splice.proofs.LocatedStatements.{located_is}
 use Rattle.def_splice.proofs.SearchSteps.{here, goes_on}
 use Rattle.def_splice.proofs.statement_search.first_statement.Goals as goal
 

@@ -1,0 +1,141 @@
+//! The splices of an edit of a net's terminals.
+
+ghost use Rattle.std.specs.Prelude.{◌≡◌, ◌≤◌, ◌∷◌, [], length, List, Ok, IfOk, IsOk};
+ghost use Rattle.design_model.specs.declared.TheConstants.{MAX_TEXT};
+ghost use Rattle.def_grammar.specs.Records.{read_def, Record};
+ghost use Rattle.lef_grammar.specs.Library.{Library as TheLibrary};
+ghost use Rattle.lefdef_tokens.specs.Views.{pieces_of, words_of};
+ghost use Rattle.def_reader.specs.EntryViews.{EntryAt, entry_view};
+ghost use Rattle.edit_rules.specs.Edits.{of_net};
+ghost use Rattle.edit_rules.specs.NetEdits.{connect_to, disconnect_from, front_of, plan_of_entry, terminal_text, terminals_of};
+ghost use Rattle.edit_rules.specs.Plans.{lowest};
+ghost use Rattle.def_splice.specs.NetViews.{connect_refusals};
+ghost use Rattle.def_splice.specs.SpliceViews.{change_cut, AreCuts, AreInOrder, FollowsAll, MakesSplices};
+
+use crate::fitting::one_splice;
+use crate::net_entries::{listing_entry, net_entry, with_tokens};
+use crate::net_pins::{is_connected, is_pin};
+use crate::net_terminals::{terminal_tokens, tokens_to_end};
+use crate::terminals::Named;
+use crate::token_splices::change_splice;
+use cell_library::library::Library;
+use def_reader::entry::Entry;
+use design_model::MAX_TEXT;
+use edit_laws::editing::edits_stand_in_order;
+use edit_model::edit::{EditCode, EditRefusal, Splices};
+use lefdef_tokens::TokenRun;
+use std::alloc::{AllocError, Allocator};
+
+/// `( owner pin )`, with a space before it.
+fn terminal_text<A: Allocator>(alloc: A, owner: &[u8], pin: &[u8]) -> Result<Vec<u8, A>, AllocError>
+    ensures { IfOk result (λ v. v.items ≡ terminal_text owner.now pin.now) }
+{
+    let mut put = Vec::from_slice(alloc, b" ( ")?;
+    put.extend_from_slice(owner)?;
+    put.push(b' ')?;
+    put.extend_from_slice(pin)?;
+    put.extend_from_slice(b" )")?;
+    Ok(put)
+}
+
+/// The splice that puts a terminal behind those of an entry.
+fn entry_connected<'t, A: Allocator + Copy>(
+    alloc: A,
+    entry: &Entry<'t>,
+    tokens: TokenRun<'t>,
+    owner: &[u8],
+    pin: &[u8],
+) -> Result<Splices<A>, EditRefusal>
+    requires lent { EntryAt (pieces_of tokens) entry.now }
+    requires within { front_of (terminals_of (entry_view entry.now)) ≤ length (words_of tokens) }
+    ensures cuts { AreCuts tokens.entry.text.now (change_cut tokens.entry.text.now (pieces_of tokens.entry) (front_of (terminals_of (entry_view entry.now))) 0 (terminal_text owner.now pin.now) ∷ []) result }
+    ensures order { IfOk result (λ ss. AreInOrder 0 ss (length tokens.entry.text.now)) }
+{
+    let put = terminal_text(alloc, owner, pin)?;
+    let before = tokens_to_end(entry, tokens);
+    let splice = change_splice(alloc, tokens, before, 0, &put)?;
+    one_splice(alloc, tokens.text, splice)
+}
+
+/// Why a terminal isn't connected to a net.
+fn connect_refusal<A: Allocator + Copy>(
+    library: &Library<'_, A>,
+    text: &[u8],
+    owner: &[u8],
+    pin: &[u8],
+) -> Option<EditCode>
+    requires { IsOk (read_def text.now) }
+    ensures { (design : List Record) → read_def text.now ≡ Ok design → result ≡ lowest (connect_refusals library.now design owner.now pin.now) }
+{
+    if !is_pin(library, text, owner, pin) {
+        return Some(EditCode::UnknownName);
+    }
+    if is_connected(text, owner, pin) {
+        return Some(EditCode::Connection);
+    }
+    None
+}
+
+/// The splice that connects a pin to a net of a text that reads, or why that is refused.
+pub fn connect_splices<A: Allocator + Copy>(
+    alloc: A,
+    library: &Library<'_, A>,
+    text: &[u8],
+    net: &[u8],
+    owner: &[u8],
+    pin: &[u8],
+) -> Result<Splices<A>, EditRefusal>
+    requires fits { length text.now ≤ MAX_TEXT }
+    requires reads { IsOk (read_def text.now) }
+    ensures makes { MakesSplices library.now text.now (of_net net.now (connect_to owner.now pin.now)) result }
+    ensures order { IfOk result (λ ss. AreInOrder 0 ss (length text.now)) }
+{
+    edits_stand_in_order();
+    let Some((entry, tokens)) = with_tokens(net_entry(text, net)) else {
+        return Err(EditRefusal::Refused(EditCode::UnknownName));
+    };
+    if let Some(code) = connect_refusal(library, text, owner, pin) {
+        return Err(EditRefusal::Refused(code));
+    }
+    entry_connected(alloc, &entry, tokens, owner, pin)
+}
+
+/// The splice that takes a terminal out of an entry, or why that is refused.
+fn entry_disconnected<'t, A: Allocator + Copy>(
+    alloc: A,
+    entry: &Entry<'t>,
+    tokens: TokenRun<'t>,
+    owner: &[u8],
+    pin: &[u8],
+) -> Result<Splices<A>, EditRefusal>
+    requires { EntryAt (pieces_of tokens) entry.now }
+    ensures gives { (library : TheLibrary) → (design : List Record) → FollowsAll tokens.entry.text.now (plan_of_entry library design (disconnect_from owner.now pin.now) (pieces_of tokens.entry) (entry_view entry.now)) result }
+    ensures order { IfOk result (λ ss. AreInOrder 0 ss (length tokens.entry.text.now)) }
+{
+    let named = Named { owner, pin };
+    let Some((before, taken)) = terminal_tokens(entry, tokens, &named) else {
+        return Err(EditRefusal::Refused(EditCode::Connection));
+    };
+    let splice = change_splice(alloc, tokens, before, taken, b"")?;
+    one_splice(alloc, tokens.text, splice)
+}
+
+/// The splice that takes a terminal from a net of a text that reads, or why that is refused.
+pub fn disconnect_splices<A: Allocator + Copy>(
+    alloc: A,
+    library: &Library<'_, A>,
+    text: &[u8],
+    net: &[u8],
+    owner: &[u8],
+    pin: &[u8],
+) -> Result<Splices<A>, EditRefusal>
+    requires fits { length text.now ≤ MAX_TEXT }
+    requires reads { IsOk (read_def text.now) }
+    ensures makes { MakesSplices library.now text.now (of_net net.now (disconnect_from owner.now pin.now)) result }
+    ensures order { IfOk result (λ ss. AreInOrder 0 ss (length text.now)) }
+{
+    let Some((entry, tokens)) = with_tokens(listing_entry(text, net, owner, pin)) else {
+        return Err(EditRefusal::Refused(EditCode::UnknownName));
+    };
+    entry_disconnected(alloc, &entry, tokens, owner, pin)
+}
