@@ -343,10 +343,10 @@ module _ {B : Type 0} (body : Form B) (role : List (List ℕ) ⊎ (B ⊎ KeptCla
           (λ (is : is_subnet s ≡ true).
           let past : past_body body role r ≡ None = body_is ∙ ap (λ (x : Bool). if x then None else if_wiring body_role (body.of.read s)) is in
           let own : if_wiring role (read clause r) ≡ None =
-              ap (if_wiring role) (read_is ∙ ap (λ (x : Bool). if x then subnet s else other (body.of.read s) (kept_clause.of.read s)) is) ∙ subnet_is_none (key (codes "SUBNET") s >>= λ a. (upto is_semicolon).of.read a) in
+          ap (if_wiring role) (read_is ∙ ap (λ (x : Bool). if x then subnet s else other (body.of.read s) (kept_clause.of.read s)) is) ∙ subnet_is_none (key (codes "SUBNET") s >>= λ a. (upto is_semicolon).of.read a) in
           let later : if_wiring role (read clause (closed_rest r)) ≡ None =
-              ap (if_wiring role) (closed_is ∙ ap (λ (x : Bool). if x then subnet (closed_rest s) else other (closed_read (body.of.read s)) (kept_clause.of.read (closed_rest s))) is)
-              ∙ subnet_is_none (key (codes "SUBNET") (closed_rest s) >>= λ a. (upto is_semicolon).of.read a) in
+          ap (if_wiring role) (closed_is ∙ ap (λ (x : Bool). if x then subnet (closed_rest s) else other (closed_read (body.of.read s)) (kept_clause.of.read (closed_rest s))) is)
+          ∙ subnet_is_none (key (codes "SUBNET") (closed_rest s) >>= λ a. (upto is_semicolon).of.read a) in
           stopped (ap is_ended past) own later)
           (λ (isnt : is_subnet s ≡ false). by_body isnt (body.of.read s) refl)
           (cases (is_subnet s))

@@ -142,7 +142,7 @@ module _ {C : Type 0} (form : Form C) (role : C → Role) where
       let first = stopped (λ c. not (is_of_wiring form role c)) is_wiring (λ c. refl) c cs is in
       let here = passed (is_of_wiring form role) is_other (λ c. not_twice (is_wiring (role c))) c cs (ap not is) in
       let some : (length (wiring_of form role (c ∷ cs)) == 0) ≡ false =
-          ap (λ (before : List C). is_none (drop (length before) (c ∷ cs))) first ∙ ap (λ (ds : List C). length ds == 0) here ∙ never_none (length (take_while (is_of_wiring form role) cs)) in
+      ap (λ (before : List C). is_none (drop (length before) (c ∷ cs))) first ∙ ap (λ (ds : List C). length ds == 0) here ∙ never_none (length (take_while (is_of_wiring form role) cs)) in
       let any : any_passes is_wiring (all_of (c ∷ cs)) ≡ true = rw is refl in
       some ∙ sym (ap not any))
       (λ (no : is_wiring (role c) ≡ false).

@@ -101,8 +101,8 @@ module _ {C : Type 0} (form : Form C) (role : C → Role) where
         let says = said_same bytes in
         let barred = sym (barred_same form role cs) in
         let same : plan.refusals ≡ so.refusals =
-            ap (λ (b : Bool). (b, Fixed) ∷ (not (is_some (wiring_said form role bytes)), WiringText) ∷ (rules.is_barred form role cs, WiringApart) ∷ []) held
-            ∙ ap₂ (λ (b d : Bool). (any_passes is_held all, Fixed) ∷ (not b, WiringText) ∷ (d, WiringApart) ∷ []) says barred in
+        ap (λ (b : Bool). (b, Fixed) ∷ (not (is_some (wiring_said form role bytes)), WiringText) ∷ (rules.is_barred form role cs, WiringApart) ∷ []) held
+        ∙ ap₂ (λ (b d : Bool). (any_passes is_held all, Fixed) ∷ (not b, WiringText) ∷ (d, WiringApart) ∷ []) says barred in
         let put = if_turned (length (wiring_of form role cs) == 0) (any_passes is_wiring all) (32 ∷ bytes) bytes (none_same form role cs) in
         same_outcome text plan so same (λ free. ap (λ (c : Cut). c ∷ []) (cut_same (route_change form role front bytes cs said).put (put_text all bytes) (agrees free) put))
 

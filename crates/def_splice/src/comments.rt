@@ -14,9 +14,7 @@ pub enum Within {
     Between,
     Word,
     /// A string, with its last byte.
-    Quotes {
-        last: u8,
-    },
+    Quotes { last: u8 },
 }
 
 /// What a byte between two tokens opens, or `None` where that is a comment.

@@ -14,7 +14,9 @@ ghost use Rattle.def_splice.specs.WiringViews.{is_said, put_text, reads_wiring, 
 use crate::fitting::one_splice;
 use crate::net_entries::{net_entry, with_tokens};
 use crate::token_splices::change_splice;
-use crate::wiring_clauses::{EntryClauses, NetSection, RoleTest, WiringClauses, any, is_barred, wiring_place};
+use crate::wiring_clauses::{
+    EntryClauses, NetSection, RoleTest, WiringClauses, any, is_barred, wiring_place,
+};
 use crate::wiring_text::is_wiring;
 use cell_library::library::Library;
 use design_model::MAX_TEXT;

@@ -27,9 +27,7 @@ pub enum Role {
     /// None of it.
     Apart,
     /// Wiring, which may be held where it is.
-    Wiring {
-        held: bool,
-    },
+    Wiring { held: bool },
     /// It bars from changing the wiring, as what it means isn't read.
     Barring,
 }
