@@ -1,3 +1,6 @@
+pub mod ClosedForms
+pub mod ClosedWiring
+pub mod CommentSteps
 pub mod LocatedStatements
 pub mod LongLemmas
 pub mod NetLemmas
@@ -10,4 +13,8 @@ pub mod SearchSteps
 pub mod SpliceLemmas
 pub mod StandingLemmas
 pub mod TerminalLemmas
+pub mod TextSteps
 pub mod TokenLemmas
+pub mod WiringLemmas
+pub mod WiringPlans
+pub mod WiringTexts

@@ -1,3 +1,4 @@
 pub mod LookupViews
 pub mod NetViews
 pub mod SpliceViews
+pub mod WiringViews

@@ -1,12 +1,13 @@
 //! The bytes that an edit changes.
 //!
 //! Begin with `splices::splices` (the splices of an edit), `in_place::make_splices` (they are made in a text) and
-//! `spliced::spliced` (a text with them made). Each group of edits has a module: `component`, `net` and `section`. The statements that an edit is
-//! about are found by the functions of `lookups`. The definition is `Edits` of `edit_rules`: an edit is a plan (`Plans`), why it
-//! is refused and which statements it changes. Nothing is lent; a refusal is an `EditRefusal`, the lowest that applies, and want
-//! of memory comes after the refusals that need none.
+//! `spliced::spliced` (a text with them made). Each group of edits has a module: `component`, `net`, `wiring` and `section`. The
+//! statements that an edit is about are found by the functions of `lookups`. The definition is `Edits` of `edit_rules`: an edit
+//! is a plan (`Plans`), why it is refused and which statements it changes. Nothing is lent; a refusal is an `EditRefusal`, the
+//! lowest that applies, and want of memory comes after the refusals that need none.
 #![tactic(auto)]
 
+mod comments;
 pub mod component;
 mod fitting;
 pub mod in_place;
@@ -26,3 +27,7 @@ mod statement_kinds;
 mod statement_search;
 mod terminals;
 mod token_splices;
+pub mod wiring;
+mod wiring_bodies;
+mod wiring_clauses;
+mod wiring_text;

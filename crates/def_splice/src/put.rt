@@ -34,7 +34,7 @@ pub fn placed_text<A: Allocator>(
 }
 
 /// Whether a byte is white space.
-fn is_white(byte: u8) -> bool
+pub fn is_white(byte: u8) -> bool
     ensures { result ≡ is_white byte }
 {
     matches!(byte, b' ' | b'\t' | b'\r' | b'\n')

@@ -9,6 +9,7 @@ ghost use Rattle.def_splice.specs.SpliceViews.{AreInOrder, MakesSplices};
 use crate::component::{place_splices, remaster_splices, unplace_splices};
 use crate::net::{connect_splices, disconnect_splices};
 use crate::section::{add_splices, block_splices, remove_splices};
+use crate::wiring::{route_splices, unroute_splices};
 use cell_library::library::Library;
 use design_model::MAX_TEXT;
 use edit_model::edit::{Edit, EditRefusal, Splices};
@@ -42,6 +43,8 @@ pub fn splices<A: Allocator + Copy>(
         Edit::Disconnect { net, owner, pin } => disconnect_splices(
             alloc, library, text, net, owner, pin,
         ),
+        Edit::Route { net, wiring } => route_splices(alloc, library, text, net, wiring),
+        Edit::Unroute { net } => unroute_splices(alloc, library, text, net),
         Edit::Add { component, cell } => add_splices(alloc, library, text, component, cell),
         Edit::Remove { component } => remove_splices(alloc, library, text, component),
         Edit::Block {

@@ -1,0 +1,185 @@
+//! The splices of edits of the wiring of a net.
+
+ghost use Rattle.std.specs.Prelude.{◌≡◌, ◌≤◌, ◌-◌, length, List, Ok, IfOk, IfSome, IsOk};
+ghost use Rattle.design_model.specs.declared.TheConstants.{MAX_TEXT};
+ghost use Rattle.def_grammar.specs.Located.{entry_at, located};
+ghost use Rattle.def_grammar.specs.Records.{read_def, Record};
+ghost use Rattle.edit_rules.specs.Edits.{of_net};
+ghost use Rattle.edit_rules.specs.NetEdits.{route_by, section_of_net, unroute_all};
+ghost use Rattle.edit_rules.specs.Plans.{lowest};
+ghost use Rattle.lefdef_tokens.specs.Views.{pieces_of, words_of};
+ghost use Rattle.def_splice.specs.SpliceViews.{AreInOrder, FollowsAll, MakesSplices};
+ghost use Rattle.def_splice.specs.WiringViews.{is_said, put_text, reads_wiring, route_refusals, route_so, unroute_refusals, unroute_so, FoundWired};
+
+use crate::fitting::one_splice;
+use crate::net_entries::{net_entry, with_tokens};
+use crate::token_splices::change_splice;
+use crate::wiring_clauses::{
+    EntryClauses, NetSection, RoleTest, WiringClauses, any, is_barred, wiring_place,
+};
+use crate::wiring_text::is_wiring;
+use cell_library::library::Library;
+use design_model::MAX_TEXT;
+use design_model::sequence::Sequence;
+use edit_laws::editing::edits_stand_in_order;
+use edit_model::edit::{EditCode, EditRefusal, Splices};
+use lefdef_tokens::TokenRun;
+use std::alloc::{AllocError, Allocator};
+
+/// The clauses of the entry of a net, where it may have wiring, and the entry's tokens.
+fn wired_entry<'t>(text: &'t [u8], net: &[u8]) -> Option<(EntryClauses<'t>, TokenRun<'t>)>
+    requires { IsOk (read_def text.now) }
+    ensures gives { (design : List Record) → read_def text.now ≡ Ok design → FoundWired (entry_at (section_of_net unroute_all net.now design) net.now (located text.now design)) result }
+    ensures text { IfSome result (λ x. x.1.text.now ≡ text.now) }
+{
+    let Some((entry, tokens)) = with_tokens(net_entry(text, net)) else {
+        return None;
+    };
+    let Some(clauses) = EntryClauses::of(&entry) else {
+        return None;
+    };
+    Some((clauses, tokens))
+}
+
+/// Why wiring that a text says isn't put in the place of that of these clauses.
+fn route_refusal<C: WiringClauses>(
+    section: NetSection,
+    clauses: C,
+    wiring: &[u8],
+) -> Option<EditCode>
+    ensures { result ≡ lowest (route_refusals (C.left clauses) (is_said (reads_wiring section) wiring.now)) }
+{
+    if any(clauses, RoleTest::Held) {
+        return Some(EditCode::Fixed);
+    }
+    if !is_wiring(section, wiring) {
+        return Some(EditCode::WiringText);
+    }
+    if is_barred(clauses) {
+        return Some(EditCode::WiringApart);
+    }
+    None
+}
+
+/// Wiring as it is put: with a space before it where it takes no token's place.
+fn put_text<A: Allocator, C: WiringClauses>(
+    alloc: A,
+    clauses: C,
+    wiring: &[u8],
+) -> Result<Vec<u8, A>, AllocError>
+    ensures { IfOk result (λ v. v.items ≡ put_text (C.left clauses) wiring.now) }
+{
+    if any(clauses, RoleTest::Wiring) {
+        return Vec::from_slice(alloc, wiring);
+    }
+    let mut put = Vec::from_slice(alloc, b" ")?;
+    put.extend_from_slice(wiring)?;
+    Ok(put)
+}
+
+/// The splice that puts a text in the place of the wiring of an entry, or behind its clauses.
+fn entry_routed<'t, A: Allocator + Copy, C: WiringClauses>(
+    alloc: A,
+    section: NetSection,
+    entry: TokenRun<'t>,
+    clauses: C,
+    wiring: &[u8],
+) -> Result<Splices<A>, EditRefusal>
+    requires { C.tokens clauses ≤ length (words_of entry) }
+    ensures gives { FollowsAll entry.entry.text.now (route_so (pieces_of entry.entry) (length (words_of entry.entry) - C.tokens clauses) wiring.now (C.left clauses) (is_said (reads_wiring section) wiring.now)) result }
+    ensures order { IfOk result (λ ss. AreInOrder 0 ss (length entry.entry.text.now)) }
+{
+    if let Some(code) = route_refusal(section, clauses, wiring) {
+        return Err(EditRefusal::Refused(code));
+    }
+    let place = wiring_place(entry, clauses);
+    let put = put_text(alloc, clauses, wiring)?;
+    let splice = change_splice(alloc, entry, place.before, place.taken, &put)?;
+    one_splice(alloc, entry.text, splice)
+}
+
+/// The splice that puts a text in the place of the wiring of a net, in a text that reads, or why that is refused.
+pub fn route_splices<A: Allocator + Copy>(
+    alloc: A,
+    library: &Library<'_, A>,
+    text: &[u8],
+    net: &[u8],
+    wiring: &[u8],
+) -> Result<Splices<A>, EditRefusal>
+    requires fits { length text.now ≤ MAX_TEXT }
+    requires reads { IsOk (read_def text.now) }
+    ensures makes { MakesSplices library.now text.now (of_net net.now (route_by wiring.now)) result }
+    ensures order { IfOk result (λ ss. AreInOrder 0 ss (length text.now)) }
+{
+    edits_stand_in_order();
+    let Some((clauses, tokens)) = wired_entry(text, net) else {
+        return Err(EditRefusal::Refused(EditCode::UnknownName));
+    };
+    match clauses {
+        EntryClauses::Net(parts) => entry_routed(alloc, NetSection::Nets, tokens, parts, wiring),
+        EntryClauses::SpecialNet(parts) => entry_routed(
+            alloc,
+            NetSection::SpecialNets,
+            tokens,
+            parts,
+            wiring,
+        ),
+    }
+}
+
+/// Why the wiring of these clauses isn't taken out.
+fn unroute_refusal<C: WiringClauses>(clauses: C) -> Option<EditCode>
+    ensures { result ≡ lowest (unroute_refusals (C.left clauses)) }
+{
+    if any(clauses, RoleTest::Held) {
+        return Some(EditCode::Fixed);
+    }
+    if is_barred(clauses) {
+        return Some(EditCode::WiringApart);
+    }
+    None
+}
+
+/// The splice that takes the wiring out of an entry. There is none where it has no wiring.
+fn entry_unrouted<'t, A: Allocator + Copy, C: WiringClauses>(
+    alloc: A,
+    entry: TokenRun<'t>,
+    clauses: C,
+) -> Result<Splices<A>, EditRefusal>
+    requires fits { length entry.text.now ≤ MAX_TEXT }
+    requires within { C.tokens clauses ≤ length (words_of entry) }
+    ensures gives { FollowsAll entry.entry.text.now (unroute_so (pieces_of entry.entry) (length (words_of entry.entry) - C.tokens clauses) (C.left clauses)) result }
+    ensures order { IfOk result (λ ss. AreInOrder 0 ss (length entry.entry.text.now)) }
+{
+    if let Some(code) = unroute_refusal(clauses) {
+        return Err(EditRefusal::Refused(code));
+    }
+    if !any(clauses, RoleTest::Wiring) {
+        return Ok(Sequence::new(alloc));
+    }
+    let place = wiring_place(entry, clauses);
+    let splice = change_splice(alloc, entry, place.before, place.taken, b"")?;
+    one_splice(alloc, entry.text, splice)
+}
+
+/// The splice that takes the wiring of a net out of a text that reads, or why that is refused.
+pub fn unroute_splices<A: Allocator + Copy>(
+    alloc: A,
+    library: &Library<'_, A>,
+    text: &[u8],
+    net: &[u8],
+) -> Result<Splices<A>, EditRefusal>
+    requires fits { length text.now ≤ MAX_TEXT }
+    requires reads { IsOk (read_def text.now) }
+    ensures makes { MakesSplices library.now text.now (of_net net.now unroute_all) result }
+    ensures order { IfOk result (λ ss. AreInOrder 0 ss (length text.now)) }
+{
+    edits_stand_in_order();
+    let Some((clauses, tokens)) = wired_entry(text, net) else {
+        return Err(EditRefusal::Refused(EditCode::UnknownName));
+    };
+    match clauses {
+        EntryClauses::Net(parts) => entry_unrouted(alloc, tokens, parts),
+        EntryClauses::SpecialNet(parts) => entry_unrouted(alloc, tokens, parts),
+    }
+}
