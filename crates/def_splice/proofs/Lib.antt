@@ -1,6 +1,3 @@
-pub mod ClosedForms
-pub mod ClosedWiring
-pub mod CommentSteps
 pub mod LocatedStatements
 pub mod LongLemmas
 pub mod NetLemmas
@@ -13,8 +10,5 @@ pub mod SearchSteps
 pub mod SpliceLemmas
 pub mod StandingLemmas
 pub mod TerminalLemmas
-pub mod TextSteps
 pub mod TokenLemmas
-pub mod WiringLemmas
 pub mod WiringPlans
-pub mod WiringTexts

@@ -34,12 +34,13 @@ use Rattle.lefdef_tokens.specs.declared.token_run.TokenRun.{TokenRun}
 use Rattle.lefdef_tokens.proofs.PlaceLemmas.{behind_is_drop}
 use Rattle.def_splice.specs.NetViews.{entry_with}
 use Rattle.def_splice.specs.SpliceViews.{FollowsAll, MakesSplices, change_cut, cut_view}
-use Rattle.def_splice.specs.WiringViews.{Clauses, IsWired, StandBehind, any_passes, are_wiring, clauses_in, is_other, is_said, is_wired, is_wired_seen, left_of, nets_in, put_text, reads_wiring, route_refusals, route_so, said_in, section_of, shown, size_before, tokens_of, unroute_refusals, unroute_so, wiring_change, wiring_on}
-use Rattle.def_splice.specs.declared.wiring_clauses.EntryClauses.{EntryClauses}
-use Rattle.def_splice.specs.declared.wiring_clauses.NetSection.{NetSection}
+use Rattle.def_splice.specs.WiringPlanViews.{IsWired, is_wired_seen, put_text, route_refusals, route_so, unroute_refusals, unroute_so, wiring_change}
+use Rattle.net_wiring.specs.WiringViews.{Clauses, StandBehind, any_passes, are_wiring, clauses_in, is_other, is_said, is_wired, left_of, nets_in, reads_wiring, said_in, section_of, shown, size_before, tokens_of, wiring_on}
+use Rattle.net_wiring.specs.declared.wiring_clauses.EntryClauses.{EntryClauses}
+use Rattle.net_wiring.specs.declared.wiring_clauses.NetSection.{NetSection}
 use Rattle.def_splice.proofs.NetPlans.{net_planned, planned, unplanned}
 use Rattle.def_splice.proofs.PlanLemmas.{makes, refused}
-use Rattle.def_splice.proofs.WiringLemmas.{any_shown, barred_same, before_size, none_same, taken_size}
+use Rattle.net_wiring.proofs.WiringLemmas.{any_shown, barred_same, before_size, none_same, taken_size}
 
 -- plans with the same refusals have the same outcome, if their cuts are the same where nothing refuses them
 module _ (text : List ℕ) (plan so : Plan) (same : plan.refusals ≡ so.refusals) where

@@ -1,4 +1,4 @@
 pub mod LookupViews
 pub mod NetViews
 pub mod SpliceViews
-pub mod WiringViews
+pub mod WiringPlanViews

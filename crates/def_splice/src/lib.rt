@@ -7,7 +7,6 @@
 //! lowest that applies, and want of memory comes after the refusals that need none.
 #![tactic(auto)]
 
-mod comments;
 pub mod component;
 mod fitting;
 pub mod in_place;
@@ -28,6 +27,3 @@ mod statement_search;
 mod terminals;
 mod token_splices;
 pub mod wiring;
-mod wiring_bodies;
-mod wiring_clauses;
-mod wiring_text;

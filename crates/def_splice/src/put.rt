@@ -2,7 +2,6 @@
 
 ghost use Rattle.std.specs.Prelude.{◌≡◌, ◌≤◌, ◌++◌, drop, length, IfOk};
 ghost use Rattle.statement_model.specs.Cuts.{space_before};
-ghost use Rattle.statement_model.specs.Tokens.{is_white};
 ghost use Rattle.edit_rules.specs.ComponentEdits.{placed_text};
 ghost use Rattle.edit_rules.specs.Plans.{ends_open, put_apart, space_between};
 ghost use Rattle.def_splice.specs.SpliceViews.{cut_view};
@@ -11,6 +10,7 @@ use design_model::geometry::Orient;
 use design_model::sequence::Sequence;
 use edit_model::edit::Splice;
 use itoa::Buffer;
+use net_wiring::comments::is_white;
 use std::alloc::{AllocError, Allocator};
 use unit_numbers::print;
 
@@ -31,13 +31,6 @@ pub fn placed_text<A: Allocator>(
     put.extend_from_slice(b" ) ")?;
     put.extend_from_slice(orient.word())?;
     Ok(put)
-}
-
-/// Whether a byte is white space.
-pub fn is_white(byte: u8) -> bool
-    ensures { result ≡ is_white byte }
-{
-    matches!(byte, b' ' | b'\t' | b'\r' | b'\n')
 }
 
 /// Whether a byte behind these would be glued to them.

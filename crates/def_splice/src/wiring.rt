@@ -9,21 +9,22 @@ ghost use Rattle.edit_rules.specs.NetEdits.{route_by, section_of_net, unroute_al
 ghost use Rattle.edit_rules.specs.Plans.{lowest};
 ghost use Rattle.lefdef_tokens.specs.Views.{pieces_of, words_of};
 ghost use Rattle.def_splice.specs.SpliceViews.{AreInOrder, FollowsAll, MakesSplices};
-ghost use Rattle.def_splice.specs.WiringViews.{is_said, put_text, reads_wiring, route_refusals, route_so, unroute_refusals, unroute_so, FoundWired};
+ghost use Rattle.def_splice.specs.WiringPlanViews.{put_text, route_refusals, route_so, unroute_refusals, unroute_so, FoundWired};
+ghost use Rattle.net_wiring.specs.WiringViews.{is_said, reads_wiring};
 
 use crate::fitting::one_splice;
 use crate::net_entries::{net_entry, with_tokens};
 use crate::token_splices::change_splice;
-use crate::wiring_clauses::{
-    EntryClauses, NetSection, RoleTest, WiringClauses, any, is_barred, wiring_place,
-};
-use crate::wiring_text::is_wiring;
 use cell_library::library::Library;
 use design_model::MAX_TEXT;
 use design_model::sequence::Sequence;
 use edit_laws::editing::edits_stand_in_order;
 use edit_model::edit::{EditCode, EditRefusal, Splices};
 use lefdef_tokens::TokenRun;
+use net_wiring::wiring_clauses::{
+    EntryClauses, NetSection, RoleTest, WiringClauses, any, is_barred, wiring_place,
+};
+use net_wiring::wiring_text::is_wiring;
 use std::alloc::{AllocError, Allocator};
 
 /// The clauses of the entry of a net, where it may have wiring, and the entry's tokens.

@@ -2,9 +2,9 @@ use Rattle.std.proofs.Common.{subst}
 use Rattle.def_grammar.specs.Located.{entry_at, located}
 use Rattle.def_grammar.specs.Records.{read_def}
 use Rattle.edit_rules.specs.NetEdits.{section_of_net, unroute_all}
-use Rattle.def_splice.specs.WiringViews.{IsWired}
-use Rattle.def_splice.specs.declared.wiring_clauses.EntryClauses.{EntryClauses}
-use Rattle.def_splice.specs.declared.wiring_clauses.EntryClauses.TheVariants as clauses
+use Rattle.def_splice.specs.WiringPlanViews.{IsWired}
+use Rattle.net_wiring.specs.declared.wiring_clauses.EntryClauses.{EntryClauses}
+use Rattle.net_wiring.specs.declared.wiring_clauses.EntryClauses.TheVariants as clauses
 use Rattle.def_splice.proofs.PlaceLemmas.{design_of}
 use Rattle.def_splice.proofs.WiringPlans.{clauses_within, unrouted_makes}
 use Rattle.def_splice.proofs.wiring.unroute_splices.Goals as goal
