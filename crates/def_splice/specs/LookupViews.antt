@@ -39,6 +39,6 @@ section_plan_of library text design change = section_plan library (located text 
 abbrev pub StandWithin : List ℕ → List (List Token × StatementChange) → Type 0
 StandWithin text changes = StandInOrder text (record { refusals = []; changes = changes })
 
--- so do those that put these bytes into a section of a text with this design, whatever entry they say
+-- so do those that put these bytes, which say some entry, into a section of a text with this design
 abbrev pub MayPut : List ℕ → List Record → Section → List ℕ → Type 0
 MayPut text design section put = (said : Entry) × StandWithin text (putting section put said (located text design) design)

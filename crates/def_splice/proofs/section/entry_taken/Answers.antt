@@ -1,43 +1,38 @@
-use Rattle.std.proofs.Common.{◌≡◌, ◌-◌, ◌≤◌, ◌∷◌, [], List, ℕ, Some, decimal, length, take, drop, ap, ap₂, sym, subst, ◌∙◌, arith, refl, rules}
+use Rattle.std.proofs.Common.{◌≡◌, ◌-◌, ◌∷◌, [], List, ℕ, Some, decimal, length, take, drop, ap, ap₂, sym, subst, ◌∙◌, arith, rules}
 use Rattle.std.specs.Option.{option_map}
 use Rattle.design_model.specs.declared.mode.Section.TheVariants.{Components}
 use Rattle.statement_model.specs.Cuts.{Cut, end_of_all}
 use Rattle.def_grammar.specs.Located.{located}
 use Rattle.def_grammar.specs.Records.{read_def}
 use Rattle.edit_rules.specs.Plans.{cut_of, cuts_for}
-use Rattle.edit_rules.specs.SectionEdits.{count_change, entries_in, is_header, take_change, taking, tokens_where, two_changes}
+use Rattle.edit_rules.specs.SectionEdits.{count_change, entries_in, take_change, taking, two_changes}
 use Rattle.lefdef_tokens.specs.Views.{pieces_of}
 use Rattle.def_splice.specs.SpliceViews.{AreCuts, change_cut, cut_view}
 use Rattle.def_splice.proofs.PlaceLemmas.{design_of}
-use Rattle.def_splice.proofs.StandingLemmas.{both_found}
+use Rattle.def_splice.proofs.StandingLemmas.{before_taken}
 use Rattle.def_splice.proofs.TokenLemmas.{pieces_counted}
 use Rattle.def_splice.proofs.section.entry_taken.Goals as goal
 
 pub change_splice-requires : goal.change_splice-requires
 change_splice-requires g c =
-    let text = c.args.text.now in
-    let read = design_of (read_def text) c.requires.reads in
+    let read = design_of (read_def c.args.text.now) c.requires.reads in
     let head = sym (c.header_of.ensures.gives read.0 read.1) ∙ ap (option_map pieces_of) c.in-Some.is in
-    let ps = pieces_of c.args.entry in
-    let fewer = length (entries_in Components read.0) - 1 in
-    let stand = both_found text (tokens_where (is_header Components) (located text read.0)) (Some ps) (count_change Components fewer) (take_change ps) (pieces_of c.in-Some.header) ps head refl (c.requires.stand read.0 read.1) in
-    let many : 2 ≤ length (pieces_of c.in-Some.header) = stand.within.0 in
+    let many = before_taken c.args.text.now read.0 Components (pieces_of c.in-Some.header) head (pieces_of c.args.entry) (c.requires.stand read.0 read.1) in
     let words = pieces_counted c.in-Some.header in
-    omega (arith, many, words)
+    omega (arith, many.0, words)
 
 pub two_splices-requires-clause-apart : goal.two_splices-requires-clause-apart
 two_splices-requires-clause-apart g c =
     let text = c.args.text.now in
     let read = design_of (read_def text) c.requires.reads in
     let head = sym (c.header_of.ensures.gives read.0 read.1) ∙ ap (option_map pieces_of) c.in-Some.is in
+    let hs = pieces_of c.in-Some.header in
     let ps = pieces_of c.args.entry in
-    let fewer = length (entries_in Components read.0) - 1 in
-    let stand = both_found text (tokens_where (is_header Components) (located text read.0)) (Some ps) (count_change Components fewer) (take_change ps) (pieces_of c.in-Some.header) ps head refl (c.requires.stand read.0 read.1) in
     let many : c.len.result ≡ length ps = c.len.ensures ∙ sym (pieces_counted c.args.entry) in
     let two : cut_view c.in_ok-second.second ≡ cut_of text ps (take_change ps) = c.in_ok-second.ensures.cut ∙ ap₂ (λ (t : List ℕ) (n : ℕ). change_cut t ps 0 n []) c.requires.same many in
-    let hi : c.in_ok-first.first.hi ≡ end_of_all (take 1 (drop 1 (pieces_of c.in-Some.header))) = ap (λ (x : Cut). x.hi) c.in_ok-first.ensures.cut in
+    let hi : c.in_ok-first.first.hi ≡ end_of_all (take 1 (drop 1 hs)) = ap (λ (x : Cut). x.hi) c.in_ok-first.ensures.cut in
     let lo : c.in_ok-second.second.lo ≡ (cut_of text ps (take_change ps)).lo = ap (λ (x : Cut). x.lo) two in
-    rw (hi, lo) stand.ordered.2.0
+    rw (hi, lo) (before_taken text read.0 Components hs head ps (c.requires.stand read.0 read.1)).1
 
 pub returns-clause-cuts : goal.returns-clause-cuts
 returns-clause-cuts g c = λ design reads.
