@@ -29,7 +29,7 @@ const EDITS: [Edit<'static>; 10] = [
 /// The text after all of them.
 const EDITED: &[u8] = b"UNITS DISTANCE MICRONS 1000 ;\n\
 GCELLGRID X 0 DO 3 STEP 1000 ;\nGCELLGRID Y 0 DO 2 STEP 3000 ;\n\
-COMPONENTS 2 ;\n- u1 BUF + PLACED ( 460 -1 ) FS ;\n\n- u3 INV ;\nEND COMPONENTS\n\
+COMPONENTS 3 ;\n- u0 BUF ;\n- u1 BUF + PLACED ( 460 -1 ) FS ;\n\n- u3 INV ;\nEND COMPONENTS\n\
 BLOCKAGES 1 ;\n- LAYER met1 RECT ( 0 0 ) ( 10 -10 ) ;\nEND BLOCKAGES\n\
 SPECIALNETS 1 ;\n- VDD ( * VDD ) ( u1 A ) + USE POWER + ROUTED met1 10 ( 0 0 ) ( 10 * ) ;\nEND SPECIALNETS\n\
 NETS 1 ;\n- n1 ( u1 Y )   ;\nEND NETS\n\
@@ -143,7 +143,7 @@ const FIRST_EDITS: [Edit<'static>; 10] = [
     Edit::Route { net: b"n1", wiring: b"+ ROUTED met1 ( 0 0 ) ( 10 * ) + ROUTED met1 ( 0 0 ) ( 10 * )" },
     Edit::Unroute { net: b"n1" },
     Edit::Add { component: b"u3", cell: b"INV" },
-    Edit::Remove { component: b"u2" },
+    Edit::Remove { component: b"u0" },
     Edit::Block { layer: None, x1: 123456789, y1: 123456789, x2: 1, y2: 1 },
 ];
 

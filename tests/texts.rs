@@ -37,7 +37,7 @@ PIN A PORT LAYER met1 ; RECT 0.1 1 0.3 1.2 ; END END A END BUF\n";
 /// Two inverters with a wire between them, a supply, and a grid of two cells across.
 pub const TWO_CONNECTED: &[u8] = b"UNITS DISTANCE MICRONS 1000 ;\n\
 GCELLGRID X 0 DO 3 STEP 1000 ;\nGCELLGRID Y 0 DO 2 STEP 3000 ;\n\
-COMPONENTS 2 ;\n- u1 INV + PLACED ( 0 0 ) N ;\n- u2 INV + PLACED ( 920 0 ) N ;\nEND COMPONENTS\n\
+COMPONENTS 3 ;\n- u0 BUF ;\n- u1 INV + PLACED ( 0 0 ) N ;\n- u2 INV + PLACED ( 920 0 ) N ;\nEND COMPONENTS\n\
 BLOCKAGES 0 ;\nEND BLOCKAGES\n\
 SPECIALNETS 1 ;\n- VDD ( * VDD ) + USE POWER ;\nEND SPECIALNETS\n\
 NETS 1 ;\n- n1 ( u1 Y ) ( u2 A ) + ROUTED met1 ( 700 1100 ) ( 1120 * ) ;\nEND NETS\n\
