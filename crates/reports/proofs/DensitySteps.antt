@@ -1,12 +1,12 @@
 -- Densities of shapes that are added one after the other.
-use Rattle.std.proofs.Common.{◌≡◌, ℕ, ◌+◌, ◌<◌, ◌≤◌, ◌==◌, List, [], ◌∷◌, ◌++◌, Some, get_or, length, map, take, refl, sym, ap, ap₂, ◌∙◌, ℤ, arith, if◌then◌else◌}
+use Rattle.std.proofs.Common.{◌≡◌, ℕ, ◌+◌, ◌<◌, ◌≤◌, ◌==◌, List, [], ◌∷◌, ◌++◌, Some, get_or, length, map, take, sym, ap, ap₂, ◌∙◌, ℤ, if◌then◌else◌}
 use Rattle.std.proofs.lemmas.List.{length-append, map-append, take_all, take_more}
 use Rattle.std.proofs.lemmas.List.Sums.{sum_by_push}
 use Rattle.design_model.specs.Geometry.{Rectangle}
 use Rattle.lef_grammar.specs.Measures.{Shape}
-use Rattle.measure_rules.specs.Density.{area_on, common_area, density}
+use Rattle.measure_rules.specs.Density.{area_on, common_area}
 use Rattle.measure_rules.specs.GridCells.{cell_among}
-use Rattle.cell_sums.specs.Tables.{Adds, CellTable, IsNew, sums}
+use Rattle.cell_sums.specs.Tables.{Adds, CellTable, IsNew}
 use Rattle.reports.specs.Densities.{HoldsDensities}
 
 module _ (columns rows : List ℤ) where

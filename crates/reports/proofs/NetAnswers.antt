@@ -1,12 +1,12 @@
 -- The net of a name is found among measured nets as the definitions find it.
-use Rattle.std.proofs.Common.{◌≡◌, ◌≤◌, ◌<◌, ◌^◌, ◌-◌, ℕ, suc, Bool, true, false, ◌||◌, List, [], ◌∷◌, map, length, refl, sym, ap, ◌∙◌, Option, Some, None, if◌then◌else◌, sum, arith}
+use Rattle.std.proofs.Common.{◌≡◌, ◌<◌, ◌^◌, ℕ, Bool, true, false, ◌||◌, List, [], ◌∷◌, map, length, refl, sym, ap, ◌∙◌, Option, Some, None, if◌then◌else◌, sum, arith}
 use Rattle.std.specs.List.{list_any, sum_by}
 use Rattle.std.specs.Option.{option_map}
 use Rattle.std.specs.Str.{bytes_eq}
 use Rattle.std.proofs.lemmas.List.{length-map}
 use Rattle.std.proofs.lemmas.List.Sums.{sum-map, sum_by-cons}
 use Rattle.design_model.specs.Geometry.{Rectangle}
-use Rattle.form_meanings.specs.Firsts.{find_named, has_name}
+use Rattle.form_meanings.specs.Firsts.{find_named}
 use Rattle.def_grammar.specs.Records.{Record}
 use Rattle.lef_grammar.specs.Library.{Library}
 use Rattle.connection_rules.specs.NetParts.{Net, all_nets, net_named, net_names}

@@ -1,6 +1,5 @@
 -- Lengths that are added up one after the other, as far as 64 bits go.
 use Rattle.std.proofs.Common.{◌≡◌, ℕ, ◌+◌, ◌<◌, ◌≤◌, List, [], ◌∷◌, ◌++◌, get_or, length, sum, take, sym, ap, ◌∙◌, arith}
-use Rattle.std.specs.List.{sum_by}
 use Rattle.std.proofs.lemmas.List.{take_all, take_more}
 use Rattle.std.proofs.lemmas.List.Sums.{sum_by_push}
 use Rattle.drawn_parts.specs.DrawnLengths.{capped}

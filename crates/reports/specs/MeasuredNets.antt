@@ -1,7 +1,6 @@
 -- What is kept of each net.
-use Rattle.std.specs.Prelude.{ℕ, List, [], ◌∷◌, map, Option}
+use Rattle.std.specs.Prelude.{ℕ, List, [], ◌∷◌, Option}
 use Rattle.std.specs.Option.{option_map}
-use denote.Ref.{Bor}
 use Rattle.std.specs.declared.vec.Vec.{Vec}
 use Rattle.design_model.specs.Geometry.{Rectangle}
 use Rattle.design_model.specs.Views.{rectangle_of}

@@ -1,4 +1,3 @@
-use Rattle.std.proofs.Common.{rules}
 use Rattle.design_model.specs.Views.{rectangle_of}
 use Rattle.reports.specs.MeasuredNets.{shape_box}
 use Rattle.reports.proofs.BoxSteps.{box_grown, none_round}
