@@ -32,8 +32,8 @@ OpensAs text (Err (error.TheVariants.Fault f)) = read_def text ≡ Err f
 OpensAs text (Err error.TheVariants.Memory) = Unit {0}
 
 -- the lines are all diagnostics of what a text reads as
-abbrev pub Reports : {A : Type 0} → Library → List ℕ → List (DiagLine A) → Type 0
-Reports library text lines = (design : List Record) × (read_def text ≡ Ok design) × (texts lines ≡ diagnostics library design)
+abbrev pub AreDiagnostics : {A : Type 0} → Library → List ℕ → List (DiagLine A) → Type 0
+AreDiagnostics library text lines = (design : List Record) × (read_def text ≡ Ok design) × (texts lines ≡ diagnostics library design)
 
 -- what editing a text says: it has the edit's cuts made, or is as it was and refused as the edit is
 abbrev pub EditsText : {T : Type 0} → Library → List ℕ → Change → Result T EditRefusal → List ℕ → Type 0

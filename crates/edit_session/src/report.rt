@@ -10,7 +10,7 @@ ghost use Rattle.design_rules.specs.OverlapLines.{overlap_lines};
 ghost use Rattle.design_rules.specs.PlaceLines.{place_lines};
 ghost use Rattle.line_laws.specs.Lines.{SameLines};
 ghost use Rattle.report_lines.specs.Kinds.{HaveTheirKinds};
-ghost use Rattle.edit_session.specs.Sessions.{Reports};
+ghost use Rattle.edit_session.specs.Sessions.{AreDiagnostics};
 
 use cell_library::library::Library;
 use def_reader::records::statements_of;
@@ -123,7 +123,7 @@ pub fn report<'t, A: Allocator + Copy>(
     text: &'t [u8],
 ) -> Result<DiagLines<A>, AllocError>
     requires { IsOk (read_def text.now) }
-    ensures lines { IfOk result (λ lines. Reports library.now text.now lines) }
+    ensures lines { IfOk result (λ lines. AreDiagnostics library.now text.now lines) }
     ensures kinds { IfOk result (λ lines. HaveTheirKinds lines) }
 {
     scales_are_good();

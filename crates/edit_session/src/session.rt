@@ -15,9 +15,9 @@ ghost use Rattle.lef_grammar.specs.Measures.{place_among};
 ghost use Rattle.measure_rules.specs.Density.{cell_density, place_density};
 ghost use Rattle.measure_rules.specs.Lengths.{net_length, total_length};
 ghost use Rattle.measure_rules.specs.NetBoxes.{net_box};
-ghost use Rattle.edit_session.specs.Sessions.{AnswersOn, EditsText, HasParts, KeepsTheRest, Measures, OpensAs, ReadsEdited, ReplacesText, Reports, Views};
+ghost use Rattle.edit_session.specs.Sessions.{AnswersOn, AreDiagnostics, EditsText, HasParts, KeepsTheRest, Measures, OpensAs, ReadsEdited, ReplacesText, Views};
 
-use crate::measures::reports_of;
+use crate::measures::kept_or_made;
 use crate::report::report;
 use crate::view::{View, view_of};
 use cell_library::library::Library;
@@ -142,7 +142,7 @@ impl<'s, 'l, A: Allocator + Copy> Session<'s, 'l, A> {
 
     /// All diagnostics of the present text, in the order of their bytes, repeats kept.
     pub fn diagnostics(&self) -> Result<DiagLines<A>, AllocError>
-        ensures lines { IfOk result (λ lines. Reports self.now.library self.now.text lines) }
+        ensures lines { IfOk result (λ lines. AreDiagnostics self.now.library self.now.text lines) }
         ensures kinds { IfOk result (λ lines. HaveTheirKinds lines) }
     {
         report(*self.text.allocator(), self.library, &self.text)
@@ -153,10 +153,8 @@ impl<'s, 'l, A: Allocator + Copy> Session<'s, 'l, A> {
         ensures reports { IfOk result (AnswersOn self.old.library self.old.text) }
         ensures same { self.new ≡ self.old }
     {
-        match self.reports.take() {
-            Some(reports) => Ok(reports),
-            None => reports_of(*self.text.allocator(), self.library, &self.text),
-        }
+        let kept = self.reports.take();
+        kept_or_made(*self.text.allocator(), self.library, &self.text, kept)
     }
 
     /// The length of the wires of a net, in database units; `None` where there is no such net. Measures are made at the first
