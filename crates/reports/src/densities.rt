@@ -1,9 +1,8 @@
 //! How dense the cells of a grid are.
 
-ghost use Rattle.std.specs.Prelude.{IfOk, map, flat_map, ◌<◌, ◌≤◌};
+ghost use Rattle.std.specs.Prelude.{IfOk, flat_map, map};
 ghost use Rattle.std.specs.List.{All};
 ghost use Rattle.design_model.specs.Ranges.{IsWithin};
-ghost use Rattle.design_rules.specs.Boxes.{scale};
 ghost use Rattle.net_lists.specs.PartCuts.{shape_view};
 ghost use Rattle.measure_rules.specs.GridCells.{columns, lines_along_x, lines_along_y, rows};
 ghost use Rattle.reports.specs.Densities.{HoldsDensities, place_shape};
