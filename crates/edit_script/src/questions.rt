@@ -160,7 +160,7 @@ fn density_answer<A: Allocator + Copy>(
     requires room { HasRoom tally.old }
     requires reads { IsOk (read_def session.old.text) }
     ensures gives { let library = session.old.library in
-        IfOk result (λ v. Asks session.old.text number (λ design. cell_line place.0 place.1 layer.1.now (cell_density library design place.0 place.1 layer.0.0)) v.items (counts_of tally.old) (counts_of tally.new)) }
+        IfOk result (λ v. Asks session.old.text number (λ design. cell_line place.0 place.1 layer.entry.1.now (cell_density library design place.0 place.1 layer.entry.0.0)) v.items (counts_of tally.old) (counts_of tally.new)) }
     ensures same { session.new ≡ session.old }
     ensures grows { Grows tally.old tally.new }
 {
@@ -183,7 +183,7 @@ fn on_layer<A: Allocator + Copy>(
     requires room { HasRoom tally.old }
     requires reads { IsOk (read_def session.old.text) }
     ensures gives { let library = session.old.library in
-        IfOk result (λ v. Asks session.old.text number (λ design. at_place place (λ c r. cell_line c r layer.1.now (cell_density library design c r layer.0.0))) v.items (counts_of tally.old) (counts_of tally.new)) }
+        IfOk result (λ v. Asks session.old.text number (λ design. at_place place (λ c r. cell_line c r layer.entry.1.now (cell_density library design c r layer.entry.0.0))) v.items (counts_of tally.old) (counts_of tally.new)) }
     ensures same { session.new ≡ session.old }
     ensures grows { Grows tally.old tally.new }
 {

@@ -244,6 +244,41 @@ pub(crate) fn read_script<A: Allocator + Copy, R: CountedRead>(
     }
 }
 
+/// Reads a script, and runs it over a session.
+fn run_in<A, R, W, V>(
+    alloc: A,
+    session: &mut Session<'_, '_, A>,
+    script: &mut R,
+    out: &mut W,
+    def_out: &mut V,
+) -> Result<Tally, RunFault>
+where
+    A: Allocator + Copy,
+    R: CountedRead,
+    W: CountedWrite,
+    V: CountedWrite,
+    requires reads { IsOk (read_def session.old.text) }
+    requires script { R.failed script.old < 2 ^ 63 }
+    requires out { W.failed out.old < 2 ^ 63 }
+    requires def_out { V.failed def_out.old < 2 ^ 63 }
+    ensures ok { IfOk result (λ tally. RunsOver session.old.library session.old.text (R.remaining script.old) (W.contents out.old) (W.contents out.new) (V.contents def_out.old) (V.contents def_out.new) (counts_of tally)) }
+    ensures fault { IfErr result (λ e. StopsOver session.old.library session.old.text (R.remaining script.old) (W.contents out.old) (W.contents out.new) (V.contents def_out.old) (V.contents def_out.new) e) }
+    ensures read { IsErrOf result RunFault.Read → R.failed script.old < R.failed script.new }
+    ensures read_hard { R.failed_hard script.new ≡ hard_after_run result (R.failed_hard script.old) }
+    ensures write { IsErrOf result RunFault.Write → HasFailed (W.failed_hard out.old) (W.failed_hard out.new) (W.failed out.old) (W.failed out.new) 33554431 ⊎ HasFailed (V.failed_hard def_out.old) (V.failed_hard def_out.new) (V.failed def_out.old) (V.failed def_out.new) 33554431 }
+    ensures write_few { W.failed out.new ≤ W.failed out.old + 33554432 }
+    ensures def_few { V.failed def_out.new ≤ V.failed def_out.old + 33554432 }
+    ensures read_few { R.failed script.new ≤ R.failed script.old + 33554432 }
+    ensures endless { IsErrOf result RunFault.Endless → TookAllTurns (R.remaining script.old) (R.failed script.old) (R.failed script.new) }
+{
+    let bytes = read_script(alloc, script)?;
+    match answer_all(alloc, session, bytes.as_slice(), out, def_out) {
+        Ok(tally) => Ok(tally),
+        Err(Stop::Memory) => Err(RunFault::Memory),
+        Err(Stop::Write) => Err(RunFault::Write),
+    }
+}
+
 /// Runs a script over a DEF text and a library.
 fn run_over<A, R, W, V>(
     alloc: A,
@@ -276,12 +311,7 @@ where
         Err(ReadError::Fault(fault)) => return Err(RunFault::Def(fault)),
         Err(ReadError::Memory) => return Err(RunFault::Memory),
     };
-    let bytes = read_script(alloc, script)?;
-    match answer_all(alloc, &mut session, bytes.as_slice(), out, def_out) {
-        Ok(tally) => Ok(tally),
-        Err(Stop::Memory) => Err(RunFault::Memory),
-        Err(Stop::Write) => Err(RunFault::Write),
-    }
+    run_in(alloc, &mut session, script, out, def_out)
 }
 
 /// Runs a script over a DEF text and the library of LEF texts: these, the DEF and the script are read in this order, to
