@@ -10,7 +10,7 @@ use design_model::geometry::Orient;
 use design_model::sequence::Sequence;
 use edit_model::edit::Splice;
 use itoa::Buffer;
-use net_wiring::comments::is_white;
+use lefdef_tokens::is_white;
 use std::alloc::{AllocError, Allocator};
 use unit_numbers::print;
 

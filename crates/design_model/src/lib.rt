@@ -1,14 +1,13 @@
-//! The values of a chip design in LEF and DEF: points, orientations, sections with their words, faults, edits, lines of
-//! a report, and lists that contracts see as lists.
+//! The values of a chip design in LEF and DEF: points, orientations, sections with their words, faults, lines of a report,
+//! and lists that contracts see as lists.
 //!
-//! Begin with `fault`, `edit` and `diagnostic`. `specs/EnumWords` has the words of enums, `specs/Units` and
-//! `specs/Geometry` what numbers and orientations mean, `specs/Codes` the numbers that faults and refusals are printed by,
+//! Begin with `fault` and `diagnostic`. `specs/EnumWords` has the words of enums, `specs/Units` and
+//! `specs/Geometry` what numbers and orientations mean, `specs/Codes` the numbers that faults are printed by,
 //! `specs/Order` the order of lines. What a text says is defined above, from `statement_model` on. What grows answers
 //! `AllocError`; nothing here is lent but by `as_slice`.
 #![tactic(auto)]
 
 pub mod diagnostic;
-pub mod edit;
 pub mod fault;
 pub mod geometry;
 pub mod identifier;

@@ -32,6 +32,7 @@ mod unseen;
 mod windows;
 mod words;
 
+pub use bytes::is_white;
 pub use cursor::Cursor;
 pub use laws::{tokens_are_slices, tokens_join, tokens_move, tokens_of_runs};
 pub use part_end::PartEnd;

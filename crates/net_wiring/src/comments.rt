@@ -2,16 +2,11 @@
 
 ghost use Rattle.std.specs.Prelude.{◌≡◌, MatchOption};
 ghost use Rattle.edit_rules.specs.NetEdits.{opens_comment};
-ghost use Rattle.statement_model.specs.Tokens.{is_white, next_open};
+ghost use Rattle.statement_model.specs.Tokens.{next_open};
 ghost use Rattle.statement_model.specs.Tokens.Open.{between, comment};
 ghost use Rattle.net_wiring.specs.WiringViews.{bare, open_view};
 
-/// Whether a byte is white space.
-pub fn is_white(byte: u8) -> bool
-    ensures { result ≡ is_white byte }
-{
-    matches!(byte, b' ' | b'\t' | b'\r' | b'\n')
-}
+use lefdef_tokens::is_white;
 
 /// What is open at a byte that stands in no comment.
 #[derive(Clone, Copy)]

@@ -8,6 +8,5 @@
 #![tactic(auto)]
 
 pub mod comments;
-mod wiring_bodies;
 pub mod wiring_clauses;
 pub mod wiring_text;

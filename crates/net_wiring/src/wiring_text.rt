@@ -14,12 +14,11 @@ ghost use Rattle.wire_parts.specs.SpecialNetViews.{special_by_word};
 ghost use Rattle.net_wiring.specs.WiringViews.{is_ended, is_said, past_body, past_body_in, past_clause, past_clause_in, reads_wiring, said_from};
 
 use crate::comments::opens_comment;
-use crate::wiring_bodies::{net_body_at, special_body_at};
 use crate::wiring_clauses::{NetSection, net_role, special_role};
 use lefdef_tokens::{Cursor, TokenRun};
 use statement_reader::parts::Part;
-use wire_parts::nets::NetClause;
-use wire_parts::special_nets::SpecialClause;
+use wire_parts::nets::{NetClause, net_body_at};
+use wire_parts::special_nets::{SpecialClause, special_body_at};
 
 /// What comes after the next clause of NETS, if it is wiring.
 fn past_net_clause<'t>(cursor: Cursor<'t>) -> Option<Cursor<'t>>

@@ -75,7 +75,7 @@ unfolding last_of
 last_among P p [] all = All-head P p [] all
 last_among P p (q ∷ qs) all = last_among P q qs (All-tail P p (q ∷ qs) all)
 
-statement_ends : (text : List ℕ) (m : Mode) (s : List Token) (y : Record × Mode) → IsStatement def_ending s → All (WordEndsApart text) s → read_form def m s ≡ Ok y → EndApart text s
+pub statement_ends : (text : List ℕ) (m : Mode) (s : List Token) (y : Record × Mode) → IsStatement def_ending s → All (WordEndsApart text) s → read_form def m s ≡ Ok y → EndApart text s
 unfolding last_of
 statement_ends text m [] y is all e = tt
 statement_ends text m (p ∷ []) y is all e = All-head (WordEndsApart text) p [] all (only_is_plain p (ends_of p.bytes) is)

@@ -76,7 +76,7 @@ last_apart text pos (string start bytes last) left stands = All-nil (WordEndsApa
 next_left : (text bs : List ℕ) (pos b : ℕ) → drop pos text ≡ b ∷ bs → drop (pos + 1) text ≡ bs
 next_left text bs pos b left = sym (drop-drop 1 pos text) ∙ ap (drop 1) left
 
-words_end : (text bs : List ℕ) (pos : ℕ) (state : Open) → drop pos text ≡ bs → Stands pos state → All (WordEndsApart text) (lex pos state bs).pieces
+pub words_end : (text bs : List ℕ) (pos : ℕ) (state : Open) → drop pos text ≡ bs → Stands pos state → All (WordEndsApart text) (lex pos state bs).pieces
 unfolding lex
 words_end text [] pos state left stands = last_apart text pos state left stands
 words_end text (b ∷ bs) pos state left stands = ⊎_elim

@@ -61,8 +61,8 @@ impl<'t> NetEntry<'t> {
     }
 }
 
-/// `USE word`, `NONDEFAULTRULE name`, or wiring
-fn clause_by_word_at<'t>(cursor: Cursor<'t>) -> Option<(NetClause<'t>, Cursor<'t>)>
+/// The body of a clause but SUBNET, whatever comes behind it: `USE word`, `NONDEFAULTRULE name`, or wiring
+pub fn net_body_at<'t>(cursor: Cursor<'t>) -> Option<(NetClause<'t>, Cursor<'t>)>
     ensures gives { Gives (with_rest net_clause_view) result (read (right (left net_by_word)) (rest_of cursor.entry)) }
     ensures later { IfSome result (λ x. IsLater cursor.entry x.1) }
     ensures left { IfSome result (λ x. pieces_of x.1.tokens ≡ behind (spell (right (left net_by_word)) (net_clause_view x.0)) (pieces_of cursor.entry.tokens)) }
@@ -88,7 +88,7 @@ fn listed_at<'t>(cursor: Cursor<'t>) -> Option<(NetClause<'t>, Cursor<'t>)>
     ensures left { IfSome result (λ x. pieces_of x.1.tokens ≡ behind (spell (right (left net_listed)) (net_clause_view x.0)) (pieces_of cursor.entry.tokens)) }
     ensures lent { IfSome result (λ x. NetClauseAt (pieces_of cursor.entry.tokens) x.0) }
 {
-    let (clause, cursor) = clause_by_word_at(cursor)?;
+    let (clause, cursor) = net_body_at(cursor)?;
     if cursor.next_is_stop() {
         Some((clause, cursor))
     } else {

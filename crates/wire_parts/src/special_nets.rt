@@ -169,8 +169,8 @@ fn mask_clause_at<'t>(cursor: Cursor<'t>) -> Option<(SpecialClause<'t>, Cursor<'
     Some((SpecialClause::Mask(word), cursor))
 }
 
-/// `USE word`, `SHAPE word`, `MASK word`, a shape, or wiring
-fn clause_by_word_at<'t>(cursor: Cursor<'t>) -> Option<(SpecialClause<'t>, Cursor<'t>)>
+/// The body of a clause but SUBNET, whatever comes behind it: `USE word`, `SHAPE word`, `MASK word`, a shape, or wiring
+pub fn special_body_at<'t>(cursor: Cursor<'t>) -> Option<(SpecialClause<'t>, Cursor<'t>)>
     ensures gives { Gives (with_rest special_clause_view) result (read (of_listed special_by_word) (rest_of cursor.entry)) }
     ensures later { IfSome result (λ x. IsLater cursor.entry x.1) }
     ensures left { IfSome result (λ x. pieces_of x.1.tokens ≡ behind (spell (of_listed special_by_word) (special_clause_view x.0)) (pieces_of cursor.entry.tokens)) }
@@ -195,7 +195,7 @@ fn listed_at<'t>(cursor: Cursor<'t>) -> Option<(SpecialClause<'t>, Cursor<'t>)>
     ensures left { IfSome result (λ x. pieces_of x.1.tokens ≡ behind (spell (of_listed special_listed) (special_clause_view x.0)) (pieces_of cursor.entry.tokens)) }
     ensures lent { IfSome result (λ x. SpecialClauseAt (pieces_of cursor.entry.tokens) x.0) }
 {
-    let (clause, cursor) = clause_by_word_at(cursor)?;
+    let (clause, cursor) = special_body_at(cursor)?;
     if cursor.next_is_stop() {
         Some((clause, cursor))
     } else {
