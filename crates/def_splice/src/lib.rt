@@ -13,8 +13,6 @@ pub mod in_place;
 pub mod lookups;
 mod names;
 pub mod net;
-mod net_entries;
-mod net_pins;
 mod net_terminals;
 mod place;
 mod put;

@@ -13,8 +13,7 @@ ghost use Rattle.def_splice.specs.NetViews.{connect_refusals};
 ghost use Rattle.def_splice.specs.SpliceViews.{change_cut, AreCuts, AreInOrder, FollowsAll, MakesSplices};
 
 use crate::fitting::one_splice;
-use crate::net_entries::{listing_entry, net_entry, with_tokens};
-use crate::net_pins::{is_connected, is_pin};
+use crate::lookups::{is_connected, is_pin, listing_entry, net_entry, with_tokens};
 use crate::net_terminals::{terminal_tokens, tokens_to_end};
 use crate::terminals::Named;
 use crate::token_splices::change_splice;

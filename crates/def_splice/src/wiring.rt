@@ -13,7 +13,7 @@ ghost use Rattle.def_splice.specs.WiringPlanViews.{put_text, route_refusals, rou
 ghost use Rattle.net_wiring.specs.WiringViews.{is_said, reads_wiring};
 
 use crate::fitting::one_splice;
-use crate::net_entries::{net_entry, with_tokens};
+use crate::lookups::{net_entry, with_tokens};
 use crate::token_splices::change_splice;
 use cell_library::library::Library;
 use design_model::MAX_TEXT;

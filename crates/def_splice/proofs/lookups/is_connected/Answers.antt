@@ -7,7 +7,7 @@ use Rattle.def_grammar.specs.Records.{entry_of}
 use Rattle.def_reader.specs.RecordViews.{located_view}
 use Rattle.edit_rules.specs.NetEdits.{lists}
 use Rattle.def_splice.proofs.SearchSteps.{all_said, is_among}
-use Rattle.def_splice.proofs.net_pins.is_connected.Goals as goal
+use Rattle.def_splice.proofs.lookups.is_connected.Goals as goal
 
 pub returns : goal.returns
 returns c = λ design reads.

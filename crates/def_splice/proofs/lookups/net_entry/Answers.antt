@@ -2,7 +2,7 @@ use Rattle.std.proofs.Common.{ap, sym, ◌∙◌}
 use Rattle.std.specs.Option.{option_map}
 use Rattle.def_reader.specs.RecordViews.{located_view}
 use Rattle.def_splice.proofs.NetLemmas.{net_found, special_found}
-use Rattle.def_splice.proofs.net_entries.net_entry.Goals as goal
+use Rattle.def_splice.proofs.lookups.net_entry.Goals as goal
 
 pub returns-in-Some-clause-gives : goal.returns-in-Some-clause-gives
 returns-in-Some-clause-gives c = λ design reads.

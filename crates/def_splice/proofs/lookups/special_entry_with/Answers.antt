@@ -2,7 +2,7 @@ use Rattle.std.proofs.Common.{◌≡◌, ap, sym, ◌∙◌, true, false, rules,
 use Rattle.std.specs.Option.{option_map}
 use Rattle.def_reader.specs.RecordViews.{located_view}
 use Rattle.def_splice.specs.NetViews.{listing}
-use Rattle.def_splice.proofs.net_entries.special_entry_with.Goals as goal
+use Rattle.def_splice.proofs.lookups.special_entry_with.Goals as goal
 
 pub returns-in_default-clause-gives : goal.returns-in_default-clause-gives
 returns-in_default-clause-gives c = λ design reads.

@@ -4,7 +4,7 @@ use Rattle.design_model.specs.declared.mode.Section.TheVariants.{Pins}
 use Rattle.def_grammar.specs.Parts.{is_some}
 use Rattle.def_reader.specs.RecordViews.{located_view}
 use Rattle.def_splice.proofs.NetLemmas.{stands_found}
-use Rattle.def_splice.proofs.net_pins.is_design_pin.Goals as goal
+use Rattle.def_splice.proofs.lookups.is_design_pin.Goals as goal
 
 pub returns : goal.returns
 returns c = λ design reads.

@@ -7,7 +7,7 @@ use Rattle.cell_library.specs.Naming.{seen_by}
 use Rattle.cell_library.specs.PinViews.{pin_view}
 use Rattle.def_reader.specs.RecordViews.{entry_view}
 use Rattle.def_splice.proofs.PinLemmas.{has_macro_pin, has_no_component, macro_seen, no_macro}
-use Rattle.def_splice.proofs.net_pins.has_pin.Goals as goal
+use Rattle.def_splice.proofs.lookups.has_pin.Goals as goal
 
 pub returns-in_default : goal.returns-in_default
 returns-in_default g c = λ design reads.

@@ -2,7 +2,7 @@ use Rattle.std.proofs.Common.{◌≡◌, ap, sym, ◌∙◌, rules, List, Some}
 use Rattle.std.specs.Option.{option_map, option_or}
 use Rattle.def_reader.specs.RecordViews.{located_view}
 use Rattle.def_splice.proofs.NetLemmas.{either_lists, net_lists, seen_or, without_net}
-use Rattle.def_splice.proofs.net_entries.listing_entry.Goals as goal
+use Rattle.def_splice.proofs.lookups.listing_entry.Goals as goal
 
 pub returns-in_default-clause-gives : goal.returns-in_default-clause-gives
 returns-in_default-clause-gives c = λ design reads.
