@@ -1,3 +1,6 @@
+mod ComponentSteps
+mod LyingLemmas
+mod SomeTokens
 pub mod LocatedStatements
 pub mod LongLemmas
 pub mod NetLemmas

@@ -30,12 +30,12 @@ module _ {A : Type 0} (ss : List (Splice A)) (k : ℕ) (s : Splice A) (at : ℕ)
       let here : drop k ss ≡ s ∷ drop (k + 1) ss = drop_more ss k s some ∙ ap (λ (x : Splice A). x ∷ drop (k + 1) ss) (sym is) in
       ap (λ (xs : List (Splice A)). length (cut_from at (map cut_view xs) text)) here ∙ kept_and_put text s.put later at s.lo step.0 (omega (arith, step.1, step.2))
 
-  pub order_later : AreInOrder s.hi (drop (k + 1) ss) (length text)
-  order_later =
-      let P : List (Splice A) → Type 0 = λ xs. AreInOrder at xs (length text) in
-      let e = subst P (drop_more ss k s some) order in
-      let Q : Splice A → Type 0 = λ x. AreInOrder x.hi (drop (k + 1) ss) (length text) in
-      subst Q (sym is) e.2
+pub order_later : {A : Type 0} (ss : List (Splice A)) (k : ℕ) (s : Splice A) (at n : ℕ) → k < length ss → s ≡ get_or ss k s → AreInOrder at (drop k ss) n → AreInOrder s.hi (drop (k + 1) ss) n
+order_later {A} ss k s at n some is order =
+    let P : List (Splice A) → Type 0 = λ xs. AreInOrder at xs n in
+    let e = subst P (drop_more ss k s some) order in
+    let Q : Splice A → Type 0 = λ x. AreInOrder x.hi (drop (k + 1) ss) n in
+    subst Q (sym is) e.2
 
 -- room that so many bytes don't fit in
 pub overfull : (room a b n : ℕ) → room < a + b → nat_lt room (a + (b + n)) ≡ true

@@ -11,13 +11,17 @@ use Rattle.def_grammar.specs.Records.{Entry, Record, entry_of, read_def}
 use Rattle.def_grammar.specs.Located.{entry_at, located}
 use Rattle.lef_grammar.specs.Library.{Library}
 use Rattle.edit_rules.specs.Edits.{of_net, plan_of}
-use Rattle.edit_rules.specs.NetEdits.{NetChange, connect_to, disconnect_from, front_of, lists, net_plan, plan_of_entry, plan_of_record, section_of_net, terminals_of}
+use Rattle.edit_rules.specs.NetEdits.{NetChange, before_terminal, connect_to, disconnect_from, front_of, lists, net_plan, plan_of_entry, plan_of_record, section_of_net, terminals_of}
 use Rattle.edit_rules.specs.Plans.{Plan, lowest, refused_plan}
 use Rattle.edit_laws.specs.EditLaws.{EditsStandInOrder}
 use Rattle.edit_laws.specs.PlanLaws.{LieWithin}
-use Rattle.def_splice.specs.NetViews.{connect_refusals, entry_with}
+use Rattle.lefdef_tokens.specs.Views.{pieces_of, words_of}
+use Rattle.lefdef_tokens.specs.declared.token_run.TokenRun.{TokenRun}
+use Rattle.def_splice.specs.Lying.{AreFirm, moved_plan, moved_tokens}
+use Rattle.def_splice.specs.NetViews.{connect_refusals, entry_with, tokens_taken}
 use Rattle.def_splice.specs.SpliceViews.{FollowsAll, MakesSplices}
 use Rattle.def_splice.proofs.PlanLemmas.{makes, refused}
+use Rattle.def_splice.proofs.TokenLemmas.{pieces_counted}
 
 module _ (library : Library) (design : List Record) (change : NetChange) where
   of_record : (ps : List Token) (o : Option Entry) (x : List Token × Entry) → Some x ≡ (o >>= λ e. Some (ps, e)) → plan_of_record library design change ps o ≡ plan_of_entry library design change x.0 x.1
@@ -60,6 +64,23 @@ module _ (library : Library) (design : List Record) (c p : List ℕ) (ps : List 
 
   pub not_connected : lists c p e ≡ false → lowest (plan_of_entry library design (disconnect_from c p) ps e).refusals ≡ Some Connection
   not_connected isnt = rw isnt refl
+
+-- the tokens that are taken are some of the entry's
+pub firm_to_disconnect : (library : Library) (design : List Record) (c p : List ℕ) (run : TokenRun) (e : Entry) (before taken : ℕ) → before ≡ front_of (before_terminal c p (terminals_of e)) → taken ≡ tokens_taken c p (terminals_of e) → before + taken ≤ length (words_of run)
+    → AreFirm (plan_of_entry library design (disconnect_from c p) (pieces_of run) e).changes
+firm_to_disconnect library design c p run e before taken front own within =
+    let many = pieces_counted run in
+    (omega (arith, many, front, within), subst (λ (n : ℕ). n + tokens_taken c p (terminals_of e) ≤ length (pieces_of run)) front (subst (λ (n : ℕ). before + n ≤ length (pieces_of run)) own (omega (arith, many, within))), tt)
+
+-- a terminal goes behind those of an entry that has tokens
+pub firm_to_connect : (library : Library) (design : List Record) (c p : List ℕ) (run : TokenRun) (e : Entry) → front_of (terminals_of e) ≤ length (words_of run) → AreFirm (plan_of_entry library design (connect_to c p) (pieces_of run) e).changes
+firm_to_connect library design c p run e within = let many = pieces_counted run in (omega (arith, many, within), omega (arith, many, within), tt)
+
+-- the plan of a terminal's edit for tokens that are moved is the moved plan
+pub terminal_moved : (library : Library) (design : List Record) (at : ℕ) (ps : List Token) (e : Entry) (c p : List ℕ)
+    → (plan_of_entry library design (connect_to c p) (moved_tokens at ps) e ≡ moved_plan at (plan_of_entry library design (connect_to c p) ps e))
+    × (plan_of_entry library design (disconnect_from c p) (moved_tokens at ps) e ≡ moved_plan at (plan_of_entry library design (disconnect_from c p) ps e))
+terminal_moved library design at ps e c p = (refl, refl)
 
 -- an edit of a net follows the plan of its entry
 module _ (library : Library) (text name : List ℕ) (change : NetChange) (design : List Record) (reads : read_def text ≡ Ok design) where

@@ -1,5 +1,5 @@
 -- The plans of routing a net and of unrouting it, by what its clauses are to wiring.
-use Rattle.std.proofs.Common.{◌≡◌, ◌≤◌, ℕ, ◌+◌, ◌-◌, ◌==◌, Bool, true, false, not, ◌||◌, List, [], ◌∷◌, ◌++◌, length, map, drop, Option, Some, None, Result, Ok, Err, if◌then◌else◌, arith, refl, sym, ap, ap₂, subst, ◌∙◌, codes, length-drop}
+use Rattle.std.proofs.Common.{◌≡◌, ◌≤◌, ◌<◌, ℕ, ◌+◌, ◌-◌, ◌==◌, Bool, true, false, not, ◌||◌, List, [], ◌∷◌, ◌++◌, length, map, drop, Option, Some, None, Result, Ok, Err, if◌then◌else◌, arith, refl, sym, ap, ap₂, subst, ◌∙◌, codes, length-drop}
 use Rattle.std.proofs.lemmas.List.{length-map}
 use Rattle.std.specs.List.{list_any}
 use Rattle.design_model.specs.declared.fault.Fault.{Fault}
@@ -32,12 +32,18 @@ use Rattle.lefdef_tokens.specs.Places.{behind, past}
 use Rattle.lefdef_tokens.specs.Views.{pieces_of, words_of}
 use Rattle.lefdef_tokens.specs.declared.token_run.TokenRun.{TokenRun}
 use Rattle.lefdef_tokens.proofs.PlaceLemmas.{behind_is_drop}
+use Rattle.design_model.specs.declared.mode.Section.{Section}
+use Rattle.form_meanings.specs.Words.{◌>>=◌}
+use Rattle.lefdef_tokens.specs.Laws.{moved_token}
+use Rattle.def_splice.specs.Lying.{lying_tokens, moved_change, moved_plan, moved_tokens}
 use Rattle.def_splice.specs.NetViews.{entry_with}
 use Rattle.def_splice.specs.SpliceViews.{FollowsAll, MakesSplices, change_cut, cut_view}
 use Rattle.def_splice.specs.WiringPlanViews.{IsWired, is_wired_seen, put_text, route_refusals, route_so, unroute_refusals, unroute_so, wiring_change}
 use Rattle.net_wiring.specs.WiringViews.{Clauses, StandBehind, any_passes, are_wiring, clauses_in, is_other, is_said, is_wired, left_of, nets_in, reads_wiring, said_in, section_of, shown, size_before, tokens_of, wiring_on}
 use Rattle.net_wiring.specs.declared.wiring_clauses.EntryClauses.{EntryClauses}
 use Rattle.net_wiring.specs.declared.wiring_clauses.NetSection.{NetSection}
+use Rattle.def_splice.specs.declared.lying.Lying.{Lying}
+use Rattle.def_splice.proofs.SomeTokens.{entry_has_some}
 use Rattle.def_splice.proofs.NetPlans.{net_planned, planned, unplanned}
 use Rattle.def_splice.proofs.PlanLemmas.{makes, refused}
 use Rattle.net_wiring.proofs.WiringLemmas.{any_shown, barred_same, before_size, none_same, taken_size}
@@ -146,11 +152,34 @@ abbrev pub before_clauses : TokenRun → EntryClauses → ℕ
 before_clauses run cs = length (words_of run) - tokens_left cs
 
 -- so its clauses are some of its tokens
-pub clauses_within : (found : Option (List Token × Record)) (cs : EntryClauses) (run : TokenRun) → IsWired found cs run → tokens_left cs ≤ length (words_of run)
-clauses_within found cs run w = omega (arith, clauses_left (pieces_of run) (terminals_of w.own) cs w.stand, words_left run)
+pub clauses_within : (found : Option (List Token × Record)) (cs : EntryClauses) (x : Lying) → IsWired found cs x → tokens_left cs ≤ length (words_of x.tokens)
+clauses_within found cs x w = omega (arith, clauses_left (pieces_of x.tokens) (terminals_of w.own) cs w.stand, words_left x.tokens)
 
-front_is : (run : TokenRun) (ts : List Terminal) (cs : EntryClauses) → StandBehind (pieces_of run) ts cs → front_of ts ≤ length (pieces_of run) → front_of ts ≡ before_clauses run cs
-front_is run ts cs at low = omega (arith, clauses_left (pieces_of run) ts cs at, words_left run, low)
+tokens_there : (x : Lying) → length (lying_tokens x) ≡ length (pieces_of x.tokens)
+tokens_there x = length-map (pieces_of x.tokens) (moved_token x.at)
+
+front_is : (x : Lying) (ts : List Terminal) (cs : EntryClauses) → StandBehind (pieces_of x.tokens) ts cs → front_of ts ≤ length (lying_tokens x) → front_of ts ≡ before_clauses x.tokens cs
+front_is x ts cs at low = omega (arith, clauses_left (pieces_of x.tokens) ts cs at, words_left x.tokens, low, tokens_there x)
+
+-- an entry that is found has tokens
+entry_found : (o : Option (List Token × Record)) (ps : List Token) (e : Entry) → Some (ps, e) ≡ entry_with o → (rec : Record) × (o ≡ Some (ps, rec))
+entry_found None ps e is = absurd (cc)
+entry_found (Some y) ps e is = (y.1, with_entry (entry_of y.1) is)
+  where
+    with_entry : (o : Option Entry) → Some (ps, e) ≡ (o >>= λ f. Some (y.0, f)) → Some y ≡ Some (ps, y.1)
+    with_entry None is = absurd (cc)
+    with_entry (Some f) is = let here : ps ≡ y.0 = cc in ap (λ (qs : List Token). Some (qs, y.1)) (sym here)
+
+pub wired_some : (text : List ℕ) (design : List Record) (s : Section) (name : List ℕ) (cs : EntryClauses) (x : Lying) → IsWired (entry_at s name (located text design)) cs x → 0 < length (words_of x.tokens)
+wired_some text design s name cs x w = let there = entry_found (entry_at s name (located text design)) (lying_tokens x) w.own w.is in entry_has_some text design s name x there.0 there.1
+
+-- the plan of taking wiring out, for tokens that are moved
+pub unroute_moved : (at : ℕ) (ps : List Token) (front : ℕ) (xs : Clauses) → unroute_so (moved_tokens at ps) front xs ≡ moved_plan at (unroute_so ps front xs)
+unroute_moved at ps front xs = ap (λ changes. record { refusals = unroute_refusals xs; changes = changes }) (by_any (any_passes is_wiring xs))
+  where
+    by_any : (any : Bool) → (if any then (moved_tokens at ps, wiring_change front [] xs) ∷ [] else []) ≡ map (moved_change at) (if any then (ps, wiring_change front [] xs) ∷ [] else [])
+    by_any true = refl
+    by_any false = refl
 
 lies_low : (ps : List Token) (c : StatementChange) (changes : List (List Token × StatementChange)) → changes ≡ (ps, c) ∷ [] → LieWithin changes → c.before + c.taken ≤ length ps
 lies_low ps c changes one lie = (subst LieWithin one lie).0
@@ -188,9 +217,9 @@ module _ (library : Library) (text name : List ℕ) (design : List Record) (read
   abbrev found_entry : Option (List Token × Record)
   found_entry = entry_at (section_of_net unroute_all name design) name (located text design)
 
-  module _ (run : TokenRun) (cs : EntryClauses) (w : IsWired found_entry cs run) where
+  module _ (x : Lying) (cs : EntryClauses) (w : IsWired found_entry cs x) where
     abbrev own_plan : NetChange → Plan
-    own_plan change = plan_of_entry library design change (pieces_of run) w.own
+    own_plan change = plan_of_entry library design change (lying_tokens x) w.own
 
     within : (change : NetChange) → plan_of library text design (of_net name change) ≡ own_plan change → lowest (own_plan change).refusals ≡ None → LieWithin (own_plan change).changes
     within change is free =
@@ -198,30 +227,28 @@ module _ (library : Library) (text name : List ℕ) (design : List Record) (read
         subst (λ (p : Plan). LieWithin p.changes) is all.within
 
     abbrev own_front : ℕ
-    own_front = before_clauses run cs
+    own_front = before_clauses x.tokens cs
 
-    front_so : front_of (terminals_of w.own) ≤ length (pieces_of run) → front_of (terminals_of w.own) ≡ own_front
-    front_so low = front_is run (terminals_of w.own) cs w.stand low
+    front_so : front_of (terminals_of w.own) ≤ length (lying_tokens x) → front_of (terminals_of w.own) ≡ own_front
+    front_so low = front_is x (terminals_of w.own) cs w.stand low
 
-    pub routed_makes : {A : Type 0} (bytes own_text : List ℕ) (r : Result (List (Splice A)) EditRefusal) → own_text ≡ text
-        → FollowsAll own_text (route_so (pieces_of run) own_front bytes (left_of cs) (is_said (reads_wiring (section_of cs)) bytes)) r → MakesSplices library text (of_net name (route_by bytes)) r
-    routed_makes {A} bytes own_text r same follows =
-        let so = route_so (pieces_of run) own_front bytes (left_of cs) (is_said (reads_wiring (section_of cs)) bytes) in
-        let here : FollowsAll {A = A} text so r = subst (λ (t : List ℕ). FollowsAll {A = A} t so r) same follows in
-        let is : plan_of library text design (of_net name (route_by bytes)) ≡ own_plan (route_by bytes) = net_planned library text name (route_by bytes) design reads (pieces_of run, w.own) w.is in
-        let entry_same = routed_same library design text (pieces_of run) own_front bytes w.own w.clauses.wired (within (route_by bytes) is) front_so in
-        let shown_same = ap₂ (λ (xs : Clauses) (section : NetSection). outcome_of text (route_so (pieces_of run) own_front bytes xs (is_said (reads_wiring section) bytes))) w.clauses.shows w.clauses.section in
-        makes library text (of_net name (route_by bytes)) design reads (own_plan (route_by bytes)) is r (follows_too text (own_plan (route_by bytes)) so r (entry_same ∙ shown_same) here)
+    pub routed_makes : {A : Type 0} (bytes : List ℕ) (r : Result (List (Splice A)) EditRefusal)
+        → FollowsAll text (route_so (lying_tokens x) own_front bytes (left_of cs) (is_said (reads_wiring (section_of cs)) bytes)) r → MakesSplices library text (of_net name (route_by bytes)) r
+    routed_makes {A} bytes r follows =
+        let so = route_so (lying_tokens x) own_front bytes (left_of cs) (is_said (reads_wiring (section_of cs)) bytes) in
+        let is : plan_of library text design (of_net name (route_by bytes)) ≡ own_plan (route_by bytes) = net_planned library text name (route_by bytes) design reads (lying_tokens x, w.own) w.is in
+        let entry_same = routed_same library design text (lying_tokens x) own_front bytes w.own w.clauses.wired (within (route_by bytes) is) front_so in
+        let shown_same = ap₂ (λ (xs : Clauses) (section : NetSection). outcome_of text (route_so (lying_tokens x) own_front bytes xs (is_said (reads_wiring section) bytes))) w.clauses.shows w.clauses.section in
+        makes library text (of_net name (route_by bytes)) design reads (own_plan (route_by bytes)) is r (follows_too text (own_plan (route_by bytes)) so r (entry_same ∙ shown_same) follows)
 
-    pub unrouted_makes : {A : Type 0} (own_text : List ℕ) (r : Result (List (Splice A)) EditRefusal) → own_text ≡ text
-        → FollowsAll own_text (unroute_so (pieces_of run) own_front (left_of cs)) r → MakesSplices library text (of_net name unroute_all) r
-    unrouted_makes {A} own_text r same follows =
-        let so = unroute_so (pieces_of run) own_front (left_of cs) in
-        let here : FollowsAll {A = A} text so r = subst (λ (t : List ℕ). FollowsAll {A = A} t so r) same follows in
-        let is : plan_of library text design (of_net name unroute_all) ≡ own_plan unroute_all = net_planned library text name unroute_all design reads (pieces_of run, w.own) w.is in
-        let entry_same = unrouted_same library design text (pieces_of run) own_front w.own w.clauses.wired (within unroute_all is) front_so in
-        let shown_same = ap (λ (xs : Clauses). outcome_of text (unroute_so (pieces_of run) own_front xs)) w.clauses.shows in
-        makes library text (of_net name unroute_all) design reads (own_plan unroute_all) is r (follows_too text (own_plan unroute_all) so r (entry_same ∙ shown_same) here)
+    pub unrouted_makes : {A : Type 0} (r : Result (List (Splice A)) EditRefusal)
+        → FollowsAll text (unroute_so (lying_tokens x) own_front (left_of cs)) r → MakesSplices library text (of_net name unroute_all) r
+    unrouted_makes {A} r follows =
+        let so = unroute_so (lying_tokens x) own_front (left_of cs) in
+        let is : plan_of library text design (of_net name unroute_all) ≡ own_plan unroute_all = net_planned library text name unroute_all design reads (lying_tokens x, w.own) w.is in
+        let entry_same = unrouted_same library design text (lying_tokens x) own_front w.own w.clauses.wired (within unroute_all is) front_so in
+        let shown_same = ap (λ (xs : Clauses). outcome_of text (unroute_so (lying_tokens x) own_front xs)) w.clauses.shows in
+        makes library text (of_net name unroute_all) design reads (own_plan unroute_all) is r (follows_too text (own_plan unroute_all) so r (entry_same ∙ shown_same) follows)
 
 -- where no entry is found that may have wiring, the name is unknown
 module _ (library : Library) (design : List Record) where

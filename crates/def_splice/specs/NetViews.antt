@@ -7,8 +7,6 @@ use Rattle.design_model.specs.declared.mode.Section.TheVariants.{Pins}
 use Rattle.def_grammar.specs.Components.{Component}
 use Rattle.def_grammar.specs.Records.{Entry, Record, entry_of}
 use Rattle.def_grammar.specs.Terminals.{Terminal}
-use Rattle.lefdef_tokens.specs.Views.{pieces_of}
-use Rattle.lefdef_tokens.specs.declared.token_run.TokenRun.{TokenRun}
 use Rattle.def_reader.specs.EntryViews.{entry_view}
 use Rattle.def_reader.specs.declared.entry.Entry as code
 use Rattle.edit_model.specs.declared.edit.EditCode.{EditCode}
@@ -17,10 +15,12 @@ use Rattle.entry_rules.specs.Unknown.{component_named, stands_in}
 use Rattle.lef_grammar.specs.Library.{Library, Macro, macro_named}
 use Rattle.edit_rules.specs.NetEdits.{before_terminal, has_pin, is_pin, is_terminal, lists, tokens_of_first, tokens_of_terminals}
 use Rattle.def_splice.specs.LookupViews.{of_entry}
+use Rattle.def_splice.specs.Lying.{lying_tokens}
+use Rattle.def_splice.specs.declared.lying.Lying.{Lying}
 
 -- an entry with its tokens
-abbrev pub entry_seen : code.Entry × TokenRun → List Token × Entry
-entry_seen x = (pieces_of x.1, entry_view x.0)
+abbrev pub entry_seen : code.Entry × Lying → List Token × Entry
+entry_seen x = (lying_tokens x.1, entry_view x.0)
 
 abbrev pub entry_with : Option (List Token × Record) → Option (List Token × Entry)
 entry_with found = found >>= λ (x : List Token × Record). entry_of x.1 >>= λ e. Some (x.0, e)

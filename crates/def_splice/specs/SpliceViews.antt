@@ -1,6 +1,6 @@
 -- Splices of the program as cuts of the definitions.
 use Rattle.std.specs.Prelude.{Bool, ◌≡◌, ◌≤◌, ◌-◌, ◌++◌, ℕ, true, false, List, [], ◌∷◌, codes, length, map, take, Option, Some, None, Result, Ok, Err}
-use Rattle.std.specs.Option.{option_map}
+use Rattle.std.specs.Option.{option_map, option_to_list}
 use Rattle.edit_model.specs.declared.edit.EditCode.TheVariants.{Fixed, TooLong}
 use Rattle.edit_model.specs.declared.edit.EditRefusal.{EditRefusal}
 use Rattle.edit_model.specs.declared.edit.EditRefusal.TheVariants.{Refused, Unreadable, Memory}
@@ -12,7 +12,7 @@ use Rattle.def_grammar.specs.Components.{Clause, placed}
 use Rattle.def_grammar.specs.Placing.{is_held}
 use Rattle.lef_grammar.specs.Library.{Library}
 use Rattle.edit_rules.specs.Edits.{Change}
-use Rattle.edit_rules.specs.Plans.{Plan, cut_of, is_long, outcome_of, put_apart}
+use Rattle.edit_rules.specs.Plans.{Plan, cut_of, cuts_for, is_long, lowest, outcome_of, put_apart}
 use Rattle.edit_rules.specs.Runs.{Makes, MayWantMemory, WantsMemory}
 
 abbrev pub cut_view : {A : Type 0} → Splice A → Cut
@@ -43,6 +43,17 @@ AreCuts text cuts (Ok ss) = (map cut_view ss ≡ cuts) × (is_long (with_cuts cu
 AreCuts text cuts (Err (Refused code)) = (code ≡ TooLong) × (is_long (with_cuts cuts text) ≡ true)
 AreCuts text cuts (Err (Unreadable fault)) = ⊥
 AreCuts text cuts (Err Memory) = Unit {0}
+
+-- the splice is the one cut of a plan, which may make none and isn't refused for a reason of its own; or it is refused so
+abbrev pub MakesOne : {A : Type 0} → List ℕ → Plan → Result (Option (Splice A)) EditRefusal → Type 0
+MakesOne text plan (Ok splice) = (lowest plan.refusals ≡ None) × (cuts_for text plan.changes ≡ option_to_list (option_map cut_view splice))
+MakesOne text plan (Err (Refused code)) = lowest plan.refusals ≡ Some code
+MakesOne text plan (Err (Unreadable fault)) = ⊥
+MakesOne text plan (Err Memory) = lowest plan.refusals ≡ None
+
+-- a splice, if there is one, lies within a length
+abbrev pub IsWithin : {A : Type 0} → ℕ → Splice A → Type 0
+IsWithin n s = (s.lo ≤ s.hi) × (s.hi ≤ n)
 
 -- the splices are the cuts of a plan for a text, or the plan is refused so
 abbrev pub FollowsAll : {A : Type 0} → List ℕ → Plan → Result (List (Splice A)) EditRefusal → Type 0

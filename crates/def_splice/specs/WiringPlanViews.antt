@@ -5,25 +5,26 @@ use Rattle.edit_model.specs.declared.edit.EditCode.TheVariants.{Fixed, WiringTex
 use Rattle.statement_model.specs.Tokens.{Token}
 use Rattle.def_grammar.specs.Records.{Entry, Record}
 use Rattle.lefdef_tokens.specs.Views.{pieces_of}
-use Rattle.lefdef_tokens.specs.declared.token_run.TokenRun.{TokenRun}
 use Rattle.edit_rules.specs.NetEdits.{is_held, is_wiring, terminals_of}
 use Rattle.edit_rules.specs.Plans.{Plan, StatementChange}
 use Rattle.net_wiring.specs.WiringViews.{AreOf, Clauses, StandBehind, any_passes, is_barred, is_other, is_wired, size_before, wiring_on}
 use Rattle.net_wiring.specs.declared.wiring_clauses.EntryClauses as code_clauses
+use Rattle.def_splice.specs.Lying.{lying_tokens}
 use Rattle.def_splice.specs.NetViews.{entry_with}
+use Rattle.def_splice.specs.declared.lying.Lying.{Lying}
 
 abbrev pub is_wired_seen : Option (List Token × Entry) → Bool
 is_wired_seen None = false
 is_wired_seen (Some x) = is_wired x.1
 
 -- of the entry that was found, these are the clauses and the tokens
-pub record IsWired (found : Option (List Token × Record)) (cs : code_clauses.EntryClauses) (run : TokenRun) : Type 0 where
+pub record IsWired (found : Option (List Token × Record)) (cs : code_clauses.EntryClauses) (x : Lying) : Type 0 where
   pub own : Entry
-  pub is : Some (pieces_of run, own) ≡ entry_with found
+  pub is : Some (lying_tokens x, own) ≡ entry_with found
   pub clauses : AreOf own cs
-  pub stand : StandBehind (pieces_of run) (terminals_of own) cs
+  pub stand : StandBehind (pieces_of x.tokens) (terminals_of own) cs
 
-abbrev pub FoundWired : Option (List Token × Record) → Option (code_clauses.EntryClauses × TokenRun) → Type 0
+abbrev pub FoundWired : Option (List Token × Record) → Option (code_clauses.EntryClauses × Lying) → Type 0
 FoundWired found None = is_wired_seen (entry_with found) ≡ false
 FoundWired found (Some x) = IsWired found x.0 x.1
 

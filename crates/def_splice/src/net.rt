@@ -1,6 +1,6 @@
 //! The splices of an edit of a net's terminals.
 
-ghost use Rattle.std.specs.Prelude.{◌≡◌, ◌≤◌, ◌∷◌, [], length, List, Ok, IfOk, IsOk};
+ghost use Rattle.std.specs.Prelude.{◌≡◌, ◌≤◌, length, List, Ok, IfOk, IfSome, IsOk};
 ghost use Rattle.design_model.specs.declared.TheConstants.{MAX_TEXT};
 ghost use Rattle.def_grammar.specs.Records.{read_def, Record};
 ghost use Rattle.lef_grammar.specs.Library.{Library as TheLibrary};
@@ -9,11 +9,12 @@ ghost use Rattle.def_reader.specs.EntryViews.{EntryAt, entry_view};
 ghost use Rattle.edit_rules.specs.Edits.{of_net};
 ghost use Rattle.edit_rules.specs.NetEdits.{connect_to, disconnect_from, front_of, plan_of_entry, terminal_text, terminals_of};
 ghost use Rattle.edit_rules.specs.Plans.{lowest};
+ghost use Rattle.def_splice.specs.Lying.{AreFirm};
 ghost use Rattle.def_splice.specs.NetViews.{connect_refusals};
-ghost use Rattle.def_splice.specs.SpliceViews.{change_cut, AreCuts, AreInOrder, FollowsAll, MakesSplices};
+ghost use Rattle.def_splice.specs.SpliceViews.{change_cut, cut_view, AreInOrder, IsWithin, MakesOne, MakesSplices};
 
-use crate::fitting::one_splice;
-use crate::lookups::{is_connected, is_pin, listing_entry, net_entry, with_tokens};
+use crate::lookups::{LookUps, is_pin, listing_entry, net_entry, with_tokens};
+use crate::lying::in_text;
 use crate::net_terminals::{terminal_tokens, tokens_to_end};
 use crate::terminals::Named;
 use crate::token_splices::change_splice;
@@ -21,7 +22,7 @@ use cell_library::library::Library;
 use def_reader::entry::Entry;
 use design_model::MAX_TEXT;
 use edit_laws::editing::edits_stand_in_order;
-use edit_model::edit::{EditCode, EditRefusal, Splices};
+use edit_model::edit::{EditCode, EditRefusal, Splice, Splices};
 use lefdef_tokens::TokenRun;
 use std::alloc::{AllocError, Allocator};
 
@@ -44,97 +45,100 @@ fn entry_connected<'t, A: Allocator + Copy>(
     tokens: TokenRun<'t>,
     owner: &[u8],
     pin: &[u8],
-) -> Result<Splices<A>, EditRefusal>
+) -> Result<Splice<A>, AllocError>
     requires lent { EntryAt (pieces_of tokens) entry.now }
-    requires within { front_of (terminals_of (entry_view entry.now)) ≤ length (words_of tokens) }
-    ensures cuts { AreCuts tokens.entry.text.now (change_cut tokens.entry.text.now (pieces_of tokens.entry) (front_of (terminals_of (entry_view entry.now))) 0 (terminal_text owner.now pin.now) ∷ []) result }
-    ensures order { IfOk result (λ ss. AreInOrder 0 ss (length tokens.entry.text.now)) }
+    requires tokens { front_of (terminals_of (entry_view entry.now)) ≤ length (words_of tokens) }
+    ensures cut { IfOk result (λ s. cut_view s ≡ change_cut tokens.entry.text.now (pieces_of tokens.entry) (front_of (terminals_of (entry_view entry.now))) 0 (terminal_text owner.now pin.now)) }
+    ensures within { IfOk result (IsWithin (length tokens.entry.text.now)) }
 {
     let put = terminal_text(alloc, owner, pin)?;
     let before = tokens_to_end(entry, tokens);
-    let splice = change_splice(alloc, tokens, before, 0, &put)?;
-    one_splice(alloc, tokens.text, splice)
+    change_splice(alloc, tokens, before, 0, &put)
 }
 
 /// Why a terminal isn't connected to a net.
-fn connect_refusal<A: Allocator + Copy>(
+fn connect_refusal<A: Allocator + Copy, L: LookUps>(
     library: &Library<'_, A>,
-    text: &[u8],
+    lookups: &L,
     owner: &[u8],
     pin: &[u8],
 ) -> Option<EditCode>
-    requires { IsOk (read_def text.now) }
-    ensures { (design : List Record) → read_def text.now ≡ Ok design → result ≡ lowest (connect_refusals library.now design owner.now pin.now) }
+    requires { IsOk (read_def (L.text lookups.now)) }
+    ensures { (design : List Record) → read_def (L.text lookups.now) ≡ Ok design → result ≡ lowest (connect_refusals library.now design owner.now pin.now) }
 {
-    if !is_pin(library, text, owner, pin) {
+    if !is_pin(library, lookups, owner, pin) {
         return Some(EditCode::UnknownName);
     }
-    if is_connected(text, owner, pin) {
+    if lookups.is_connected(owner, pin) {
         return Some(EditCode::Connection);
     }
     None
 }
 
 /// The splice that connects a pin to a net of a text that reads, or why that is refused.
-pub fn connect_splices<A: Allocator + Copy>(
+pub fn connect_splices<A: Allocator + Copy, L: LookUps>(
     alloc: A,
     library: &Library<'_, A>,
-    text: &[u8],
+    lookups: &L,
     net: &[u8],
     owner: &[u8],
     pin: &[u8],
 ) -> Result<Splices<A>, EditRefusal>
-    requires fits { length text.now ≤ MAX_TEXT }
-    requires reads { IsOk (read_def text.now) }
-    ensures makes { MakesSplices library.now text.now (of_net net.now (connect_to owner.now pin.now)) result }
-    ensures order { IfOk result (λ ss. AreInOrder 0 ss (length text.now)) }
+    requires fits { length (L.text lookups.now) ≤ MAX_TEXT }
+    requires reads { IsOk (read_def (L.text lookups.now)) }
+    ensures makes { MakesSplices library.now (L.text lookups.now) (of_net net.now (connect_to owner.now pin.now)) result }
+    ensures order { IfOk result (λ ss. AreInOrder 0 ss (length (L.text lookups.now))) }
 {
     edits_stand_in_order();
-    let Some((entry, tokens)) = with_tokens(net_entry(text, net)) else {
+    let Some((entry, tokens)) = with_tokens(net_entry(lookups, net)) else {
         return Err(EditRefusal::Refused(EditCode::UnknownName));
     };
-    if let Some(code) = connect_refusal(library, text, owner, pin) {
+    if let Some(code) = connect_refusal(library, lookups, owner, pin) {
         return Err(EditRefusal::Refused(code));
     }
-    entry_connected(alloc, &entry, tokens, owner, pin)
+    let splice = entry_connected(alloc, &entry, tokens.tokens, owner, pin)?;
+    in_text(alloc, lookups.len(), tokens, Ok(Some(splice)))
 }
 
 /// The splice that takes a terminal out of an entry, or why that is refused.
-fn entry_disconnected<'t, A: Allocator + Copy>(
+fn entry_disconnected<'t, A: Allocator>(
     alloc: A,
     entry: &Entry<'t>,
     tokens: TokenRun<'t>,
     owner: &[u8],
     pin: &[u8],
-) -> Result<Splices<A>, EditRefusal>
+) -> Result<Option<Splice<A>>, EditRefusal>
     requires { EntryAt (pieces_of tokens) entry.now }
-    ensures gives { (library : TheLibrary) → (design : List Record) → FollowsAll tokens.entry.text.now (plan_of_entry library design (disconnect_from owner.now pin.now) (pieces_of tokens.entry) (entry_view entry.now)) result }
-    ensures order { IfOk result (λ ss. AreInOrder 0 ss (length tokens.entry.text.now)) }
+    ensures gives { (library : TheLibrary) → (design : List Record) → MakesOne tokens.entry.text.now (plan_of_entry library design (disconnect_from owner.now pin.now) (pieces_of tokens.entry) (entry_view entry.now)) result }
+    ensures firm { (library : TheLibrary) → (design : List Record) → IfOk result (λ _. AreFirm (plan_of_entry library design (disconnect_from owner.now pin.now) (pieces_of tokens.entry) (entry_view entry.now)).changes) }
+    ensures within { IfOk result (λ splice. IfSome splice (IsWithin (length tokens.entry.text.now))) }
 {
     let named = Named { owner, pin };
     let Some((before, taken)) = terminal_tokens(entry, tokens, &named) else {
         return Err(EditRefusal::Refused(EditCode::Connection));
     };
     let splice = change_splice(alloc, tokens, before, taken, b"")?;
-    one_splice(alloc, tokens.text, splice)
+    Ok(Some(splice))
 }
 
 /// The splice that takes a terminal from a net of a text that reads, or why that is refused.
-pub fn disconnect_splices<A: Allocator + Copy>(
+pub fn disconnect_splices<A: Allocator + Copy, L: LookUps>(
     alloc: A,
     library: &Library<'_, A>,
-    text: &[u8],
+    lookups: &L,
     net: &[u8],
     owner: &[u8],
     pin: &[u8],
 ) -> Result<Splices<A>, EditRefusal>
-    requires fits { length text.now ≤ MAX_TEXT }
-    requires reads { IsOk (read_def text.now) }
-    ensures makes { MakesSplices library.now text.now (of_net net.now (disconnect_from owner.now pin.now)) result }
-    ensures order { IfOk result (λ ss. AreInOrder 0 ss (length text.now)) }
+    requires fits { length (L.text lookups.now) ≤ MAX_TEXT }
+    requires reads { IsOk (read_def (L.text lookups.now)) }
+    ensures makes { MakesSplices library.now (L.text lookups.now) (of_net net.now (disconnect_from owner.now pin.now)) result }
+    ensures order { IfOk result (λ ss. AreInOrder 0 ss (length (L.text lookups.now))) }
 {
-    let Some((entry, tokens)) = with_tokens(listing_entry(text, net, owner, pin)) else {
+    let Some((entry, tokens)) = with_tokens(listing_entry(lookups, net, owner, pin)) else {
         return Err(EditRefusal::Refused(EditCode::UnknownName));
     };
-    entry_disconnected(alloc, &entry, tokens, owner, pin)
+    edits_stand_in_order();
+    let splice = entry_disconnected(alloc, &entry, tokens.tokens, owner, pin);
+    in_text(alloc, lookups.len(), tokens, splice)
 }

@@ -10,13 +10,12 @@ ghost use Rattle.edit_rules.specs.ComponentEdits.{is_out, place_plan};
 ghost use Rattle.lefdef_tokens.specs.Views.{pieces_of, words_of};
 ghost use Rattle.place_parts.specs.ClauseViews.{clause_view};
 ghost use Rattle.place_parts.specs.ComponentViews.{component_view};
-ghost use Rattle.def_splice.specs.SpliceViews.{clause_cut, cut_view, AreInOrder, FollowsAll, Moves};
+ghost use Rattle.def_splice.specs.SpliceViews.{clause_cut, cut_view, IsWithin, MakesOne, Moves};
 
-use crate::fitting::one_splice;
 use crate::put::{placed_text, put_apart};
 use crate::token_splices::over_tokens;
 use design_model::geometry::{Orient, Status};
-use edit_model::edit::{EditCode, EditRefusal, Splice, Splices};
+use edit_model::edit::{EditCode, EditRefusal, Splice};
 use lefdef_tokens::TokenRun;
 use place_parts::component_parts::ComponentParts;
 use place_parts::components::Clause;
@@ -87,10 +86,10 @@ pub fn entry_placed<'t, A: Allocator + Copy>(
     x: i64,
     y: i64,
     orient: Orient,
-) -> Result<Splices<A>, EditRefusal>
+) -> Result<Option<Splice<A>>, EditRefusal>
     requires spelled { words_of entry ≡ spell component_form (component_view component) }
-    ensures gives { FollowsAll entry.entry.text.now (place_plan x y orient (pieces_of entry.entry) (component_view component.entry)) result }
-    ensures order { IfOk result (λ ss. AreInOrder 0 ss (length entry.entry.text.now)) }
+    ensures gives { MakesOne entry.entry.text.now (place_plan x y orient (pieces_of entry.entry) (component_view component.entry)) result }
+    ensures within { IfOk result (λ splice. IfSome splice (IsWithin (length entry.entry.text.now))) }
 {
     let clause = movable(component.placing_tokens(entry))?;
     if is_out(x) || is_out(y) {
@@ -98,5 +97,5 @@ pub fn entry_placed<'t, A: Allocator + Copy>(
     }
     let put = placed_text(alloc, x, y, orient)?;
     let splice = clause_splice(alloc, entry, clause, &put)?;
-    one_splice(alloc, entry.text, splice)
+    Ok(Some(splice))
 }

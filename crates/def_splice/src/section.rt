@@ -1,6 +1,6 @@
 //! The splices of an edit of a section: an entry put last into it, or taken out.
 
-ghost use Rattle.std.specs.Prelude.{◌≡◌, ◌≤◌, ◌||◌, length, List, Ok, IfOk, IsOk};
+ghost use Rattle.std.specs.Prelude.{◌≡◌, ◌≤◌, ◌<◌, ◌||◌, length, List, Ok, IfOk, IsOk};
 ghost use Rattle.design_model.specs.declared.TheConstants.{MAX_TEXT};
 ghost use Rattle.design_model.specs.declared.mode.Section.TheVariants.{Components};
 ghost use Rattle.statement_model.specs.Form.{spell};
@@ -15,16 +15,14 @@ ghost use Rattle.edit_rules.specs.Plans.{cuts_for, lowest};
 ghost use Rattle.edit_rules.specs.SectionEdits.{add_blockage, add_component, putting, remove_component, taking};
 ghost use Rattle.def_splice.specs.SpliceViews.{AreCuts, AreInOrder, MakesSplices};
 ghost use Rattle.def_splice.specs.LookupViews.{section_plan_of, MayPut, StandWithin};
+ghost use Rattle.def_splice.specs.Lying.{LiesIn, lying_tokens};
 
 use crate::fitting::two_splices;
-use crate::lookups::{
-    component_entry, end_of, entries_in, has_macro, has_section, header_of, is_listed,
-    is_unknown_layer,
-};
+use crate::lookups::{LookUps, has_macro, has_section, is_unknown_layer};
+use crate::lying::Lying;
 use crate::names::is_component_name;
 use crate::place::{is_held, is_out};
 use crate::section_texts::{blockage_text, component_text, count_text};
-use crate::token_splices::change_splice;
 use cell_library::library::Library;
 use design_model::MAX_TEXT;
 use design_model::mode::Section;
@@ -37,39 +35,39 @@ use std::alloc::Allocator;
 
 /// The splices that put an entry's bytes before the `END` of a section, and its new number of entries into its header. There are
 /// none in a text without that section.
-fn entry_put<A: Allocator + Copy>(
+fn entry_put<A: Allocator + Copy, L: LookUps>(
     alloc: A,
-    text: &[u8],
+    lookups: &L,
     section: Section,
     put: &[u8],
 ) -> Result<Splices<A>, EditRefusal>
-    requires fits { length text.now ≤ MAX_TEXT }
-    requires reads { IsOk (read_def text.now) }
-    requires stand { (design : List Record) → read_def text.now ≡ Ok design → MayPut text.now design section put.now }
-    ensures cuts { (design : List Record) → (said : Entry) → read_def text.now ≡ Ok design → AreCuts text.now (cuts_for text.now (putting section put.now said (located text.now design) design)) result }
-    ensures order { IfOk result (λ ss. AreInOrder 0 ss (length text.now)) }
+    requires fits { length (L.text lookups.now) ≤ MAX_TEXT }
+    requires reads { IsOk (read_def (L.text lookups.now)) }
+    requires stand { (design : List Record) → read_def (L.text lookups.now) ≡ Ok design → MayPut (L.text lookups.now) design section put.now }
+    ensures cuts { (design : List Record) → (said : Entry) → read_def (L.text lookups.now) ≡ Ok design → AreCuts (L.text lookups.now) (cuts_for (L.text lookups.now) (putting section put.now said (located (L.text lookups.now) design) design)) result }
+    ensures order { IfOk result (λ ss. AreInOrder 0 ss (length (L.text lookups.now))) }
 {
-    let Some(header) = header_of(text, section) else {
+    let Some(header) = lookups.header(section) else {
         return Ok(Sequence::new(alloc));
     };
-    let Some(end) = end_of(text, section) else {
+    let Some(end) = lookups.end(section) else {
         return Ok(Sequence::new(alloc));
     };
-    let number = count_text(alloc, entries_in(text, section) + 1)?;
-    let first = change_splice(alloc, header, 1, 1, &number)?;
-    let second = change_splice(alloc, end, 0, 0, put)?;
-    two_splices(alloc, text, first, second)
+    let number = count_text(alloc, lookups.entries_in(section) + 1)?;
+    let first = header.change_splice(alloc, 1, 1, &number)?;
+    let second = end.change_splice(alloc, 0, 0, put)?;
+    two_splices(alloc, lookups.len(), first, second)
 }
 
 /// Why a component isn't added.
-fn add_refusal<A: Allocator + Copy>(
+fn add_refusal<A: Allocator + Copy, L: LookUps>(
     library: &Library<'_, A>,
-    text: &[u8],
+    lookups: &L,
     component: &[u8],
     cell: &[u8],
 ) -> Option<EditCode>
-    requires { IsOk (read_def text.now) }
-    ensures { (design : List Record) → read_def text.now ≡ Ok design → result ≡ lowest (section_plan_of library.now text.now design (add_component component.now cell.now)).refusals }
+    requires { IsOk (read_def (L.text lookups.now)) }
+    ensures { (design : List Record) → read_def (L.text lookups.now) ≡ Ok design → result ≡ lowest (section_plan_of library.now (L.text lookups.now) design (add_component component.now cell.now)).refusals }
 {
     if !has_macro(library, cell) {
         return Some(EditCode::UnknownName);
@@ -77,48 +75,48 @@ fn add_refusal<A: Allocator + Copy>(
     if !is_component_name(component) {
         return Some(EditCode::BadName);
     }
-    if component_entry(text, component).is_some() {
+    if lookups.component(component).is_some() {
         return Some(EditCode::NameTaken);
     }
-    if !has_section(text, Section::Components) {
+    if !has_section(lookups, Section::Components) {
         return Some(EditCode::NoSection);
     }
     None
 }
 
 /// The splices that add a component to a text that reads, or why that is refused.
-pub fn add_splices<A: Allocator + Copy>(
+pub fn add_splices<A: Allocator + Copy, L: LookUps>(
     alloc: A,
     library: &Library<'_, A>,
-    text: &[u8],
+    lookups: &L,
     component: &[u8],
     cell: &[u8],
 ) -> Result<Splices<A>, EditRefusal>
-    requires fits { length text.now ≤ MAX_TEXT }
-    requires reads { IsOk (read_def text.now) }
-    ensures makes { MakesSplices library.now text.now (of_section (add_component component.now cell.now)) result }
-    ensures order { IfOk result (λ ss. AreInOrder 0 ss (length text.now)) }
+    requires fits { length (L.text lookups.now) ≤ MAX_TEXT }
+    requires reads { IsOk (read_def (L.text lookups.now)) }
+    ensures makes { MakesSplices library.now (L.text lookups.now) (of_section (add_component component.now cell.now)) result }
+    ensures order { IfOk result (λ ss. AreInOrder 0 ss (length (L.text lookups.now))) }
 {
-    if let Some(code) = add_refusal(library, text, component, cell) {
+    if let Some(code) = add_refusal(library, lookups, component, cell) {
         return Err(EditRefusal::Refused(code));
     }
     let put = component_text(alloc, component, cell)?;
     edits_stand_in_order();
-    entry_put(alloc, text, Section::Components, &put)
+    entry_put(alloc, lookups, Section::Components, &put)
 }
 
 /// Why routing or placement isn't blocked.
-fn block_refusal<A: Allocator + Copy>(
+fn block_refusal<A: Allocator + Copy, L: LookUps>(
     library: &Library<'_, A>,
-    text: &[u8],
+    lookups: &L,
     layer: Option<&[u8]>,
     x1: i64,
     y1: i64,
     x2: i64,
     y2: i64,
 ) -> Option<EditCode>
-    requires { IsOk (read_def text.now) }
-    ensures { (design : List Record) → read_def text.now ≡ Ok design → result ≡ lowest (section_plan_of library.now text.now design (add_blockage (lent (λ l. l.now) layer.entry) x1 y1 x2 y2)).refusals }
+    requires { IsOk (read_def (L.text lookups.now)) }
+    ensures { (design : List Record) → read_def (L.text lookups.now) ≡ Ok design → result ≡ lowest (section_plan_of library.now (L.text lookups.now) design (add_blockage (lent (λ l. l.now) layer.entry) x1 y1 x2 y2)).refusals }
 {
     if is_unknown_layer(library, layer) {
         return Some(EditCode::UnknownName);
@@ -127,57 +125,58 @@ fn block_refusal<A: Allocator + Copy>(
     if any_out {
         return Some(EditCode::Number);
     }
-    if !has_section(text, Section::Blockages) {
+    if !has_section(lookups, Section::Blockages) {
         return Some(EditCode::NoSection);
     }
     None
 }
 
 /// The splices that block routing on a layer, or placement, in a text that reads, or why that is refused.
-pub fn block_splices<A: Allocator + Copy>(
+pub fn block_splices<A: Allocator + Copy, L: LookUps>(
     alloc: A,
     library: &Library<'_, A>,
-    text: &[u8],
+    lookups: &L,
     layer: Option<&[u8]>,
     x1: i64,
     y1: i64,
     x2: i64,
     y2: i64,
 ) -> Result<Splices<A>, EditRefusal>
-    requires fits { length text.now ≤ MAX_TEXT }
-    requires reads { IsOk (read_def text.now) }
-    ensures makes { MakesSplices library.now text.now (of_section (add_blockage (lent (λ l. l.now) layer.entry) x1 y1 x2 y2)) result }
-    ensures order { IfOk result (λ ss. AreInOrder 0 ss (length text.now)) }
+    requires fits { length (L.text lookups.now) ≤ MAX_TEXT }
+    requires reads { IsOk (read_def (L.text lookups.now)) }
+    ensures makes { MakesSplices library.now (L.text lookups.now) (of_section (add_blockage (lent (λ l. l.now) layer.entry) x1 y1 x2 y2)) result }
+    ensures order { IfOk result (λ ss. AreInOrder 0 ss (length (L.text lookups.now))) }
 {
-    if let Some(code) = block_refusal(library, text, layer, x1, y1, x2, y2) {
+    if let Some(code) = block_refusal(library, lookups, layer, x1, y1, x2, y2) {
         return Err(EditRefusal::Refused(code));
     }
     let put = blockage_text(alloc, layer, x1, y1, x2, y2)?;
     edits_stand_in_order();
-    entry_put(alloc, text, Section::Blockages, &put)
+    entry_put(alloc, lookups, Section::Blockages, &put)
 }
 
 /// The splices that take the entry of a component out of its section, and set that one's number of entries.
-fn entry_taken<'t, A: Allocator + Copy>(
+fn entry_taken<A: Allocator + Copy, L: LookUps>(
     alloc: A,
-    text: &'t [u8],
-    entry: TokenRun<'t>,
+    lookups: &L,
+    entry: Lying<'_>,
 ) -> Result<Splices<A>, EditRefusal>
-    requires fits { length text.now ≤ MAX_TEXT }
-    requires reads { IsOk (read_def text.now) }
-    requires same { entry.text.now ≡ text.now }
-    requires stand { (design : List Record) → read_def text.now ≡ Ok design → StandWithin text.now (taking Components (pieces_of entry) (located text.now design) design) }
-    ensures cuts { (design : List Record) → read_def text.now ≡ Ok design → AreCuts text.now (cuts_for text.now (taking Components (pieces_of entry.entry) (located text.now design) design)) result }
-    ensures order { IfOk result (λ ss. AreInOrder 0 ss (length text.now)) }
+    requires fits { length (L.text lookups.now) ≤ MAX_TEXT }
+    requires reads { IsOk (read_def (L.text lookups.now)) }
+    requires lies { LiesIn (L.text lookups.now) entry }
+    requires some { 0 < length (words_of entry.tokens) }
+    requires stand { (design : List Record) → read_def (L.text lookups.now) ≡ Ok design → StandWithin (L.text lookups.now) (taking Components (lying_tokens entry) (located (L.text lookups.now) design) design) }
+    ensures cuts { (design : List Record) → read_def (L.text lookups.now) ≡ Ok design → AreCuts (L.text lookups.now) (cuts_for (L.text lookups.now) (taking Components (lying_tokens entry.entry) (located (L.text lookups.now) design) design)) result }
+    ensures order { IfOk result (λ ss. AreInOrder 0 ss (length (L.text lookups.now))) }
 {
-    let Some(header) = header_of(text, Section::Components) else {
+    let Some(header) = lookups.header(Section::Components) else {
         return Ok(Sequence::new(alloc));
     };
-    let count = entries_in(text, Section::Components).saturating_sub(1);
+    let count = lookups.entries_in(Section::Components).saturating_sub(1);
     let number = count_text(alloc, count)?;
-    let first = change_splice(alloc, header, 1, 1, &number)?;
-    let second = change_splice(alloc, entry, 0, entry.len(), b"")?;
-    two_splices(alloc, text, first, second)
+    let first = header.change_splice(alloc, 1, 1, &number)?;
+    let second = entry.change_splice(alloc, 0, entry.tokens.len(), b"")?;
+    two_splices(alloc, lookups.len(), first, second)
 }
 
 /// Whether the component of an entry is held where it is.
@@ -192,26 +191,26 @@ fn stays<'t>(component: ComponentParts<'t>, entry: TokenRun<'t>) -> bool
 }
 
 /// The splices that take a component out of a text that reads, or why that is refused.
-pub fn remove_splices<A: Allocator + Copy>(
+pub fn remove_splices<A: Allocator + Copy, L: LookUps>(
     alloc: A,
     library: &Library<'_, A>,
-    text: &[u8],
+    lookups: &L,
     component: &[u8],
 ) -> Result<Splices<A>, EditRefusal>
-    requires fits { length text.now ≤ MAX_TEXT }
-    requires reads { IsOk (read_def text.now) }
-    ensures makes { MakesSplices library.now text.now (of_section (remove_component component.now)) result }
-    ensures order { IfOk result (λ ss. AreInOrder 0 ss (length text.now)) }
+    requires fits { length (L.text lookups.now) ≤ MAX_TEXT }
+    requires reads { IsOk (read_def (L.text lookups.now)) }
+    ensures makes { MakesSplices library.now (L.text lookups.now) (of_section (remove_component component.now)) result }
+    ensures order { IfOk result (λ ss. AreInOrder 0 ss (length (L.text lookups.now))) }
 {
-    let Some((parts, entry)) = component_entry(text, component) else {
+    let Some((parts, entry)) = lookups.component(component) else {
         return Err(EditRefusal::Refused(EditCode::UnknownName));
     };
-    if stays(parts, entry) {
+    if stays(parts, entry.tokens) {
         return Err(EditRefusal::Refused(EditCode::Fixed));
     }
-    if is_listed(text, component) {
+    if lookups.is_listed(component) {
         return Err(EditRefusal::Refused(EditCode::Connection));
     }
     edits_stand_in_order();
-    entry_taken(alloc, text, entry)
+    entry_taken(alloc, lookups, entry)
 }

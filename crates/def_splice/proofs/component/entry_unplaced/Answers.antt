@@ -1,18 +1,15 @@
 use Rattle.std.proofs.Common.{◌≡◌, ◌∷◌, [], None, Some, ap, sym, ◌∙◌, rules, refl, codes}
 use Rattle.statement_model.specs.Cuts.{end_of_all}
 use Rattle.statement_model.specs.Reading.{pos_of}
-use Rattle.edit_rules.specs.Plans.{put_apart}
+use Rattle.edit_rules.specs.Plans.{cuts_for, put_apart}
 use Rattle.std.proofs.lemmas.Result.{err_from_is_err_and}
 use Rattle.std.specs.Option.{option_map}
 use Rattle.def_grammar.specs.Placing.{placing}
-use Rattle.edit_rules.specs.ComponentEdits.{unplace_plan}
 use Rattle.lefdef_tokens.specs.Views.{pieces_of}
 use Rattle.place_parts.specs.ClauseViews.{clause_view}
 use Rattle.place_parts.specs.ComponentViews.{component_view}
 use Rattle.place_parts.specs.PlacingViews.{IsPlacing}
-use Rattle.def_splice.specs.SpliceViews.{cut_view}
 use Rattle.def_splice.proofs.PlaceLemmas.{never_held, unplaces_none, unplaces_placed, unplaces_unplaced}
-use Rattle.def_splice.proofs.PlanLemmas.{follows, unchanged, wants}
 use Rattle.def_splice.proofs.component.entry_unplaced.Goals as goal
 
 pub returns-in_default-clause-gives : goal.returns-in_default-clause-gives
@@ -20,21 +17,19 @@ returns-in_default-clause-gives g c =
     let text = c.args.entry.text.now in
     let ps = pieces_of c.args.entry in
     let what = component_view c.args.component in
-    let plan = unplace_plan ps what in
     let none : placing what.clauses ≡ None = sym c.placing_tokens.ensures.clause ∙ ap (option_map (λ x. clause_view x.0)) c.in_default.is in
-    unchanged text plan (never_held text ps what None none refl) c.requires.fits (unplaces_none text ps what none) ∙ rw c.new.ensures refl
+    (never_held text ps what None none refl, ap (cuts_for text) (unplaces_none text ps what none))
 
 pub returns-then-not-is_placed-clause-gives : goal.returns-then-not-is_placed-clause-gives
 returns-then-not-is_placed-clause-gives g c =
     let text = c.args.entry.text.now in
     let ps = pieces_of c.args.entry in
     let what = component_view c.args.component in
-    let plan = unplace_plan ps what in
     let old = clause_view c.in-Some.clause in
     let found : placing what.clauses ≡ Some old = sym c.placing_tokens.ensures.clause ∙ ap (option_map (λ x. clause_view x.0)) c.in-Some.is in
     let free = sym c.is_held.ensures ∙ c.if-is_held.false in
     let isnt = sym c.is_placed.ensures ∙ c.if-not-is_placed.true in
-    unchanged text plan (never_held text ps what (Some old) found free) c.requires.fits (unplaces_unplaced text ps what old found isnt) ∙ rw c.new-then-not-is_placed.ensures refl
+    (never_held text ps what (Some old) found free, ap (cuts_for text) (unplaces_unplaced text ps what old found isnt))
 
 pub returns-in_err-splice-clause-gives : goal.returns-in_err-splice-clause-gives
 returns-in_err-splice-clause-gives g c =
@@ -45,14 +40,13 @@ returns-in_err-splice-clause-gives g c =
     let found : placing what.clauses ≡ Some old = sym c.placing_tokens.ensures.clause ∙ ap (option_map (λ x. clause_view x.0)) c.in-Some.is in
     let free = sym c.is_held.ensures ∙ c.if-is_held.false in
     let p = err_from_is_err_and c.from_residual.result c.from_residual.ensures.1 in
-    rw (p.1, p.2) (wants text (unplace_plan ps what) (never_held text ps what (Some old) found free))
+    rw (p.1, p.2) (never_held text ps what (Some old) found free)
 
 pub returns-clause-gives : goal.returns-clause-gives
 returns-clause-gives g c =
     let text = c.args.entry.text.now in
     let ps = pieces_of c.args.entry in
     let what = component_view c.args.component in
-    let plan = unplace_plan ps what in
     let old = clause_view c.in-Some.clause in
     let found : placing what.clauses ≡ Some old = sym c.placing_tokens.ensures.clause ∙ ap (option_map (λ x. clause_view x.0)) c.in-Some.is in
     let free = sym c.is_held.ensures ∙ c.if-is_held.false in
@@ -60,5 +54,4 @@ returns-clause-gives g c =
     let run : IsPlacing what c.args.entry c.in-Some.tokens = search rules in
     let own = pieces_of c.in-Some.tokens in
     let cut = c.in_ok-splice.ensures.cut ∙ ap (λ t. put_apart t (pos_of own) (end_of_all own) (codes "UNPLACED")) c.in-Some.ensures.text in
-    follows text plan (never_held text ps what (Some old) found free) c.one_splice.result (cut_view c.in_ok-splice.splice ∷ [])
-    (ap (λ x. x ∷ []) cut ∙ unplaces_placed text ps what old c.args.entry c.in-Some.tokens found is refl run) c.one_splice.ensures.cuts
+    (never_held text ps what (Some old) found free, sym (ap (λ x. x ∷ []) cut ∙ unplaces_placed text ps what old c.args.entry c.in-Some.tokens found is refl run))

@@ -1,15 +1,21 @@
-use Rattle.std.proofs.Common.{ap, sym, ◌∙◌}
+use Rattle.std.proofs.Common.{◌≡◌, None, Ok, ap, sym, ◌∙◌, refl}
 use Rattle.std.specs.Option.{option_map}
+use Rattle.def_grammar.specs.Located.{component_at, located}
 use Rattle.def_grammar.specs.Records.{read_def}
 use Rattle.edit_rules.specs.ComponentEdits.{unplace_it}
-use Rattle.def_reader.specs.RecordViews.{entry_view}
+use Rattle.place_parts.specs.ComponentViews.{component_view}
+use Rattle.def_splice.specs.Lying.{lying_component}
+use Rattle.def_splice.proofs.ComponentSteps.{component_follows, some_tokens}
 use Rattle.def_splice.proofs.PlaceLemmas.{design_of}
-use Rattle.def_splice.proofs.PlanLemmas.{component_makes}
 use Rattle.def_splice.proofs.component.unplace_splices.Goals as goal
+
+pub in_text-requires-clause-lies : goal.in_text-requires-clause-lies
+in_text-requires-clause-lies g c = rw c.len.ensures c.in-Some.ensures.lies.within
 
 pub returns-clause-makes : goal.returns-clause-makes
 returns-clause-makes g c =
-    let read = design_of (read_def c.args.text.now) c.requires.reads in
-    let found = sym (c.component_entry.ensures.gives read.0 read.1) ∙ ap (option_map entry_view) c.in-Some.is in
-    let s = entry_view (c.in-Some.parts, c.in-Some.entry) in
-    component_makes c.args.library.now c.args.text.now c.args.component.now (unplace_it) s read.0 read.1 found c.in-Some.entry.text.now c.in-Some.ensures.text c.entry_unplaced.result c.entry_unplaced.ensures.gives
+    let text = g.L.LookUps.text c.args.lookups.now in
+    let read = design_of (read_def text) c.requires.reads in
+    let found = sym (c.component.ensures.gives read.0 read.1) ∙ ap (option_map lying_component) c.in-Some.is in
+    component_follows c.args.library.now text c.args.component.now (unplace_it) (c.in-Some.parts, c.in-Some.entry) read.0 read.1 found c.edits_stand_in_order.ensures c.in-Some.ensures.lies (some_tokens (component_view c.in-Some.parts) c.in-Some.entry c.in-Some.ensures.spelled)
+    c.entry_unplaced.result c.entry_unplaced.ensures.gives c.in_text.result (λ plan firm one. c.in_text.ensures.follows text plan (sym c.len.ensures) c.in-Some.ensures.lies firm one)

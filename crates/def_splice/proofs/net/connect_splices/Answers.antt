@@ -1,28 +1,34 @@
 use Rattle.std.proofs.Common.{◌≡◌, ◌≤◌, ◌∷◌, [], length, None, Some, Err, ap, sym, subst, ◌∙◌, refl}
 use Rattle.std.specs.Option.{option_map}
 use Rattle.def_grammar.specs.Records.{read_def}
-use Rattle.edit_model.specs.declared.edit.EditRefusal.TheVariants.{Refused}
-use Rattle.edit_rules.specs.NetEdits.{connect_to, front_of, plan_of_entry, terminal_text, terminals_of}
-use Rattle.edit_rules.specs.Plans.{lowest}
+use Rattle.edit_model.specs.declared.edit.EditRefusal.TheVariants.{Memory, Refused}
+use Rattle.std.proofs.lemmas.List.{length-map}
+use Rattle.std.proofs.lemmas.Result.{err_from_is_err_and}
+use Rattle.statement_model.specs.Cuts.{Cut}
+use Rattle.edit_rules.specs.NetEdits.{connect_to, front_of, plan_of_entry, terminals_of}
+use Rattle.edit_rules.specs.Plans.{Plan, lowest}
+use Rattle.lefdef_tokens.specs.Laws.{moved_token}
+use Rattle.lefdef_tokens.specs.Views.{pieces_of}
+use Rattle.def_reader.specs.EntryViews.{entry_view}
 use Rattle.def_splice.specs.NetViews.{connect_refusals, entry_seen, entry_with}
-use Rattle.def_splice.specs.SpliceViews.{change_cut}
-use Rattle.def_splice.proofs.NetPlans.{connect_within, net_makes, net_planned, unknown_net}
+use Rattle.def_splice.specs.SpliceViews.{FollowsAll}
+use Rattle.def_splice.proofs.NetPlans.{connect_within, firm_to_connect, net_makes, net_planned, terminal_moved, unknown_net}
 use Rattle.def_splice.proofs.PlaceLemmas.{design_of}
-use Rattle.def_splice.proofs.PlanLemmas.{follows, refused}
+use Rattle.def_splice.proofs.PlanLemmas.{refused, wants}
 use Rattle.def_splice.proofs.TokenLemmas.{pieces_counted}
 use Rattle.def_splice.proofs.net.connect_splices.Goals as goal
 
 pub returns-in_default-clause-makes : goal.returns-in_default-clause-makes
 returns-in_default-clause-makes g c =
-    let read = design_of (read_def c.args.text.now) c.requires.reads in
+    let read = design_of (read_def (g.L.LookUps.text c.args.lookups.now)) c.requires.reads in
     let change = connect_to c.args.owner.now c.args.pin.now in
     let none = sym (ap (option_map entry_seen) c.in_default.is) ∙ c.with_tokens.ensures.gives ∙ ap entry_with (c.net_entry.ensures.gives read.0 read.1) in
-    unknown_net c.args.library.now c.args.text.now c.args.net.now change read.0 read.1 g.row.A.Denot none
+    unknown_net c.args.library.now (g.L.LookUps.text c.args.lookups.now) c.args.net.now change read.0 read.1 g.row.A.Denot none
 
 pub returns-in-Some-connect_refusal-clause-makes : goal.returns-in-Some-connect_refusal-clause-makes
 returns-in-Some-connect_refusal-clause-makes g c =
-    let read = design_of (read_def c.args.text.now) c.requires.reads in
-    let text = c.args.text.now in
+    let read = design_of (read_def (g.L.LookUps.text c.args.lookups.now)) c.requires.reads in
+    let text = g.L.LookUps.text c.args.lookups.now in
     let change = connect_to c.args.owner.now c.args.pin.now in
     let x = entry_seen (c.in-Some.entry, c.in-Some.tokens) in
     let found = sym (ap (option_map entry_seen) c.in-Some.is) ∙ c.with_tokens.ensures.gives ∙ ap entry_with (c.net_entry.ensures.gives read.0 read.1) in
@@ -30,26 +36,48 @@ returns-in-Some-connect_refusal-clause-makes g c =
     let code = c.in-Some-connect_refusal.code in
     net_makes c.args.library.now text c.args.net.now change read.0 read.1 x found {A = g.row.A.Denot} text refl (Err (Refused code)) (refused text plan code (sym (c.connect_refusal.ensures read.0 read.1) ∙ c.in-Some-connect_refusal.is))
 
-pub entry_connected-requires-clause-within : goal.entry_connected-requires-clause-within
-entry_connected-requires-clause-within g c =
-    let read = design_of (read_def c.args.text.now) c.requires.reads in
+pub entry_connected-requires-clause-tokens : goal.entry_connected-requires-clause-tokens
+entry_connected-requires-clause-tokens g c =
+    let read = design_of (read_def (g.L.LookUps.text c.args.lookups.now)) c.requires.reads in
     let change = connect_to c.args.owner.now c.args.pin.now in
     let x = entry_seen (c.in-Some.entry, c.in-Some.tokens) in
     let found = sym (ap (option_map entry_seen) c.in-Some.is) ∙ c.with_tokens.ensures.gives ∙ ap entry_with (c.net_entry.ensures.gives read.0 read.1) in
     let free : lowest (connect_refusals c.args.library.now read.0 c.args.owner.now c.args.pin.now) ≡ None = sym (c.connect_refusal.ensures read.0 read.1) ∙ c.in_default-connect_refusal.is in
-    let is = net_planned c.args.library.now c.args.text.now c.args.net.now change read.0 read.1 x found in
-    let fits = connect_within c.edits_stand_in_order.ensures c.args.library.now c.args.text.now read.0 c.args.net.now c.args.owner.now c.args.pin.now x read.1 is free in
-    subst (λ n. front_of (terminals_of x.1) ≤ n) (pieces_counted c.in-Some.tokens) fits
+    let is = net_planned c.args.library.now (g.L.LookUps.text c.args.lookups.now) c.args.net.now change read.0 read.1 x found in
+    let fits = connect_within c.edits_stand_in_order.ensures c.args.library.now (g.L.LookUps.text c.args.lookups.now) read.0 c.args.net.now c.args.owner.now c.args.pin.now x read.1 is free in
+    subst (λ n. front_of (terminals_of x.1) ≤ n) (length-map (pieces_of c.in-Some.tokens.tokens) (moved_token c.in-Some.tokens.at) ∙ pieces_counted c.in-Some.tokens.tokens) fits
+
+pub returns-in_err-splice-clause-makes : goal.returns-in_err-splice-clause-makes
+returns-in_err-splice-clause-makes g c =
+    let text = g.L.LookUps.text c.args.lookups.now in
+    let read = design_of (read_def text) c.requires.reads in
+    let change = connect_to c.args.owner.now c.args.pin.now in
+    let x = entry_seen (c.in-Some.entry, c.in-Some.tokens) in
+    let found = sym (ap (option_map entry_seen) c.in-Some.is) ∙ c.with_tokens.ensures.gives ∙ ap entry_with (c.net_entry.ensures.gives read.0 read.1) in
+    let free : lowest (connect_refusals c.args.library.now read.0 c.args.owner.now c.args.pin.now) ≡ None = sym (c.connect_refusal.ensures read.0 read.1) ∙ c.in_default-connect_refusal.is in
+    let plan = plan_of_entry c.args.library.now read.0 change x.0 x.1 in
+    let p = err_from_is_err_and c.from_residual.result c.from_residual.ensures.1 in
+    rw (p.1, p.2) (net_makes c.args.library.now text c.args.net.now change read.0 read.1 x found {A = g.row.A.Denot} text refl (Err Memory) (wants text plan free))
+
+pub in_text-requires-clause-lies : goal.in_text-requires-clause-lies
+in_text-requires-clause-lies g c =
+    let text = g.L.LookUps.text c.args.lookups.now in
+    rw c.len.ensures (c.in-Some.ensures.lies text c.net_entry.ensures.lies).within
 
 pub returns-clause-makes : goal.returns-clause-makes
 returns-clause-makes g c =
-    let read = design_of (read_def c.args.text.now) c.requires.reads in
+    let text = g.L.LookUps.text c.args.lookups.now in
+    let read = design_of (read_def text) c.requires.reads in
+    let library = c.args.library.now in
     let change = connect_to c.args.owner.now c.args.pin.now in
     let x = entry_seen (c.in-Some.entry, c.in-Some.tokens) in
     let found = sym (ap (option_map entry_seen) c.in-Some.is) ∙ c.with_tokens.ensures.gives ∙ ap entry_with (c.net_entry.ensures.gives read.0 read.1) in
-    let lent = c.in-Some.ensures.lent c.args.text.now c.net_entry.ensures.lent in
-    let free : lowest (connect_refusals c.args.library.now read.0 c.args.owner.now c.args.pin.now) ≡ None = sym (c.connect_refusal.ensures read.0 read.1) ∙ c.in_default-connect_refusal.is in
-    let plan = plan_of_entry c.args.library.now read.0 change x.0 x.1 in
-    let own = c.in-Some.tokens.text.now in
-    let cuts = change_cut own x.0 (front_of (terminals_of x.1)) 0 (terminal_text c.args.owner.now c.args.pin.now) ∷ [] in
-    net_makes c.args.library.now c.args.text.now c.args.net.now change read.0 read.1 x found own lent.1 c.entry_connected.result (follows own plan free c.entry_connected.result cuts refl c.entry_connected.ensures.cuts)
+    let free : lowest (connect_refusals library read.0 c.args.owner.now c.args.pin.now) ≡ None = sym (c.connect_refusal.ensures read.0 read.1) ∙ c.in_default-connect_refusal.is in
+    let e = entry_view c.in-Some.entry in
+    let own = plan_of_entry library read.0 change (pieces_of c.in-Some.tokens.tokens) e in
+    let lies = c.in-Some.ensures.lies text c.net_entry.ensures.lies in
+    let firm = firm_to_connect library read.0 c.args.owner.now c.args.pin.now c.in-Some.tokens.tokens e c.entry_connected.requires.tokens in
+    let cut = ap (λ (z : Cut). z ∷ []) (sym c.in_ok-splice.ensures.cut) in
+    let follows = c.in_text.ensures.follows text own (sym c.len.ensures) lies firm (free, cut) in
+    let moved = (terminal_moved library read.0 c.in-Some.tokens.at (pieces_of c.in-Some.tokens.tokens) e c.args.owner.now c.args.pin.now).0 in
+    net_makes library text c.args.net.now change read.0 read.1 x found text refl c.in_text.result (subst (λ (q : Plan). FollowsAll {A = g.row.A.Denot} text q c.in_text.result) (sym moved) follows)

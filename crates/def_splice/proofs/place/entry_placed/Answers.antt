@@ -1,15 +1,14 @@
-use Rattle.std.proofs.Common.{◌≡◌, false, ◌∷◌, [], length, ap, refl, rules, arith, ◌∙◌}
+use Rattle.std.proofs.Common.{◌≡◌, false, ◌∷◌, [], length, ap, sym, refl, rules, arith, ◌∙◌}
 use Rattle.std.proofs.lemmas.Result.{err_from_is_err_and}
 use Rattle.std.specs.Option.{option_map}
 use Rattle.def_grammar.specs.Placing.{placing, is_held}
-use Rattle.edit_rules.specs.ComponentEdits.{is_out, place_change, place_plan, placed_text}
+use Rattle.edit_rules.specs.ComponentEdits.{is_out, place_change, placed_text}
 use Rattle.edit_rules.specs.Plans.{cut_of}
 use Rattle.lefdef_tokens.specs.Views.{pieces_of}
 use Rattle.place_parts.specs.ClauseViews.{clause_view}
 use Rattle.place_parts.specs.ComponentViews.{component_view}
 use Rattle.def_splice.specs.SpliceViews.{clause_cut, cut_view}
 use Rattle.def_splice.proofs.PlaceLemmas.{all_but_last, cut_of_clause, free_to_place}
-use Rattle.def_splice.proofs.PlanLemmas.{follows, wants}
 use Rattle.def_splice.proofs.place.entry_placed.Goals as goal
 
 pub clause_splice-requires-clause-some : goal.clause_splice-requires-clause-some
@@ -18,36 +17,31 @@ clause_splice-requires-clause-some g c =
 
 pub returns-in_err-put-clause-gives : goal.returns-in_err-put-clause-gives
 returns-in_err-put-clause-gives g c =
-    let text = c.args.entry.text.now in
     let what = component_view c.args.component in
     let ps = pieces_of c.args.entry in
-    let plan = place_plan c.args.x c.args.y c.args.orient ps what in
     let held : is_held (placing what.clauses) ≡ false = rw c.placing_tokens.ensures.clause at c.in_ok-clause.ensures.0 in
     let low : is_out c.args.x ≡ false = search rules in
     let high : is_out c.args.y ≡ false = search rules in
     let free = free_to_place c.args.x c.args.y c.args.orient ps what held low high in
     let p = err_from_is_err_and c.from_residual-in_err-put.result c.from_residual-in_err-put.ensures.1 in
-    rw (p.1, p.2) (wants text plan free)
+    rw (p.1, p.2) free
 
 pub returns-in_err-splice-clause-gives : goal.returns-in_err-splice-clause-gives
 returns-in_err-splice-clause-gives g c =
-    let text = c.args.entry.text.now in
     let what = component_view c.args.component in
     let ps = pieces_of c.args.entry in
-    let plan = place_plan c.args.x c.args.y c.args.orient ps what in
     let held : is_held (placing what.clauses) ≡ false = rw c.placing_tokens.ensures.clause at c.in_ok-clause.ensures.0 in
     let low : is_out c.args.x ≡ false = search rules in
     let high : is_out c.args.y ≡ false = search rules in
     let free = free_to_place c.args.x c.args.y c.args.orient ps what held low high in
     let p = err_from_is_err_and c.from_residual-in_err-splice.result c.from_residual-in_err-splice.ensures.1 in
-    rw (p.1, p.2) (wants text plan free)
+    rw (p.1, p.2) free
 
 pub returns-clause-gives : goal.returns-clause-gives
 returns-clause-gives g c =
     let text = c.args.entry.text.now in
     let what = component_view c.args.component in
     let ps = pieces_of c.args.entry in
-    let plan = place_plan c.args.x c.args.y c.args.orient ps what in
     let held : is_held (placing what.clauses) ≡ false = rw c.placing_tokens.ensures.clause at c.in_ok-clause.ensures.0 in
     let low : is_out c.args.x ≡ false = search rules in
     let high : is_out c.args.y ≡ false = search rules in
@@ -57,4 +51,4 @@ returns-clause-gives g c =
     = rw (c.in_ok-clause.ensures.1, put) refl in
     let cut : cut_view c.in_ok-splice.splice ≡ cut_of text ps (place_change c.args.x c.args.y c.args.orient what)
     = c.in_ok-splice.ensures.gives ∙ same ∙ cut_of_clause text c.args.entry what c.args.x c.args.y c.args.orient clause_view c.placing_tokens.result c.placing_tokens.ensures.clause c.placing_tokens.ensures.gives c.requires.spelled in
-    follows text plan free c.one_splice.result (cut_view c.in_ok-splice.splice ∷ []) (ap (λ x. x ∷ []) cut) c.one_splice.ensures.cuts
+    (free, ap (λ x. x ∷ []) (sym cut))

@@ -6,7 +6,7 @@ use Rattle.def_grammar.specs.Records.{def}
 use Rattle.def_reader.specs.StatementViews.{record_view}
 use Rattle.edit_rules.specs.SectionEdits.{entries_in}
 use Rattle.def_splice.proofs.SearchSteps.{counts, said}
-use Rattle.def_splice.proofs.lookups.entries_in.Goals as goal
+use Rattle.def_splice.proofs.whole_text.entries_counted.Goals as goal
 
 pub loop-read-preserved : goal.loop-read-preserved
 loop-read-preserved c =

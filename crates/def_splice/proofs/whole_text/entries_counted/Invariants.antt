@@ -4,7 +4,7 @@ use Rattle.statement_reader.specs.Located.{located_at}
 use Rattle.def_grammar.specs.Records.{def}
 use Rattle.edit_rules.specs.SectionEdits.{entries_in}
 use Rattle.def_splice.proofs.SearchSteps.{said}
-use Rattle.def_splice.proofs.lookups.entries_in.Given as goal
+use Rattle.def_splice.proofs.whole_text.entries_counted.Given as goal
 
 abbrev pub invariant-loop-read : goal.invariant-loop-read
 invariant-loop-read l = record {
