@@ -1,5 +1,5 @@
 -- An edit of a component follows its plan for the entry that is found.
-use Rattle.std.proofs.Common.{◌≡◌, ◌<◌, ℕ, List, [], ◌∷◌, length, map, Some, None, Ok, Err, Option, Result, refl, sym, ap, ◌∙◌, subst, arith}
+use Rattle.std.proofs.Common.{◌≡◌, ◌<◌, ℕ, List, length, map, Some, None, Ok, Err, Option, Result, refl, ap, ◌∙◌, subst, arith}
 use Rattle.std.specs.Prelude.{IfOk}
 use Rattle.std.proofs.lemmas.List.{length-map}
 use Rattle.statement_model.specs.Form.{spell}
@@ -16,14 +16,13 @@ use Rattle.edit_rules.specs.Edits.{of_component, plan_of}
 use Rattle.edit_rules.specs.Plans.{Plan, lowest}
 use Rattle.edit_laws.specs.EditLaws.{EditsStandInOrder}
 use Rattle.edit_laws.specs.PlanLaws.{LieWithin}
-use Rattle.lefdef_tokens.specs.Laws.{moved_token}
 use Rattle.lefdef_tokens.specs.Views.{pieces_of, words_of}
 use Rattle.place_parts.specs.ComponentViews.{component_view}
 use Rattle.place_parts.specs.declared.component_parts.ComponentParts.{ComponentParts}
-use Rattle.def_splice.specs.Lying.{AreFirm, LiesIn, lying_component, lying_tokens, moved_change, moved_plan, moved_tokens}
+use Rattle.def_splice.specs.Lying.{AreFirm, LiesIn, lying_component, moved_change, moved_plan, moved_tokens}
 use Rattle.def_splice.specs.SpliceViews.{FollowsAll, MakesOne, MakesSplices}
 use Rattle.def_splice.specs.declared.lying.Lying.{Lying}
-use Rattle.def_splice.proofs.LyingLemmas.{firm_one}
+use Rattle.def_splice.proofs.LyingLemmas.{HaveSome, firm_there}
 use Rattle.def_splice.proofs.PlaceLemmas.{some_words}
 use Rattle.def_splice.proofs.PlanLemmas.{makes}
 
@@ -46,15 +45,15 @@ plan_moved library (place_at x y o) at ps c = refl
 plan_moved library unplace_it at ps c = ap (λ changes. record { refusals = (unplace_plan ps c).refusals; changes = changes }) (unplaces_moved at ps c (placing c.clauses))
 plan_moved library (remaster_as cell) at ps c = refl
 
--- its changes are firm where they lie within the entry
-unplaces_firmly : (at : ℕ) (ps : List Token) (c : Component) (old : Option Clause) → 0 < length ps → LieWithin (map (moved_change at) (unplace_changes ps c old)) → AreFirm (unplace_changes ps c old)
-unplaces_firmly at ps c (Some (placed status p o)) some lie = firm_one at ps _ some lie
-unplaces_firmly at ps c _ some lie = tt
+-- its changes are of the entry, which has tokens
+unplaces_some : (ps : List Token) (c : Component) (old : Option Clause) → 0 < length ps → HaveSome (unplace_changes ps c old)
+unplaces_some ps c (Some (placed status p o)) some = (some, tt)
+unplaces_some ps c _ some = tt
 
-firm : (library : Library) (change : ComponentChange) (at : ℕ) (ps : List Token) (c : Component) → 0 < length ps → LieWithin (map (moved_change at) (entry_plan library change ps c).changes) → AreFirm (entry_plan library change ps c).changes
-firm library (place_at x y o) at ps c some lie = firm_one at ps _ some lie
-firm library unplace_it at ps c some lie = unplaces_firmly at ps c (placing c.clauses) some lie
-firm library (remaster_as cell) at ps c some lie = firm_one at ps _ some lie
+plan_some : (library : Library) (change : ComponentChange) (ps : List Token) (c : Component) → 0 < length ps → HaveSome (entry_plan library change ps c).changes
+plan_some library (place_at x y o) ps c some = (some, tt)
+plan_some library unplace_it ps c some = unplaces_some ps c (placing c.clauses) some
+plan_some library (remaster_as cell) ps c some = (some, tt)
 
 module _ (library : Library) (text name : List ℕ) (change : ComponentChange) (x : ComponentParts × Lying) (design : List Record) (reads : read_def text ≡ Ok design) (found : component_at name (located text design) ≡ Some (lying_component x)) where
   abbrev own : Plan
@@ -71,6 +70,6 @@ module _ (library : Library) (text name : List ℕ) (change : ComponentChange) (
       → MakesSplices library text (of_component name change) r
   component_follows order_so lies some local one r follows =
       let firmly : lowest own.refusals ≡ None → AreFirm own.changes = λ free.
-          let all = (order_so library text design (of_component name change) reads (ap (λ (q : Plan). lowest q.refusals) planned ∙ free)).within in
-          firm library change x.1.at (pieces_of x.1.tokens) (component_view x.0) some (subst (λ (q : Plan). LieWithin q.changes) planned all) in
+      let all = (order_so library text design (of_component name change) reads (ap (λ (q : Plan). lowest q.refusals) planned ∙ free)).within in
+      firm_there x.1.at own.changes (plan_some library change (pieces_of x.1.tokens) (component_view x.0) some) (subst (λ (q : Plan). LieWithin q.changes) planned all) in
       makes library text (of_component name change) design reads there planned r (follows own (if_made x.1.tokens.text.now own local (AreFirm own.changes) one firmly) one)

@@ -1,5 +1,5 @@
 -- How long a text is with splices made.
-use Rattle.std.proofs.Common.{◌≡◌, ◌≤◌, ◌<◌, ◌+◌, ◌-◌, ◌++◌, ℕ, Bool, true, false, List, [], ◌∷◌, arith, length, drop, take, get_or, map, subst, refl, sym, ap, ◌∙◌, inl, inr, length-append, length-drop, nat_lt}
+use Rattle.std.proofs.Common.{◌≡◌, ◌≤◌, ◌<◌, ◌+◌, ◌-◌, ◌++◌, ℕ, true, List, ◌∷◌, arith, length, drop, get_or, map, subst, sym, ap, ◌∙◌, inl, inr, length-append, length-drop, nat_lt}
 use Rattle.std.specs.List.{slice_range}
 use Rattle.std.proofs.lemmas.Bool.{cases_Bool, lt-ltb, le-ltb, ltb-true, ltb-false}
 use Rattle.std.proofs.lemmas.List.{drop_more, length-take-le}

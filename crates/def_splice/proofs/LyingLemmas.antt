@@ -1,5 +1,5 @@
 -- What is said of bytes that lie in a text, where they lie.
-use Rattle.std.proofs.Common.{◌≡◌, ◌==◌, ◌≤◌, ◌<◌, ◌+◌, ◌++◌, ℕ, zero, suc, true, false, List, [], ◌∷◌, length, map, take, drop, Option, Some, None, Result, Ok, Err, inl, inr, refl, sym, ap, ap₂, subst, ◌∙◌, arith, drop-drop, length-drop}
+use Rattle.std.proofs.Common.{◌≡◌, ◌==◌, ◌≤◌, ◌<◌, ◌+◌, ◌++◌, ℕ, zero, suc, false, List, [], ◌∷◌, length, map, take, drop, None, Result, Ok, Err, inl, inr, refl, sym, ap, ap₂, subst, ◌∙◌, arith, drop-drop, length-drop}
 use Rattle.std.proofs.lemmas.Bool.{cases_Bool}
 use Rattle.std.proofs.lemmas.Bool.Decides.{nat_tests}
 use Rattle.std.proofs.lemmas.List.{drop_all, length-map, length-take-le, take_all}
@@ -139,9 +139,14 @@ lie_there : (at : ℕ) (changes : List (List Token × StatementChange)) → LieW
 lie_there at [] lie = tt
 lie_there at (x ∷ xs) lie = let many = length-map x.0 (moved_token at) in (subst (λ (n : ℕ). x.1.before + x.1.taken ≤ n) many lie.0, lie_there at xs lie.1)
 
--- one change of a statement that has tokens
-pub firm_one : (at : ℕ) (ps : List Token) (c : StatementChange) → 0 < length ps → LieWithin (map (moved_change at) ((ps, c) ∷ [])) → AreFirm ((ps, c) ∷ [])
-firm_one at ps c some lie = (some, (lie_there at ((ps, c) ∷ []) lie).0, tt)
+-- they are firm where their statements have tokens
+abbrev pub HaveSome : List (List Token × StatementChange) → Type 0
+HaveSome [] = Unit {0}
+HaveSome (x ∷ xs) = (0 < length x.0) × HaveSome xs
+
+pub firm_there : (at : ℕ) (changes : List (List Token × StatementChange)) → HaveSome changes → LieWithin (map (moved_change at) changes) → AreFirm changes
+firm_there at [] some lie = tt
+firm_there at (x ∷ xs) some lie = (some.0, (lie_there at (x ∷ xs) lie).0, firm_there at xs some.1 lie.1)
 
 -- what makes the one splice of a plan for bytes follows that plan for the text in which they lie
 module _ (text part : List ℕ) (at : ℕ) (lies : LiesAt text at part) (plan : Plan) where

@@ -1,5 +1,5 @@
 -- The entry of a net: by its name, and by a terminal that it lists.
-use Rattle.std.proofs.Common.{◌≡◌, ◌||◌, ◌&&◌, not, ℕ, Bool, true, false, List, [], ◌∷◌, map, Option, Some, None, Ok, refl, sym, ap, ap₂, subst, ◌∙◌, inl, inr, if◌then◌else◌}
+use Rattle.std.proofs.Common.{◌≡◌, ◌||◌, ◌&&◌, not, ℕ, Bool, true, false, List, [], ◌∷◌, Option, Some, None, Ok, refl, sym, ap, ap₂, subst, ◌∙◌, inl, inr}
 use Rattle.std.specs.List.{filter_map, list_any}
 use Rattle.std.specs.Option.{option_map, option_or}
 use Rattle.std.specs.Str.{bytes_eq}
@@ -21,7 +21,6 @@ use Rattle.edit_rules.specs.NetEdits.{disconnect_from, lists, lists_in, section_
 use Rattle.edit_laws.specs.StatementLaws.{AreOnce, SameKeysAreOnce}
 use Rattle.edit_laws.proofs.Keys.{fresh_is_apart, key_itself}
 use Rattle.edit_laws.proofs.PlanTexts.{tokens_read}
-use Rattle.form_meanings.proofs.Steps.{some_same}
 use Rattle.def_splice.specs.LookupViews.{of_entry}
 use Rattle.def_splice.specs.NetViews.{listing}
 use Rattle.def_splice.proofs.SearchSteps.{all_said, any_entry, said}

@@ -1,5 +1,5 @@
 -- The plan of an edit of a net, by its entry.
-use Rattle.std.proofs.Common.{◌≡◌, ◌≤◌, ◌+◌, ℕ, true, false, List, [], ◌∷◌, length, Option, Some, None, Result, Ok, Err, refl, sym, ap, ◌∙◌, subst, arith}
+use Rattle.std.proofs.Common.{◌≡◌, ◌≤◌, ◌+◌, ℕ, true, false, List, length, Option, Some, None, Result, Ok, Err, refl, sym, ap, ◌∙◌, subst, arith}
 use Rattle.form_meanings.specs.Words.{◌>>=◌}
 use Rattle.form_meanings.proofs.Steps.{some_same}
 use Rattle.statement_model.specs.Tokens.{Token}

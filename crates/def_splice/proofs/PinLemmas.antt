@@ -1,5 +1,5 @@
 -- Components and their macros, looked up for a pin.
-use Rattle.std.proofs.Common.{◌≡◌, ℕ, Bool, true, false, List, [], ◌∷◌, Option, Some, None, Ok, refl, sym, ap, ◌∙◌, inl, inr}
+use Rattle.std.proofs.Common.{◌≡◌, ℕ, Bool, false, List, [], ◌∷◌, Option, Some, None, Ok, refl, sym, ap, ◌∙◌, inl, inr}
 use Rattle.std.specs.Option.{option_map}
 use Rattle.std.specs.Str.{bytes_eq}
 use Rattle.std.proofs.lemmas.Bool.{cases_Bool}
@@ -9,7 +9,6 @@ use Rattle.form_meanings.specs.Words.{◌>>=◌}
 use Rattle.form_meanings.proofs.Steps.{some_same}
 use Rattle.def_grammar.specs.Components.{Component}
 use Rattle.def_grammar.specs.Located.{component_at, component_if, located, or_later}
-use Rattle.def_grammar.specs.Parts.{is_some}
 use Rattle.def_grammar.specs.Records.{Record, component_of, def, read_def}
 use Rattle.lef_grammar.specs.Library.{Library, Macro, macro_named}
 use Rattle.lef_grammar.specs.MacroShapes.{LibraryMacro, in_library}

@@ -1,35 +1,27 @@
 -- The cut of a placement, and why it is refused.
-use Rattle.std.proofs.Common.{◌≡◌, ◌==◌, ◌||◌, ◌+◌, ◌-◌, ◌<◌, ◌≤◌, ◌++◌, take, drop, ℕ, ℤ, true, false, List, [], ◌∷◌, Option, Some, None, Result, Ok, Err, length, codes, inl, inr, refl, subst, sym, ap, ◌∙◌, arith, length-append}
+use Rattle.std.proofs.Common.{◌≡◌, ◌==◌, ◌+◌, ◌-◌, ◌<◌, ◌≤◌, ◌++◌, take, drop, ℕ, ℤ, true, false, List, [], ◌∷◌, Option, Some, None, Result, Ok, Err, length, codes, inl, inr, refl, subst, sym, ap, ◌∙◌, arith, length-append}
 use Rattle.std.specs.Prelude.{IfOk, IsOk, MatchOption}
 use Rattle.std.specs.Option.{option_map}
 use Rattle.design_model.specs.declared.fault.Fault.{Fault}
-use Rattle.def_grammar.specs.Records.{Record, read_def}
+use Rattle.def_grammar.specs.Records.{Record}
 use Rattle.std.proofs.lemmas.Bool.{cases_Bool}
 use Rattle.std.proofs.lemmas.List.{length-map}
 use Rattle.std.proofs.lemmas.Bool.Decides.{nat_tests}
 use Rattle.design_model.specs.EnumWords.{orient_word, status_word}
 use Rattle.def_grammar.specs.Parts.{orient, point}
-use Rattle.edit_model.specs.declared.edit.EditCode.{EditCode}
-use Rattle.edit_model.specs.declared.edit.EditCode.TheVariants.{TooLong}
 use Rattle.design_model.specs.declared.geometry.Orient.{Orient}
 use Rattle.form_meanings.specs.Meaning.{spell_all}
 use Rattle.statement_model.specs.Tokens.{Token}
-use Rattle.statement_model.specs.Cuts.{Cut, end_of, end_of_all, with_cuts}
+use Rattle.statement_model.specs.Cuts.{Cut, end_of, end_of_all}
 use Rattle.statement_model.specs.Form.{spell}
 use Rattle.statement_model.specs.Reading.{pos_of}
 use Rattle.def_grammar.specs.Components.{Clause, placed, unplaced, Component, clause, component_form, is_placing, placement}
 use Rattle.def_grammar.specs.Placing.{placing, is_held}
-use Rattle.edit_model.specs.declared.edit.EditRefusal.{EditRefusal}
-use Rattle.edit_model.specs.declared.edit.EditRefusal.TheVariants.{Refused, Unreadable, Memory}
-use Rattle.lef_grammar.specs.Library.{Library}
 use Rattle.edit_rules.specs.ComponentEdits.{fixed_part, is_out, place_change, place_plan, placed_text, tokens_of, unplace_changes, unplace_plan}
-use Rattle.edit_rules.specs.Edits.{place}
-use Rattle.def_grammar.specs.Located.{located, component_at}
 use Rattle.edit_rules.specs.Plans.{cut_of, cuts_for, lowest, put_apart}
 use Rattle.lefdef_tokens.specs.TokenViews.{end_after, pieces_of, span_of, words_of}
 use Rattle.lefdef_tokens.specs.declared.token_run.TokenRun.{TokenRun}
 use Rattle.place_parts.specs.PlacingViews.{IsPlacing, before_word}
-use Rattle.edit_rules.specs.Runs.{Makes, MayWantMemory}
 use Rattle.def_splice.specs.SpliceViews.{clause_cut, is_placed}
 
 end_is : (p : Token) (ps : List Token) → end_after (end_of p) ps ≡ end_of_all (p ∷ ps)

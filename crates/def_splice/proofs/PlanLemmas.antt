@@ -1,9 +1,8 @@
 -- What a plan gives, by its refusals and its cuts.
-use Rattle.std.proofs.Common.{◌≤◌, length, subst, ◌≡◌, ◌++◌, ℕ, true, false, List, [], ◌∷◌, Option, Some, None, Result, Ok, Err, Bool, map, inl, inr, refl, sym, ap, ◌∙◌}
+use Rattle.std.proofs.Common.{◌≤◌, length, subst, ◌≡◌, ◌++◌, ℕ, true, false, List, [], ◌∷◌, Some, None, Result, Ok, Err, Bool, map, inl, inr, refl, sym, ap, ◌∙◌}
 use Rattle.std.specs.Prelude.{cond}
 use Rattle.std.proofs.lemmas.Bool.{cases_Bool, le-ltb}
 use Rattle.design_model.specs.declared.TheConstants.{MAX_TEXT}
-use Rattle.design_model.specs.declared.fault.Fault.{Fault}
 use Rattle.statement_model.specs.Cuts.{Cut, with_cuts}
 use Rattle.statement_model.specs.Tokens.{Token}
 use Rattle.def_grammar.specs.Components.{Component}

@@ -1,5 +1,5 @@
 -- The first statement of a kind, looked for from statement to statement.
-use Rattle.std.proofs.Common.{if◌then◌else◌, ◌≡◌, not, ◌+◌, ◌||◌, ℕ, arith, length, Bool, true, false, List, [], ◌∷◌, ◌++◌, Option, Some, None, Ok, map, refl, sym, ap, ◌∙◌, inl, inr}
+use Rattle.std.proofs.Common.{◌≡◌, not, ◌+◌, ◌||◌, ℕ, arith, length, Bool, true, false, List, [], ◌∷◌, Option, Some, None, Ok, map, refl, ap, ◌∙◌, inl, inr}
 use Rattle.std.specs.List.{filter_map, list_any}
 use Rattle.std.specs.Option.{option_map}
 use Rattle.std.proofs.lemmas.Bool.{cases_Bool}

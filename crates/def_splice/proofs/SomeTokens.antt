@@ -1,7 +1,6 @@
 -- The statements of a text have tokens.
-use Rattle.std.proofs.Common.{◌≡◌, ◌<◌, ℕ, Bool, List, [], ◌∷◌, ◌++◌, length, Option, Some, None, refl, sym, ap, ◌∙◌, inl, inr, arith, subst, length-append}
+use Rattle.std.proofs.Common.{◌≡◌, ◌<◌, ℕ, Bool, List, [], ◌∷◌, ◌++◌, length, Some, sym, ◌∙◌, inl, inr, arith, subst, length-append}
 use Rattle.std.specs.List.{zip}
-use Rattle.std.specs.Str.{bytes_eq}
 use Rattle.std.proofs.lemmas.Bool.{cases_Bool}
 use Rattle.std.proofs.lemmas.List.{length-map}
 use Rattle.design_model.specs.declared.mode.Section.{Section}
@@ -62,7 +61,7 @@ where_some test (y ∷ ys) ps all is = elim (cases_Bool (test y.1)) [
     same e = cc
 
 -- as many as are found
-words_there : (x : Lying) → length (lying_tokens x) ≡ length (words_of x.tokens)
+pub words_there : (x : Lying) → length (lying_tokens x) ≡ length (words_of x.tokens)
 words_there x = length-map (pieces_of x.tokens) (moved_token x.at) ∙ sym (length-map (pieces_of x.tokens) (λ p. p.bytes))
 
 pub entry_has_some : (text : List ℕ) (design : List Record) (s : Section) (name : List ℕ) (x : Lying) (rec : Record) → entry_at s name (located text design) ≡ Some (lying_tokens x, rec) → 0 < length (words_of x.tokens)

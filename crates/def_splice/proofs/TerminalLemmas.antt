@@ -1,11 +1,11 @@
 -- The tokens of an entry of a net before and behind one of its terminals, counted.
-use Rattle.std.proofs.Common.{◌≡◌, ◌≤◌, ◌<◌, ◌+◌, ◌-◌, ℕ, suc, Bool, true, false, not, List, [], ◌∷◌, length, take_while, drop, Some, refl, sym, ap, ◌∙◌, arith, length-drop, length-append}
+use Rattle.std.proofs.Common.{◌≡◌, ◌≤◌, ◌+◌, ◌-◌, ℕ, Bool, true, false, not, List, [], ◌∷◌, length, take_while, drop, Some, refl, ap, ◌∙◌, arith, length-drop, length-append}
 use Rattle.std.specs.List.{list_any}
 use Rattle.std.proofs.lemmas.List.Sums.{take_while-cons}
 use Rattle.form_meanings.specs.Meaning.{spell_all}
 use Rattle.form_meanings.specs.Words.{Rest}
 use Rattle.statement_model.specs.Form.{read, spell}
-use Rattle.statement_model.specs.Tokens.{Token, without_first}
+use Rattle.statement_model.specs.Tokens.{Token}
 use Rattle.def_grammar.specs.Terminals.{Terminal, terminal}
 use Rattle.lefdef_tokens.specs.Places.{behind, past}
 use Rattle.lefdef_tokens.proofs.PlaceLemmas.{behind_is_drop}

@@ -1,5 +1,5 @@
 -- The tokens of a run, counted, and what they span.
-use Rattle.std.proofs.Common.{◌≡◌, ℕ, zero, suc, List, length, take, sym, ap, ◌∙◌, refl, arith}
+use Rattle.std.proofs.Common.{◌≡◌, ℕ, zero, suc, List, length, take, sym, ◌∙◌, refl, arith}
 use Rattle.std.proofs.lemmas.List.{length-map, length-take-le}
 use Rattle.statement_model.specs.Cuts.{end_of_all}
 use Rattle.statement_model.specs.Tokens.{Token, left_from}

@@ -1,18 +1,15 @@
 -- The plans of routing a net and of unrouting it, by what its clauses are to wiring.
-use Rattle.std.proofs.Common.{◌≡◌, ◌≤◌, ◌<◌, ℕ, ◌+◌, ◌-◌, ◌==◌, Bool, true, false, not, ◌||◌, List, [], ◌∷◌, ◌++◌, length, map, drop, Option, Some, None, Result, Ok, Err, if◌then◌else◌, arith, refl, sym, ap, ap₂, subst, ◌∙◌, codes, length-drop}
+use Rattle.std.proofs.Common.{◌≡◌, ◌≤◌, ◌<◌, ℕ, ◌+◌, ◌-◌, ◌==◌, Bool, true, false, not, List, [], ◌∷◌, ◌++◌, length, map, drop, Option, Some, None, Result, Ok, Err, if◌then◌else◌, arith, refl, sym, ap, ap₂, subst, ◌∙◌, length-drop}
 use Rattle.std.proofs.lemmas.List.{length-map}
-use Rattle.std.specs.List.{list_any}
 use Rattle.design_model.specs.declared.fault.Fault.{Fault}
 use Rattle.edit_model.specs.declared.edit.EditCode.{EditCode}
 use Rattle.edit_model.specs.declared.edit.EditCode.TheVariants.{UnknownName, Fixed, WiringText, WiringApart, TooLong}
 use Rattle.edit_model.specs.declared.edit.EditRefusal.{EditRefusal}
 use Rattle.edit_model.specs.declared.edit.EditRefusal.TheVariants.{Refused, Unreadable, Memory}
 use Rattle.edit_model.specs.declared.edit.Splice.{Splice}
-use Rattle.form_meanings.specs.Words.{is_plus, start}
 use Rattle.form_meanings.specs.Meaning.{spell_all}
-use Rattle.statement_model.specs.Boundaries.{words}
 use Rattle.statement_model.specs.Cuts.{Cut, with_cuts}
-use Rattle.statement_model.specs.Form.{Form, many, read, spell}
+use Rattle.statement_model.specs.Form.{Form, spell}
 use Rattle.statement_model.specs.Tokens.{Token, between, tokens}
 use Rattle.def_grammar.specs.Located.{entry_at, located}
 use Rattle.def_grammar.specs.Nets.{is_net, net_clause}
@@ -20,7 +17,7 @@ use Rattle.def_grammar.specs.Parts.{is_some}
 use Rattle.def_grammar.specs.Records.{Entry, Record, entry, entry_of, net, read_def, special_net}
 use Rattle.def_grammar.specs.SpecialNets.{special_clause}
 use Rattle.def_grammar.specs.Terminals.{Terminal, terminal}
-use Rattle.edit_rules.specs.Edits.{Change, of_net, plan_of}
+use Rattle.edit_rules.specs.Edits.{of_net, plan_of}
 use Rattle.edit_rules.specs.NetEdits.{Role, before_wiring, is_held, is_wiring, NetChange, edited_net, front_of, net_plan, net_role, opens_comment, plan_of_entry, plan_of_record, route_by, route_change, route_plan, said_by, section_of_net, special_role, terminals_of, unroute_all, unroute_change, unroute_plan, wiring_of, wiring_said}
 use Rattle.edit_rules.specs.NetEdits as rules
 use Rattle.edit_rules.specs.Plans.{Plan, StatementChange, cut_of, cuts_for, is_long, lowest, outcome_of, refused_plan, unless}
@@ -34,11 +31,12 @@ use Rattle.lefdef_tokens.specs.declared.token_run.TokenRun.{TokenRun}
 use Rattle.lefdef_tokens.proofs.PlaceLemmas.{behind_is_drop}
 use Rattle.design_model.specs.declared.mode.Section.{Section}
 use Rattle.form_meanings.specs.Words.{◌>>=◌}
+use Rattle.form_meanings.proofs.Steps.{some_same}
 use Rattle.lefdef_tokens.specs.Laws.{moved_token}
 use Rattle.def_splice.specs.Lying.{lying_tokens, moved_change, moved_plan, moved_tokens}
 use Rattle.def_splice.specs.NetViews.{entry_with}
-use Rattle.def_splice.specs.SpliceViews.{FollowsAll, MakesSplices, change_cut, cut_view}
-use Rattle.def_splice.specs.WiringPlanViews.{IsWired, is_wired_seen, put_text, route_refusals, route_so, unroute_refusals, unroute_so, wiring_change}
+use Rattle.def_splice.specs.SpliceViews.{FollowsAll, MakesSplices, change_cut}
+use Rattle.def_splice.specs.WiringPlanViews.{IsWired, is_wired_seen, put_text, route_so, unroute_refusals, unroute_so, wiring_change}
 use Rattle.net_wiring.specs.WiringViews.{Clauses, StandBehind, any_passes, are_wiring, clauses_in, is_other, is_said, is_wired, left_of, nets_in, reads_wiring, said_in, section_of, shown, size_before, tokens_of, wiring_on}
 use Rattle.net_wiring.specs.declared.wiring_clauses.EntryClauses.{EntryClauses}
 use Rattle.net_wiring.specs.declared.wiring_clauses.NetSection.{NetSection}
@@ -162,13 +160,22 @@ front_is : (x : Lying) (ts : List Terminal) (cs : EntryClauses) → StandBehind 
 front_is x ts cs at low = omega (arith, clauses_left (pieces_of x.tokens) ts cs at, words_left x.tokens, low, tokens_there x)
 
 -- an entry that is found has tokens
-entry_found : (o : Option (List Token × Record)) (ps : List Token) (e : Entry) → Some (ps, e) ≡ entry_with o → (rec : Record) × (o ≡ Some (ps, rec))
+abbrev entry_there : List Token → Entry → Option (List Token × Entry)
+entry_there ps e = Some (ps, e)
+
+abbrev record_there : List Token → Record → Option (List Token × Record)
+record_there ps rec = Some (ps, rec)
+
+same_tokens : (ps qs : List Token) (rec : Record) (o : Option Entry) (e : Entry) → entry_there ps e ≡ (o >>= λ f. entry_there qs f) → record_there qs rec ≡ record_there ps rec
+same_tokens ps qs rec None e is = absurd (cc)
+same_tokens ps qs rec (Some f) e is =
+    let own : List Token × Entry = (ps, e) in
+    let found : List Token × Entry = (qs, f) in
+    ap (λ (y : List Token × Entry). record_there y.0 rec) (sym (some_same own found is))
+
+entry_found : (o : Option (List Token × Record)) (ps : List Token) (e : Entry) → entry_there ps e ≡ entry_with o → (rec : Record) × (o ≡ record_there ps rec)
 entry_found None ps e is = absurd (cc)
-entry_found (Some y) ps e is = (y.1, with_entry (entry_of y.1) is)
-  where
-    with_entry : (o : Option Entry) → Some (ps, e) ≡ (o >>= λ f. Some (y.0, f)) → Some y ≡ Some (ps, y.1)
-    with_entry None is = absurd (cc)
-    with_entry (Some f) is = let here : ps ≡ y.0 = cc in ap (λ (qs : List Token). Some (qs, y.1)) (sym here)
+entry_found (Some y) ps e is = (y.1, same_tokens ps y.0 y.1 (entry_of y.1) e is)
 
 pub wired_some : (text : List ℕ) (design : List Record) (s : Section) (name : List ℕ) (cs : EntryClauses) (x : Lying) → IsWired (entry_at s name (located text design)) cs x → 0 < length (words_of x.tokens)
 wired_some text design s name cs x w = let there = entry_found (entry_at s name (located text design)) (lying_tokens x) w.own w.is in entry_has_some text design s name x there.0 there.1

@@ -1,5 +1,5 @@
 -- The plans of edits of the wiring of an entry that is found.
-use Rattle.std.specs.Prelude.{◌≡◌, ℕ, ◌+◌, Bool, true, false, not, List, [], ◌∷◌, Option, Some, None, if◌then◌else◌}
+use Rattle.std.specs.Prelude.{◌≡◌, ℕ, ◌+◌, Bool, false, not, List, [], ◌∷◌, Option, Some, None, if◌then◌else◌}
 use Rattle.edit_model.specs.declared.edit.EditCode.{EditCode}
 use Rattle.edit_model.specs.declared.edit.EditCode.TheVariants.{Fixed, WiringText, WiringApart}
 use Rattle.statement_model.specs.Tokens.{Token}

@@ -99,10 +99,7 @@ pub fn has_section<L: LookUps>(lookups: &L, section: Section) -> bool
 }
 
 /// The entry of a net: that in NETS, or else that in SPECIALNETS.
-pub fn net_entry<'a, L: LookUps>(
-    lookups: &'a L,
-    name: &[u8],
-) -> Option<(Statement<'a>, Lying<'a>)>
+pub fn net_entry<'a, L: LookUps>(lookups: &'a L, name: &[u8]) -> Option<(Statement<'a>, Lying<'a>)>
     requires { IsOk (read_def (L.text lookups.now)) }
     ensures gives { (design : List Record) → read_def (L.text lookups.now) ≡ Ok design → option_map lying_statement result ≡ entry_at (section_of_net unroute_all name.now design) name.now (located (L.text lookups.now) design) }
     ensures lent { IfSome result (λ x. StatementAt (pieces_of x.1.tokens) x.0) }
@@ -169,9 +166,7 @@ pub fn listing_entry<'a, L: LookUps>(
 }
 
 /// An entry that was found, with its tokens.
-pub fn with_tokens<'t>(
-    found: Option<(Statement<'t>, Lying<'t>)>,
-) -> Option<(Entry<'t>, Lying<'t>)>
+pub fn with_tokens<'t>(found: Option<(Statement<'t>, Lying<'t>)>) -> Option<(Entry<'t>, Lying<'t>)>
     ensures gives { option_map entry_seen result ≡ entry_with (option_map lying_statement found.entry) }
     ensures lent { IfSome found.entry (λ x. StatementAt (pieces_of x.1.tokens) x.0) → IfSome result (λ x. EntryAt (pieces_of x.1.tokens) x.0) }
     ensures lies { (text : List ℕ) → IfSome found.entry (λ x. LiesIn text x.1) → IfSome result (λ x. LiesIn text x.1) }

@@ -28,10 +28,7 @@ use net_wiring::wiring_text::is_wiring;
 use std::alloc::{AllocError, Allocator};
 
 /// The clauses of the entry of a net, where it may have wiring, and the entry's tokens.
-fn wired_entry<'a, L: LookUps>(
-    lookups: &'a L,
-    net: &[u8],
-) -> Option<(EntryClauses<'a>, Lying<'a>)>
+fn wired_entry<'a, L: LookUps>(lookups: &'a L, net: &[u8]) -> Option<(EntryClauses<'a>, Lying<'a>)>
     requires { IsOk (read_def (L.text lookups.now)) }
     ensures gives { (design : List Record) → read_def (L.text lookups.now) ≡ Ok design → FoundWired (entry_at (section_of_net unroute_all net.now design) net.now (located (L.text lookups.now) design)) result }
     ensures lies { IfSome result (λ x. LiesIn (L.text lookups.now) x.1) }

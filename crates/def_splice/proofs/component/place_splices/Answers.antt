@@ -1,10 +1,11 @@
-use Rattle.std.proofs.Common.{◌≡◌, None, Ok, ap, sym, ◌∙◌, refl}
+use Rattle.std.proofs.Common.{ap, sym, ◌∙◌, rules}
 use Rattle.std.specs.Option.{option_map}
-use Rattle.def_grammar.specs.Located.{component_at, located}
 use Rattle.def_grammar.specs.Records.{read_def}
-use Rattle.edit_rules.specs.ComponentEdits.{place_at}
+use Rattle.edit_rules.specs.ComponentEdits.{place_at, place_plan}
+use Rattle.lefdef_tokens.specs.Views.{pieces_of}
 use Rattle.place_parts.specs.ComponentViews.{component_view}
 use Rattle.def_splice.specs.Lying.{lying_component}
+use Rattle.def_splice.specs.SpliceViews.{MakesOne}
 use Rattle.def_splice.proofs.ComponentSteps.{component_follows, some_tokens}
 use Rattle.def_splice.proofs.PlaceLemmas.{design_of}
 use Rattle.def_splice.proofs.component.place_splices.Goals as goal
@@ -17,5 +18,6 @@ returns-clause-makes g c =
     let text = g.L.LookUps.text c.args.lookups.now in
     let read = design_of (read_def text) c.requires.reads in
     let found = sym (c.component.ensures.gives read.0 read.1) ∙ ap (option_map lying_component) c.in-Some.is in
+    let made : MakesOne {A = g.row.A.Denot} c.in-Some.entry.tokens.text.now (place_plan c.args.x c.args.y c.args.orient (pieces_of c.in-Some.entry.tokens) (component_view c.in-Some.parts)) c.entry_placed-splice.result = search rules in
     component_follows c.args.library.now text c.args.component.now (place_at c.args.x c.args.y c.args.orient) (c.in-Some.parts, c.in-Some.entry) read.0 read.1 found c.edits_stand_in_order.ensures c.in-Some.ensures.lies (some_tokens (component_view c.in-Some.parts) c.in-Some.entry c.in-Some.ensures.spelled)
-    c.entry_placed.result c.entry_placed.ensures.gives c.in_text.result (λ plan firm one. c.in_text.ensures.follows text plan (sym c.len.ensures) c.in-Some.ensures.lies firm one)
+    c.entry_placed-splice.result made c.in_text.result (λ plan firm one. c.in_text.ensures.follows text plan (sym c.len.ensures) c.in-Some.ensures.lies firm one)

@@ -1,4 +1,4 @@
-use Rattle.std.proofs.Common.{◌≡◌, ◌-◌, ℕ, List, nat_lt, length, drop, arith, sym, ap, subst, ◌∙◌}
+use Rattle.std.proofs.Common.{◌-◌, ℕ, nat_lt, length, drop, arith, sym, ap, subst, ◌∙◌}
 use Rattle.def_splice.specs.SpliceViews.{AreInOrder}
 use Rattle.def_splice.proofs.LongLemmas.{later, left_length, order_later, overfull, room_left}
 use Rattle.def_splice.proofs.fitting.is_long.Goals as goal

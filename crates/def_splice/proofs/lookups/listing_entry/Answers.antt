@@ -1,4 +1,4 @@
-use Rattle.std.proofs.Common.{◌≡◌, ap, sym, ◌∙◌, rules, List, Some}
+use Rattle.std.proofs.Common.{◌≡◌, ap, sym, ◌∙◌, rules, Some}
 use Rattle.std.specs.Option.{option_map, option_or}
 use Rattle.def_splice.specs.Lying.{lying_statement}
 use Rattle.def_splice.proofs.NetLemmas.{either_lists, net_lists, seen_or, without_net}

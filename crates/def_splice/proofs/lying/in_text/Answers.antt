@@ -1,4 +1,4 @@
-use Rattle.std.proofs.Common.{◌≡◌, ◌≤◌, ℕ, length, Some, None, Ok, Err, Option, Result, ap, sym, ◌∙◌, subst}
+use Rattle.std.proofs.Common.{length, Option, Result, subst}
 use Rattle.std.specs.Prelude.{IfOk, IfSome}
 use Rattle.edit_model.specs.declared.edit.EditRefusal.{EditRefusal}
 use Rattle.edit_model.specs.declared.edit.Splice.{Splice}

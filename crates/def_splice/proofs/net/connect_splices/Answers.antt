@@ -1,4 +1,4 @@
-use Rattle.std.proofs.Common.{◌≡◌, ◌≤◌, ◌∷◌, [], length, None, Some, Err, ap, sym, subst, ◌∙◌, refl}
+use Rattle.std.proofs.Common.{◌≡◌, ◌≤◌, ◌∷◌, [], None, Err, ap, sym, subst, ◌∙◌, refl}
 use Rattle.std.specs.Option.{option_map}
 use Rattle.def_grammar.specs.Records.{read_def}
 use Rattle.edit_model.specs.declared.edit.EditRefusal.TheVariants.{Memory, Refused}
@@ -76,7 +76,10 @@ returns-clause-makes g c =
     let e = entry_view c.in-Some.entry in
     let own = plan_of_entry library read.0 change (pieces_of c.in-Some.tokens.tokens) e in
     let lies = c.in-Some.ensures.lies text c.net_entry.ensures.lies in
-    let firm = firm_to_connect library read.0 c.args.owner.now c.args.pin.now c.in-Some.tokens.tokens e c.entry_connected.requires.tokens in
+    let is = net_planned library text c.args.net.now change read.0 read.1 x found in
+    let fits = connect_within c.edits_stand_in_order.ensures library text read.0 c.args.net.now c.args.owner.now c.args.pin.now x read.1 is free in
+    let words = length-map (pieces_of c.in-Some.tokens.tokens) (moved_token c.in-Some.tokens.at) ∙ pieces_counted c.in-Some.tokens.tokens in
+    let firm = firm_to_connect library read.0 c.args.owner.now c.args.pin.now c.in-Some.tokens.tokens e (subst (λ n. front_of (terminals_of e) ≤ n) words fits) in
     let cut = ap (λ (z : Cut). z ∷ []) (sym c.in_ok-splice.ensures.cut) in
     let follows = c.in_text.ensures.follows text own (sym c.len.ensures) lies firm (free, cut) in
     let moved = (terminal_moved library read.0 c.in-Some.tokens.at (pieces_of c.in-Some.tokens.tokens) e c.args.owner.now c.args.pin.now).0 in

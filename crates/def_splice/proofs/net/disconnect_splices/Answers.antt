@@ -1,4 +1,4 @@
-use Rattle.std.proofs.Common.{◌≡◌, None, Some, ap, sym, subst, ◌∙◌, refl}
+use Rattle.std.proofs.Common.{ap, sym, subst, ◌∙◌, refl}
 use Rattle.std.specs.Option.{option_map}
 use Rattle.def_grammar.specs.Records.{read_def}
 use Rattle.edit_rules.specs.NetEdits.{disconnect_from, plan_of_entry}
@@ -34,6 +34,6 @@ returns-clause-makes g c =
     let found = sym (ap (option_map entry_seen) c.in-Some.is) ∙ c.with_tokens.ensures.gives ∙ ap entry_with (c.listing_entry.ensures.gives read.0 read.1) in
     let own = plan_of_entry library read.0 change (pieces_of c.in-Some.tokens.tokens) (entry_view c.in-Some.entry) in
     let lies = c.in-Some.ensures.lies text c.listing_entry.ensures.lies in
-    let follows = c.in_text.ensures.follows text own (sym c.len.ensures) lies (c.entry_disconnected.ensures.firm library read.0) (c.entry_disconnected.ensures.gives library read.0) in
+    let follows = c.in_text.ensures.follows text own (sym c.len.ensures) lies (c.entry_disconnected-splice.ensures.firm library read.0) (c.entry_disconnected-splice.ensures.gives library read.0) in
     let moved = (terminal_moved library read.0 c.in-Some.tokens.at (pieces_of c.in-Some.tokens.tokens) (entry_view c.in-Some.entry) c.args.owner.now c.args.pin.now).1 in
     net_makes library text c.args.net.now change read.0 read.1 x found text refl c.in_text.result (subst (λ (q : Plan). FollowsAll {A = g.row.A.Denot} text q c.in_text.result) (sym moved) follows)

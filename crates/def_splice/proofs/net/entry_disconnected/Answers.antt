@@ -1,4 +1,4 @@
-use Rattle.std.proofs.Common.{◌≡◌, ◌∷◌, [], ap, ap₂, sym, ◌∙◌}
+use Rattle.std.proofs.Common.{◌∷◌, [], ap, ap₂, sym, ◌∙◌}
 use Rattle.std.proofs.lemmas.Result.{err_from_is_err_and}
 use Rattle.lefdef_tokens.specs.Views.{pieces_of}
 use Rattle.def_reader.specs.EntryViews.{entry_view}

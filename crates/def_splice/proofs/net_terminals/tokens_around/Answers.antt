@@ -1,4 +1,4 @@
-use Rattle.std.proofs.Common.{◌≡◌, ◌+◌, ap, sym, ◌∙◌, length, ℕ}
+use Rattle.std.proofs.Common.{◌+◌, ap, sym, ◌∙◌, length, ℕ}
 use Rattle.statement_model.specs.Form.{spell}
 use Rattle.def_grammar.specs.Terminals.{terminal}
 use Rattle.lefdef_tokens.specs.Views.{rest_of, words_of}

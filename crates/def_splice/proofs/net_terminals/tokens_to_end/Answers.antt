@@ -1,4 +1,4 @@
-use Rattle.std.proofs.Common.{◌≡◌, ◌≤◌, ◌-◌, ap, sym, subst, ◌∙◌, length, List, ℕ}
+use Rattle.std.proofs.Common.{◌≤◌, ◌-◌, ap, sym, subst, ◌∙◌, length, List, ℕ}
 use Rattle.def_grammar.specs.Terminals.{Terminal}
 use Rattle.lefdef_tokens.specs.Views.{pieces_of, words_of}
 use Rattle.wire_parts.specs.TerminalViews.{terminals_of as terminals_left}

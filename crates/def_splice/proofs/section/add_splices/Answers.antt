@@ -15,21 +15,21 @@ use Rattle.def_splice.proofs.section.add_splices.Goals as goal
 
 pub returns-in-Some-clause-makes : goal.returns-in-Some-clause-makes
 returns-in-Some-clause-makes g c =
-    let read = design_of (read_def c.args.text.now) c.requires.reads in
-    let plan = section_plan_of c.args.library.now c.args.text.now read.0 (add_component c.args.component.now c.args.cell.now) in
-    (read.0, read.1, refused c.args.text.now plan c.in-Some.code (sym (c.add_refusal.ensures read.0 read.1) ∙ c.in-Some.is))
+    let read = design_of (read_def (g.L.LookUps.text c.args.lookups.now)) c.requires.reads in
+    let plan = section_plan_of c.args.library.now (g.L.LookUps.text c.args.lookups.now) read.0 (add_component c.args.component.now c.args.cell.now) in
+    (read.0, read.1, refused (g.L.LookUps.text c.args.lookups.now) plan c.in-Some.code (sym (c.add_refusal.ensures read.0 read.1) ∙ c.in-Some.is))
 
 pub returns-in_err-put-clause-makes : goal.returns-in_err-put-clause-makes
 returns-in_err-put-clause-makes g c =
-    let read = design_of (read_def c.args.text.now) c.requires.reads in
-    let plan = section_plan_of c.args.library.now c.args.text.now read.0 (add_component c.args.component.now c.args.cell.now) in
+    let read = design_of (read_def (g.L.LookUps.text c.args.lookups.now)) c.requires.reads in
+    let plan = section_plan_of c.args.library.now (g.L.LookUps.text c.args.lookups.now) read.0 (add_component c.args.component.now c.args.cell.now) in
     let free : lowest plan.refusals ≡ None = sym (c.add_refusal.ensures read.0 read.1) ∙ c.in_default.is in
     let p = err_from_is_err_and c.from_residual.result c.from_residual.ensures.1 in
-    rw (p.1, p.2) (outcome_of c.args.text.now plan, (read.0, read.1, refl), wants c.args.text.now plan free)
+    rw (p.1, p.2) (outcome_of (g.L.LookUps.text c.args.lookups.now) plan, (read.0, read.1, refl), wants (g.L.LookUps.text c.args.lookups.now) plan free)
 
 pub entry_put-requires-clause-stand : goal.entry_put-requires-clause-stand
 entry_put-requires-clause-stand g c = λ design reads.
-    let text = c.args.text.now in
+    let text = g.L.LookUps.text c.args.lookups.now in
     let change = add_component c.args.component.now c.args.cell.now in
     let plan = section_plan_of c.args.library.now text design change in
     let free : lowest plan.refusals ≡ None = sym (c.add_refusal.ensures design reads) ∙ c.in_default.is in
@@ -40,8 +40,8 @@ entry_put-requires-clause-stand g c = λ design reads.
 
 pub returns-clause-makes : goal.returns-clause-makes
 returns-clause-makes g c =
-    let read = design_of (read_def c.args.text.now) c.requires.reads in
-    let text = c.args.text.now in
+    let read = design_of (read_def (g.L.LookUps.text c.args.lookups.now)) c.requires.reads in
+    let text = g.L.LookUps.text c.args.lookups.now in
     let plan = section_plan_of c.args.library.now text read.0 (add_component c.args.component.now c.args.cell.now) in
     let free : lowest plan.refusals ≡ None = sym (c.add_refusal.ensures read.0 read.1) ∙ c.in_default.is in
     let put : c.deref.result.now ≡ component_text c.args.component.now c.args.cell.now = search rules in

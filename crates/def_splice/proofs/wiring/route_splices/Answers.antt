@@ -1,4 +1,4 @@
-use Rattle.std.proofs.Common.{◌≡◌, Some, ap, sym, subst, ◌∙◌}
+use Rattle.std.proofs.Common.{sym, subst}
 use Rattle.def_grammar.specs.Located.{entry_at, located}
 use Rattle.def_grammar.specs.Records.{read_def}
 use Rattle.edit_rules.specs.NetEdits.{section_of_net, unroute_all}

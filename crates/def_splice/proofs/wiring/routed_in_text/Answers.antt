@@ -1,8 +1,6 @@
-use Rattle.std.proofs.Common.{◌≡◌, ◌-◌, length, sym, subst, refl}
-use Rattle.edit_rules.specs.Plans.{Plan}
+use Rattle.std.proofs.Common.{◌-◌, length}
 use Rattle.lefdef_tokens.specs.Views.{pieces_of, words_of}
 use Rattle.net_wiring.specs.WiringViews.{is_said, reads_wiring}
-use Rattle.def_splice.specs.SpliceViews.{FollowsAll}
 use Rattle.def_splice.specs.WiringPlanViews.{route_so}
 use Rattle.def_splice.proofs.wiring.routed_in_text.Goals as goal
 

@@ -1,4 +1,4 @@
-use Rattle.std.proofs.Common.{◌≡◌, ◌-◌, length, sym, subst, refl}
+use Rattle.std.proofs.Common.{◌-◌, length, sym, subst}
 use Rattle.edit_rules.specs.Plans.{Plan}
 use Rattle.lefdef_tokens.specs.Views.{pieces_of, words_of}
 use Rattle.def_splice.specs.SpliceViews.{FollowsAll}

@@ -1,5 +1,4 @@
-use Rattle.std.proofs.Common.{◌≡◌, ◌≤◌, [], length, ap, subst, ◌∙◌, arith, sym}
-use Rattle.lefdef_tokens.specs.Views.{pieces_of}
+use Rattle.std.proofs.Common.{◌∙◌}
 use Rattle.def_splice.proofs.LyingLemmas.{change_moved}
 use Rattle.def_splice.proofs.lying.Lying.change_splice.Goals as goal
 

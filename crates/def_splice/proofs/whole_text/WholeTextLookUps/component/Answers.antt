@@ -1,6 +1,5 @@
-use Rattle.std.proofs.Common.{◌≡◌, Some, ap, sym, ◌∙◌}
+use Rattle.std.proofs.Common.{Some, ap, sym, ◌∙◌}
 use Rattle.std.specs.Option.{option_map}
-use Rattle.lefdef_tokens.specs.Views.{pieces_of}
 use Rattle.def_reader.specs.RecordViews.{entry_view}
 use Rattle.place_parts.specs.ComponentViews.{component_view}
 use Rattle.def_splice.proofs.LyingLemmas.{lies_whole_run, whole_tokens}
@@ -12,4 +11,4 @@ returns-clause-gives c = λ design reads.
     ap (λ ps. Some (ps, component_view c.in-Some.parts)) same ∙ sym (ap (option_map entry_view) c.in-Some.is) ∙ c.component_named.ensures.gives design reads
 
 pub returns-clause-lies : goal.returns-clause-lies
-returns-clause-lies c = lies_whole_run c.self.now.text.now c.in_whole.result c.in-Some.tokens c.in_whole.ensures.tokens c.in_whole.ensures.at c.in-Some.ensures.text
+returns-clause-lies c = lies_whole_run c.args.self.now.text.now c.in_whole.result c.in-Some.tokens c.in_whole.ensures.tokens c.in_whole.ensures.at c.in-Some.ensures.text

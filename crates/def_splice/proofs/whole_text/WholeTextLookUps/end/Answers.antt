@@ -1,4 +1,4 @@
-use Rattle.std.proofs.Common.{◌≡◌, Some, ap, sym, ◌∙◌}
+use Rattle.std.proofs.Common.{Some, ap, sym, ◌∙◌}
 use Rattle.std.specs.Option.{option_map}
 use Rattle.def_grammar.specs.Located.{located}
 use Rattle.edit_rules.specs.SectionEdits.{is_end}
@@ -10,13 +10,13 @@ use Rattle.def_splice.proofs.whole_text.WholeTextLookUps.end.Goals as goal
 pub returns-in_default-clause-gives : goal.returns-in_default-clause-gives
 returns-in_default-clause-gives c = λ design reads.
     let found = sym (c.first_statement.ensures.gives design reads) ∙ ap (option_map located_view) c.in_default.is in
-    sym (tokens_of_first (is_end c.args.section) (located c.self.now.text.now design) ∙ ap (option_map (λ x. x.0)) found)
+    sym (tokens_of_first (is_end c.args.section) (located c.args.self.now.text.now design) ∙ ap (option_map (λ x. x.0)) found)
 
 pub returns-clause-gives : goal.returns-clause-gives
 returns-clause-gives c = λ design reads.
     let found = sym (c.first_statement.ensures.gives design reads) ∙ ap (option_map located_view) c.in-Some.is in
     let same = whole_tokens c.in_whole.result c.in-Some.read.tokens c.in_whole.ensures.tokens c.in_whole.ensures.at in
-    ap (λ ps. Some ps) same ∙ sym (tokens_of_first (is_end c.args.section) (located c.self.now.text.now design) ∙ ap (option_map (λ x. x.0)) found)
+    ap (λ ps. Some ps) same ∙ sym (tokens_of_first (is_end c.args.section) (located c.args.self.now.text.now design) ∙ ap (option_map (λ x. x.0)) found)
 
 pub returns-clause-lies : goal.returns-clause-lies
-returns-clause-lies c = lies_whole_run c.self.now.text.now c.in_whole.result c.in-Some.read.tokens c.in_whole.ensures.tokens c.in_whole.ensures.at c.in-Some.ensures.lent.1
+returns-clause-lies c = lies_whole_run c.args.self.now.text.now c.in_whole.result c.in-Some.read.tokens c.in_whole.ensures.tokens c.in_whole.ensures.at c.in-Some.ensures.lent.1
