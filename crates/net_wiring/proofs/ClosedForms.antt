@@ -1,7 +1,7 @@
 -- What a form reads at the end of some words it reads before a ; behind them too, where none of its words can be that ;
-use Rattle.std.proofs.Common.{◌≡◌, ◌≤◌, ◌<◌, inl, inr, ℕ, zero, suc, ◌+◌, Bool, true, false, List, [], ◌∷◌, ◌++◌, length, Option, Some, None, if◌then◌else◌, arith, refl, sym, ap, ◌∙◌, ⊎_elim, codes, length-append}
+use Rattle.std.proofs.Common.{◌≡◌, ◌≤◌, ◌<◌, inl, inr, ℕ, zero, suc, ◌+◌, Bool, true, false, List, [], ◌∷◌, ◌++◌, length, Option, Some, None, if◌then◌else◌, arith, refl, ap, ◌∙◌, ⊎_elim, codes, length-append}
 use Rattle.std.proofs.lemmas.Bool.{cases_Bool as cases}
-use Rattle.form_meanings.specs.Words.{◌>>=◌, Rest, is_word, is_place, is_plus, next_word, word_that, key, number_at, noted, first_bad, next_passes}
+use Rattle.form_meanings.specs.Words.{◌>>=◌, Rest, is_word, is_place, word_that, key, number_at, noted, first_bad, next_passes}
 use Rattle.form_meanings.specs.Meaning.{Seen, Meaning, find, repeat, empty_meaning, word_meaning, number_meaning, one_of_meaning, behind_meaning, before_meaning, seq_meaning, alt_meaning, opt_meaning, many_meaning, seen_meaning, limited_meaning}
 use Rattle.statement_model.specs.Form.{Form, spell}
 use Rattle.net_wiring.specs.WiringViews.{closed_rest, one_more}

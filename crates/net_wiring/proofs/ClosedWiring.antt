@@ -1,5 +1,5 @@
 -- The forms of wiring clauses read at the end of some words what they read before a ;
-use Rattle.std.proofs.Common.{◌<◌, ◌+◌, inl, inr, ℕ, List, [], ◌∷◌, length, arith, refl, codes}
+use Rattle.std.proofs.Common.{◌<◌, inl, inr, ℕ, List, [], ◌∷◌, length, arith, refl, codes}
 use Rattle.design_model.specs.EnumWords.{orient_word, orients}
 use Rattle.form_meanings.specs.Words.{is_plus}
 use Rattle.form_meanings.specs.Meaning.{many_meaning}

@@ -1,5 +1,5 @@
 -- A loop over bytes that looks for a comment, and keeps of what is open no places and no bytes.
-use Rattle.std.proofs.Common.{◌≡◌, ℕ, ◌==◌, ◌||◌, Bool, true, false, List, [], ◌∷◌, ◌++◌, if◌then◌else◌, refl, sym, ap, ap₂, ◌∙◌}
+use Rattle.std.proofs.Common.{◌≡◌, ℕ, ◌||◌, Bool, true, false, List, [], ◌∷◌, ◌++◌, if◌then◌else◌, refl, sym, ap, ap₂, ◌∙◌}
 use Rattle.statement_model.specs.Tokens.{Open, closes, is_white, next_open}
 use Rattle.statement_model.specs.Tokens.Open.{between, comment, string, word}
 use Rattle.edit_rules.specs.NetEdits.{is_comment, opens_comment}

@@ -1,12 +1,12 @@
 -- The wiring clauses that a text says, read one after the other from its words, without the ; behind them: each but the last
 -- ends with the + of the next one, and the body of the last where the text does.
-use Rattle.std.proofs.Common.{◌≡◌, ◌⊎◌, ◌≤◌, ◌<◌, inl, inr, ℕ, zero, suc, ◌==◌, Bool, true, false, not, ◌&&◌, List, [], ◌∷◌, ◌++◌, length, Option, Some, None, if◌then◌else◌, is_none, arith, refl, sym, ap, subst, ◌∙◌, ⊎_elim, codes}
+use Rattle.std.proofs.Common.{◌≡◌, ◌⊎◌, ◌≤◌, ◌<◌, inl, inr, ℕ, zero, suc, ◌==◌, Bool, true, false, not, ◌&&◌, List, [], ◌∷◌, ◌++◌, length, Option, Some, None, if◌then◌else◌, is_none, arith, refl, sym, ap, ◌∙◌, ⊎_elim, codes}
 use Rattle.std.specs.List.{list_all}
 use Rattle.std.proofs.lemmas.Bool.{cases_Bool as cases}
 use Rattle.std.proofs.lemmas.Bool.Decides.{nat_tests}
-use Rattle.form_meanings.specs.Words.{◌>>=◌, Rest, is_done, is_plus, is_semicolon, is_stop, is_word, key, next_passes, start}
+use Rattle.form_meanings.specs.Words.{◌>>=◌, Rest, is_done, is_plus, is_semicolon, is_stop, is_word, key, next_passes}
 use Rattle.form_meanings.specs.Meaning.{Meaning, or_other, repeat}
-use Rattle.statement_model.specs.Form.{Form, ◌▸◌, closed, many, on, or_else, read, spell, upto}
+use Rattle.statement_model.specs.Form.{Form, ◌▸◌, closed, many, on, or_else, read, upto}
 use Rattle.def_grammar.specs.Clauses.{KeptClause, kept_clause}
 use Rattle.def_grammar.specs.Parts.{is_some}
 use Rattle.edit_rules.specs.NetEdits.{Role, is_alone, is_of_wiring, is_wiring, whole_text}

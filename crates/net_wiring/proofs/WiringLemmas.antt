@@ -1,5 +1,5 @@
 -- Clauses by what they are to wiring: those before it, the wiring, and those behind it.
-use Rattle.std.proofs.Common.{◌≡◌, ◌≤◌, ◌<◌, ℕ, suc, ◌+◌, ◌-◌, ◌==◌, Bool, true, false, not, ◌||◌, List, [], ◌∷◌, length, map, drop, take_while, Option, Some, None, Result, Ok, Err, if◌then◌else◌, MatchOption, is_some, arith, refl, sym, ap, ap₂, subst, ◌∙◌, ⊎_elim, codes, length-append}
+use Rattle.std.proofs.Common.{◌≡◌, ℕ, suc, ◌+◌, ◌==◌, Bool, true, false, not, ◌||◌, List, [], ◌∷◌, length, drop, take_while, Option, Some, None, MatchOption, is_some, arith, refl, sym, ap, ap₂, ◌∙◌, ⊎_elim, length-append}
 use Rattle.std.specs.List.{list_any}
 use Rattle.std.proofs.lemmas.Bool.{cases_Bool as cases}
 use Rattle.std.proofs.lemmas.Bool.Decides.{nat_tests}

@@ -1,7 +1,7 @@
 -- The steps over the clauses of a text, in a section of nets.
-use Rattle.std.proofs.Common.{◌≡◌, ◌⊎◌, ◌<◌, inl, inr, ℕ, Bool, true, false, List, [], ◌∷◌, length, Option, Some, None, is_none, refl, sym, ap, ◌∙◌, ⊎_elim, codes}
+use Rattle.std.proofs.Common.{◌≡◌, ◌<◌, ℕ, Bool, true, false, List, [], ◌∷◌, length, Some, None, is_none, refl, ap, ◌∙◌, ⊎_elim, codes}
 use Rattle.std.proofs.lemmas.Bool.{cases_Bool as cases}
-use Rattle.form_meanings.specs.Words.{Rest, is_done, is_plain}
+use Rattle.form_meanings.specs.Words.{Rest, is_done}
 use Rattle.def_grammar.specs.Clauses.{KeptClause}
 use Rattle.def_grammar.specs.Nets.{net_clause, net_listed}
 use Rattle.def_grammar.specs.SpecialNets.{special_clause, special_listed}

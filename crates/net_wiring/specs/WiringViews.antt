@@ -1,5 +1,5 @@
 -- Clauses of an entry of a net by what they are to its wiring, and the plans of routing the net by them.
-use Rattle.std.specs.Prelude.{◌≡◌, ◌⊎◌, ℕ, suc, ◌+◌, ◌-◌, Bool, true, false, not, ◌&&◌, ◌||◌, List, [], ◌∷◌, ◌++◌, length, map, Option, Some, None, Result, Ok, Err, codes, if◌then◌else◌}
+use Rattle.std.specs.Prelude.{◌≡◌, ◌⊎◌, ℕ, suc, ◌+◌, Bool, true, false, not, ◌||◌, List, [], ◌∷◌, ◌++◌, length, map, Option, Some, None, Result, Ok, Err, codes, if◌then◌else◌}
 use Rattle.std.specs.List.{list_any}
 use Rattle.design_model.specs.declared.fault.Fault.{Fault}
 use Rattle.form_meanings.specs.Words.{◌>>=◌, Rest, is_done, is_plus, is_word, key, next_passes, start}

@@ -1,4 +1,4 @@
-use Rattle.std.proofs.Common.{◌≡◌, ◌+◌, ◌∷◌, [], ℕ, drop, get_or, sym, ap, ◌∙◌, drop_of_length-le}
+use Rattle.std.proofs.Common.{◌≡◌, ◌+◌, [], drop, get_or, sym, ap, ◌∙◌, drop_of_length-le}
 use Rattle.std.proofs.lemmas.List.{drop_more}
 use Rattle.edit_rules.specs.NetEdits.{opens_comment}
 use Rattle.net_wiring.specs.WiringViews.{open_view}

@@ -1,4 +1,4 @@
-use Rattle.std.proofs.Common.{◌≡◌, ◌∷◌, length, ap, sym, ◌∙◌}
+use Rattle.std.proofs.Common.{◌∷◌, length, ap, sym, ◌∙◌}
 use Rattle.statement_model.specs.Form.{spell}
 use Rattle.def_grammar.specs.Nets.{net_clause}
 use Rattle.edit_rules.specs.NetEdits.{Role, net_role}

@@ -1,4 +1,4 @@
-use Rattle.std.proofs.Common.{◌≡◌, ◌∷◌, length, ap, sym, ◌∙◌}
+use Rattle.std.proofs.Common.{◌∷◌, length, ap, sym, ◌∙◌}
 use Rattle.statement_model.specs.Form.{spell}
 use Rattle.def_grammar.specs.SpecialNets.{special_clause}
 use Rattle.edit_rules.specs.NetEdits.{Role, special_role}
