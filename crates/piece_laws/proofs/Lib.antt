@@ -1,0 +1,9 @@
+pub mod Chaining
+pub mod Cutting
+pub mod FoundPieces
+pub mod FreshKeys
+pub mod Fronts
+pub mod Keyless
+pub mod MovedTokens
+pub mod Places
+pub mod Reading

@@ -1,0 +1,5 @@
+pub mod ChainLaws
+pub mod KeyLaws
+pub mod PieceLaws
+pub mod Pieces
+pub mod PlaceLaws

@@ -1,0 +1,30 @@
+//! Laws of reading pieces, and of making pieces of what is read.
+
+ghost use Rattle.def_grammar.specs.Records.{def};
+ghost use Rattle.piece_laws.specs.PieceLaws.{FaultsStand, PiecesAreRead, StatementsArePieces, StatementsEndBeforeBlanks};
+ghost use Rattle.piece_laws.specs.PlaceLaws.{PiecesAreLocated};
+
+/// A DEF text of pieces, and then more that begins apart, is read as what the pieces say, and then as the rest.
+pub fn pieces_are_read()
+    ensures { PiecesAreRead def }
+{}
+
+/// The statements of a DEF text of pieces, and then more, are those of the pieces, each at its place, and then the others.
+pub fn pieces_are_located()
+    ensures { PiecesAreLocated def }
+{}
+
+/// A statement of a DEF text that is read from a position on is a piece by itself.
+pub fn statements_are_pieces()
+    ensures { StatementsArePieces def }
+{}
+
+/// A fault of the next statement of some bytes, unless it is that they end too early, stays where more follows.
+pub fn faults_stand()
+    ensures { FaultsStand def }
+{}
+
+/// After a statement of a DEF text that is read from a position on is white space or the end of the text.
+pub fn statements_end_before_blanks()
+    ensures { StatementsEndBeforeBlanks def }
+{}
