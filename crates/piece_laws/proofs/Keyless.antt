@@ -1,16 +1,17 @@
 -- Reading without keys, and what they decide.
-use Rattle.std.proofs.Common.{◌≡◌, ℕ, List, [], ◌∷◌, map, Option, Some, None, Result, Ok, Err, refl, sym, ◌∙◌}
+use Rattle.std.proofs.Common.{◌≡◌, ℕ, List, [], ◌∷◌, map, Option, Some, None, Result, Ok, Err, refl, sym, ap, ◌∙◌}
 use Rattle.design_model.specs.declared.fault.Fault.{Fault}
 use Rattle.design_model.specs.declared.fault.FaultCode.{FaultCode}
 use Rattle.statement_model.specs.Tokens.{Token, Lexed}
-use Rattle.statement_model.specs.Boundaries.{cut, statement_at, statement_from, unfinished}
+use Rattle.statement_model.specs.Boundaries.{statement_at}
 use Rattle.statement_model.specs.Folds.{◌>>◌}
 use Rattle.statement_model.specs.Grammar.{Key, Grammar}
-use Rattle.statement_model.specs.Reading.{read_form, read_found, read_at, read_from, with_left, ended, with_key}
+use Rattle.statement_model.specs.Reading.{read_found, read_at, read_from, ended, with_key}
 use Rattle.statement_reader.specs.ReadingLaws.{BeginsWith}
 use Rattle.statement_reader.proofs.Steps.{reading_goes_on, reading_ends, records_are_read}
 use Rattle.piece_laws.specs.Pieces.{keyless}
 use Rattle.piece_laws.specs.KeyLaws.{AreFresh, keys_after, KeysAreApart, KeysDecide}
+use Rattle.piece_laws.proofs.Tails.{none_left}
 
 module _ {M R : Type 0} (g : Grammar M R) where
   same_found : (m : M) (l : Lexed) (r : Result (Option (List Token × Lexed)) Fault) → read_found (keyless g) m l r ≡ read_found g m l r
@@ -25,22 +26,8 @@ module _ {M R : Type 0} (g : Grammar M R) where
   abbrev EndsWell : Lexed → Type 0
   EndsWell l = (n : ℕ) × (l.end ≡ Ok n)
 
-  last_ends : (m : M) (l : Lexed) (qs : List Token) (end : Result ℕ Fault) → l.end ≡ end → read_found g m l (unfinished qs end) ≡ Ok None → EndsWell l
-  last_ends m l qs (Err f) is h = absurd (cc)
-  last_ends m l (q ∷ qs) (Ok n) is h = absurd (cc)
-  last_ends m l [] (Ok n) is h = (n, is)
-
-  form_is : (left : Lexed) (x : Result (R × M) Fault) → with_left g left x ≡ Ok None → ⊥
-  form_is left (Ok y) h = cc
-  form_is left (Err f) h = cc
-
-  cut_ends : (m : M) (l : Lexed) (found : Option (List Token × List Token)) → read_found g m l (statement_from found l) ≡ Ok None → EndsWell l
-  cut_ends m l None h = last_ends m l l.pieces l.end refl h
-  cut_ends m l (Some x) h = absurd (form_is (record { pieces = x.1; end = l.end }) (read_form g m x.0) h)
-
   none_ends : (m : M) (l : Lexed) → read_at g m l ≡ Ok None → EndsWell l
-  unfolding read_at statement_at
-  none_ends m l h = cut_ends m l (cut (g.ending m) [] l.pieces) h
+  none_ends m l h = let none = none_left g m l h in (none.0, ap (λ (k : Lexed). k.end) none.1)
 
   lacks_none : (m : M) (seen : List Key) (n : ℕ) (lack : Option FaultCode) (recs : List R) → ended g (m, seen) n lack ≡ Ok recs → lack ≡ None
   lacks_none m seen n None recs h = refl

@@ -7,3 +7,4 @@ pub mod Keyless
 pub mod MovedTokens
 pub mod Places
 pub mod Reading
+pub mod Tails

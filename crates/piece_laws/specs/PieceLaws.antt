@@ -1,5 +1,5 @@
 -- Laws of pieces.
-use Rattle.std.specs.Prelude.{◌≡◌, ◌≢◌, ◌≤◌, ℕ, ◌+◌, List, [], ◌++◌, length, drop, Some, Ok, Err}
+use Rattle.std.specs.Prelude.{◌≡◌, ◌≢◌, ◌≤◌, ℕ, ◌+◌, List, [], ◌++◌, length, drop, Some, None, Ok, Err}
 use Rattle.std.specs.List.{concat, slice_range}
 use Rattle.design_model.specs.declared.fault.Fault.{Fault}
 use Rattle.design_model.specs.declared.fault.FaultCode.TheVariants.{Unfinished, OpenString}
@@ -11,7 +11,7 @@ use Rattle.statement_model.specs.Grammar.{Grammar}
 use Rattle.statement_model.specs.Reading.{read_at, read_from}
 use Rattle.lefdef_tokens.specs.Laws.{BeginsApart}
 use Rattle.lefdef_tokens.specs.TokenViews.{span_of}
-use Rattle.piece_laws.specs.Pieces.{keyless, AreApart, IsPiece, AreChained}
+use Rattle.piece_laws.specs.Pieces.{keyless, AreApart, IsPiece, AreChained, IsTail}
 
 module _ {M R : Type 0} (g : Grammar M R) where
   -- A text of pieces, and then more that begins apart, is read, from any place on, as what the pieces say and then as the
@@ -49,3 +49,7 @@ module _ {M R : Type 0} (g : Grammar M R) where
       → read_at g m (left_from text pos) ≡ Ok (Some (rec, after, left_from text end))
       → span_of ps ≡ record { lo = start; hi = end }
       → BeginsApart (drop end text)
+
+  -- Where no statement is left in bytes, wherever they stand, and a text may end, they are a tail.
+  abbrev pub TailsAreFound : Type 0
+  TailsAreFound = (pos : ℕ) (m : M) (bytes : List ℕ) → read_at g m (lex pos between bytes) ≡ Ok None → IsTail g m bytes

@@ -1,10 +1,10 @@
 -- Pieces of a text, each of which is read by itself.
 use Rattle.std.specs.Prelude.{◌≡◌, ℕ, List, [], ◌∷◌, ◌++◌, Some, None, Ok}
 use Rattle.std.specs.List.{concat}
-use Rattle.statement_model.specs.Tokens.{Token}
+use Rattle.statement_model.specs.Tokens.{Token, tokens}
 use Rattle.statement_model.specs.Boundaries.{cut}
 use Rattle.statement_model.specs.Grammar.{Grammar}
-use Rattle.statement_model.specs.Reading.{read_form}
+use Rattle.statement_model.specs.Reading.{read_form, read_at}
 use Rattle.lefdef_tokens.specs.Laws.{BeginsApart}
 use Rattle.splicing_laws.specs.SplicingLaws.{AreTokens}
 
@@ -32,6 +32,10 @@ module _ {M R : Type 0} (g : Grammar M R) where
   AreChained m [] (r ∷ rs) last = ⊥
   AreChained m (p ∷ ps) [] last = ⊥
   AreChained m (p ∷ ps) (r ∷ rs) last = (after : M) × IsPiece m p r after × AreChained after ps rs last
+
+  -- bytes without a statement, with which a text may end in this mode
+  abbrev pub IsTail : M → List ℕ → Type 0
+  IsTail m bytes = read_at g m (tokens bytes) ≡ Ok None
 
   -- the modes in which records stand one after the other, from a mode on
   abbrev pub modes_from : M → List R → List M

@@ -1,8 +1,8 @@
 //! Laws of reading pieces, and of making pieces of what is read.
 
 ghost use Rattle.def_grammar.specs.Records.{def};
-ghost use Rattle.piece_laws.specs.PieceLaws.{FaultsStand, PiecesAreRead, StatementsArePieces, StatementsEndBeforeBlanks};
-ghost use Rattle.piece_laws.specs.PlaceLaws.{PiecesAreLocated};
+ghost use Rattle.piece_laws.specs.PieceLaws.{FaultsStand, PiecesAreRead, StatementsArePieces, StatementsEndBeforeBlanks, TailsAreFound};
+ghost use Rattle.piece_laws.specs.PlaceLaws.{PiecesAreLocated, TextsAreRead};
 
 /// A DEF text of pieces, and then more that begins apart, is read as what the pieces say, and then as the rest.
 pub fn pieces_are_read()
@@ -27,4 +27,14 @@ pub fn faults_stand()
 /// After a statement of a DEF text that is read from a position on is white space or the end of the text.
 pub fn statements_end_before_blanks()
     ensures { StatementsEndBeforeBlanks def }
+{}
+
+/// Bytes of a DEF text in which no statement is left, and with which it may end, are a tail.
+pub fn tails_are_found()
+    ensures { TailsAreFound def }
+{}
+
+/// A DEF text of pieces and a tail is read as what the pieces say, and its statements are those of the pieces.
+pub fn texts_are_read()
+    ensures { TextsAreRead def }
 {}
