@@ -1,0 +1,5 @@
+mod AllBytes
+mod Ends
+mod Going
+mod Shared
+mod Windows

@@ -1,0 +1,3 @@
+pub mod Rereading
+pub mod Segments
+pub mod Windows

@@ -1,0 +1,24 @@
+//! Reads a DEF text again from an edit on, and no further than needed.
+//!
+//! Begin with `reread::reread`. It reads the bytes with an edit in them, and then as many of the statements behind them as
+//! are needed until a statement ends where an old one begins that stands in the same mode. What stands behind the edit it
+//! asks of the trait `segments::Segments`, a segment at a time. With `segments::NoSegments` it opens a text: from
+//! `Mode::Top` on it gives the pieces of the whole text and the bytes behind its last statement.
+//!
+//! `specs/Rereading` says what it gives (`IsReread`): pieces as `piece_laws` has them, the mode of each, how many segments
+//! were used up, and how many statements were read. No new piece but those that must be is read: none of them begins where an
+//! old statement stands in its mode.
+//!
+//! It takes memory for the new pieces, and for a window on the text while it reads. A window that doesn't hold a whole
+//! statement grows by 1, 2, 4 and more segments, and gives back what stands behind the statement.
+//!
+//! Its fault is that of all bytes from the edit on, up to the end of the text, where names and sections may stand more than
+//! once: an `Err(ReadError::Fault)`. Where memory is refused, the answer is `ReadError::Memory`.
+#![tactic(auto)]
+
+mod next;
+pub mod pieces;
+pub mod reread;
+pub mod segments;
+mod whole;
+mod window;

@@ -1,0 +1,91 @@
+//! Rereading from an edit on, up to where the old statements go on as they did.
+
+ghost use Rattle.std.specs.Prelude.{◌≡◌, ◌≢◌, Some, length, true, false};
+ghost use Rattle.rereading.specs.Rereading.{Rereads};
+ghost use Rattle.rereading.specs.Segments.{AreFull, BeginApart, mode_at};
+
+use crate::pieces::{NewPiece, Reread};
+use crate::segments::Segments;
+use crate::whole::next_whole;
+use crate::window::Window;
+use design_model::fault::ReadError;
+use design_model::mode::Mode;
+use piece_laws::chains::{chains_join, chains_lead};
+use piece_laws::pieces::{pieces_are_read, tails_are_found};
+use std::alloc::Allocator;
+
+/// Whether a position is a window's end, and an old statement comes next that stands in a mode.
+fn lands<S: Segments, A: Allocator>(
+    window: &Window<A>,
+    segments: &S,
+    mode: Mode,
+    pos: usize,
+) -> bool
+    ensures there { result ≡ true → (pos ≡ length window.now.bytes.items) × (mode_at (S.listed segments.now) window.now.used ≡ Some mode) }
+    ensures not_there { result ≡ false → pos ≡ length window.now.bytes.items → mode_at (S.listed segments.now) window.now.used ≢ Some mode }
+{
+    if pos != window.bytes.len() {
+        return false;
+    }
+    match segments.segment(window.used) {
+        Some(segment) => segment.mode == Some(mode),
+        None => false,
+    }
+}
+
+/// Reads the statements of raw bytes and then of segments, from a mode on, until they end where an old statement begins that
+/// stands in the mode that they lead to, or all is read. Its fault is that of all bytes.
+pub fn reread<S: Segments, A: Allocator + Copy>(
+    alloc: A,
+    first: Mode,
+    raw: &[u8],
+    segments: &S,
+) -> Result<Reread<A>, ReadError>
+    requires apart { BeginApart (S.listed segments.now) }
+    requires full { AreFull (S.listed segments.now) }
+    ensures { Rereads first raw.now (S.listed segments.now) result }
+{
+    pieces_are_read();
+    tails_are_found();
+    chains_join();
+    chains_lead();
+    let mut window = Window {
+        bytes: Vec::from_slice(alloc, raw)?,
+        used: 0,
+    };
+    let mut pieces = Vec::new(alloc);
+    let mut mode = first;
+    let mut pos = 0;
+    let mut reads = 0;
+    'statements: loop {
+        if lands(&window, segments, mode, pos) {
+            return Ok(Reread {
+                pieces,
+                rest: Vec::new(alloc),
+                mode,
+                used: window.used,
+                reads,
+            });
+        }
+        match next_whole(&mut window, segments, mode, pos, &mut reads) {
+            Ok(Some((end, after))) => {
+                let bytes = Vec::from_slice(alloc, &window.bytes[pos..end])?;
+                pieces.push(NewPiece { bytes, mode })?;
+                mode = after;
+                pos = end;
+                window.give_back(segments, pos);
+            }
+            Ok(None) => {
+                let rest = Vec::from_slice(alloc, &window.bytes[pos..])?;
+                return Ok(Reread {
+                    pieces,
+                    rest,
+                    mode,
+                    used: window.used,
+                    reads,
+                });
+            }
+            Err(error) => return Err(error),
+        }
+    }
+}
