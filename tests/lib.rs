@@ -1,6 +1,6 @@
 //! Tests that are run and not proved: of sessions and of runs of scripts, of libraries and LEF texts, of names, of tokens, of pins, of
-//! the pieces of wires, rectangles that meet, sets of shapes, and sums of areas by the cells of a grid. They try what no case folder
-//! can hold and what no program calls.
+//! texts that are read again, of the pieces of wires, rectangles that meet, sets of shapes, and sums of areas by the cells of a grid.
+//! They try what no case folder can hold and what no program calls.
 #![tactic(auto)]
 
 mod design_wires;
@@ -16,6 +16,7 @@ mod meeting_pairs;
 mod part_places;
 mod piece_lines;
 mod pin_shapes;
+mod reread_texts;
 mod session_calls;
 mod shape_sets;
 mod spoilt_texts;
