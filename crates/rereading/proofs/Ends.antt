@@ -1,11 +1,10 @@
 -- Where rereading begins, goes on and ends.
-use Rattle.std.proofs.Common.{◌≡◌, ℕ, ◌+◌, List, [], ◌∷◌, ◌++◌, length, take, drop, Option, Some, None, Ok, Err, sym, ap, ◌∙◌, append-nil, arith, length-append, slice_range}
+use Rattle.std.proofs.Common.{◌≡◌, ◌≤◌, ℕ, ◌+◌, List, [], ◌∷◌, ◌++◌, length, take, drop, Option, Some, None, Result, Ok, Err, sym, ap, ◌∙◌, append_assoc, append-nil, arith, length-append, slice_range}
 use Rattle.std.specs.Prelude.{MatchOption, slice_get}
 use Rattle.std.specs.List.{concat}
 use Rattle.std.proofs.lemmas.List.{append_cancel_right, length-drop}
 use Rattle.std.proofs.lemmas.Option.{slice_get_past}
 use Rattle.std.proofs.Math.Seq.{drop-length, take-length}
-use Rattle.form_meanings.specs.Words.{◌>>=◌}
 use Rattle.design_model.specs.declared.fault.ReadError.{ReadError}
 use Rattle.design_model.specs.declared.fault.ReadError.TheVariants.{Fault, Memory}
 use Rattle.design_model.specs.declared.mode.Mode.{Mode}
@@ -15,13 +14,14 @@ use Rattle.def_grammar.specs.Records.{def}
 use Rattle.piece_laws.specs.ChainLaws.{ChainsJoin, ChainsLead}
 use Rattle.piece_laws.specs.PieceLaws.{PiecesAreRead, TailsAreFound}
 use Rattle.piece_laws.specs.Pieces.{IsTail}
-use Rattle.rereading.specs.Rereading.{PieceAt, NextWhole, NoneShared, IsReread, Rereads, all_bytes, new_bytes}
-use Rattle.rereading.specs.Segments.{OldBytes, BeginApart, bytes_of, mode_at}
+use Rattle.rereading.specs.Rereading.{NotShared, NoneShared, IsReread, Rereads, all_bytes, new_bytes}
+use Rattle.rereading.specs.Segments.{OldBytes, BeginApart, bytes_of}
+use Rattle.rereading.specs.Steps.{PieceAt, NextWhole, NextNew, Stops}
 use Rattle.rereading.specs.Windows.{Holds}
 use Rattle.rereading.specs.declared.pieces.NewPiece.{NewPiece}
 use Rattle.rereading.specs.declared.pieces.Reread.{Reread}
-use Rattle.rereading.proofs.AllBytes.{all_is, apart_behind, whole_is}
-use Rattle.rereading.proofs.Going.{Going, going_fault, going_on, left_at, left_is}
+use Rattle.rereading.proofs.AllBytes.{all_is, apart_behind}
+use Rattle.rereading.proofs.Going.{Going, going_fault, going_on, left_is}
 
 pub holds_start : (raw : List ℕ) (segments : List OldBytes) (window : List ℕ) → window ≡ raw → Holds raw segments 0 window
 holds_start raw segments window is = record { within = omega arith; is = is ∙ sym (append-nil raw) }
@@ -32,13 +32,26 @@ counted_more old new x before after is counted more =
     let long = ap (λ (t : List _). length t) is in
     omega (arith, long, counted, more, length-append old (x ∷ []))
 
--- the segment that comes next is an old statement in this mode, or these bytes are a tail
+-- the next piece, where no old statement stands at its place
+pub next_new : (raw : List ℕ) (segments : List OldBytes) (mode : Mode) (pos used : ℕ) (window : List ℕ) (r : Result (Option (ℕ × Mode)) ReadError) → NotShared raw segments pos mode
+    → NextWhole raw segments mode pos used window r → NextNew raw segments mode pos used window r
+next_new raw segments mode pos used window (Ok (Some x)) alone next = (next.0, next.1, alone)
+next_new raw segments mode pos used window (Ok None) alone next =
+    let past : slice_get segments used ≡ None = slice_get_past segments used (omega (arith, next.1.0)) in
+    (next.0, rw past next.1.1)
+next_new raw segments mode pos used window (Err (Fault f)) alone next = next
+next_new raw segments mode pos used window (Err Memory) alone next = tt
+
+-- where reading stops, the bytes that are left are a tail, or an old statement comes next
+abbrev Left : Mode → List ℕ → ℕ → Option OldBytes → Type 0
+Left mode window pos next = MatchOption next (read_at def mode (left_from window pos) ≡ Ok None) (λ (s : OldBytes). (pos ≡ length window) × (s.mode ≡ Some mode))
+
 abbrev Lands : Mode → List ℕ → Option OldBytes → Type 0
 Lands mode rest next = MatchOption next (IsTail def mode rest) (λ (s : OldBytes). (rest ≡ []) × (s.mode ≡ Some mode))
 
-lands_on : (mode : Mode) (rest : List ℕ) (next : Option OldBytes) → (next >>= λ (s : OldBytes). s.mode) ≡ Some mode → rest ≡ [] → Lands mode rest next
-lands_on mode rest None stands none = absurd (cc)
-lands_on mode rest (Some s) stands none = (none, stands)
+stops_at : TailsAreFound def → (mode : Mode) (window rest : List ℕ) (pos : ℕ) (next : Option OldBytes) → rest ≡ drop pos window → Left mode window pos next → Lands mode rest next
+stops_at law mode window rest pos None is stops = rw is (law pos mode (drop pos window) stops)
+stops_at law mode window rest pos (Some s) is stops = (is ∙ ap (λ (k : ℕ). drop k window) stops.0 ∙ drop-length window, stops.1)
 
 module _ {A : Type 0} (first : Mode) (raw : List ℕ) (segments : List OldBytes) where
   -- one piece more
@@ -47,60 +60,31 @@ module _ {A : Type 0} (first : Mode) (raw : List ℕ) (segments : List OldBytes)
   pushed joins leads window n pos end mode next ps p apart holds piece bytes same g =
       going_on first mode (all_bytes raw segments) ps pos g joins leads next window (bytes_of (drop n segments)) end p (all_is raw segments n window holds) (apart_behind n segments apart) piece bytes same
 
-  -- an old statement goes on as before
-  pub landed : (window : List ℕ) (n pos : ℕ) (mode : Mode) (x : Reread A) → Holds raw segments n window → Going first (all_bytes raw segments) x.pieces.items mode pos
-      → (pos ≡ length window) × (mode_at segments n ≡ Some mode) → NoneShared raw segments 0 x.pieces.items → x.reads ≡ length x.pieces.items
-      → x.rest.items ≡ [] → x.mode ≡ mode → x.used ≡ n → IsReread first raw segments x
-  landed window n pos mode x holds g there alone counted none same used =
-      let ps = x.pieces.items in
-      let behind = bytes_of (drop n segments) in
-      let done = concat (new_bytes ps) in
-      let is = all_is raw segments n window holds in
-      let left : g.left ≡ behind =
-      left_is first mode (all_bytes raw segments) ps pos g window behind is (omega (arith, there.0))
-      ∙ ap (λ (k : ℕ). drop k window ++ behind) there.0
-      ∙ ap (λ (t : List ℕ). t ++ behind) (drop-length window) in
-      let both : done ++ behind ≡ window ++ behind = ap (λ (t : List ℕ). done ++ t) (sym left) ∙ sym g.whole ∙ is in
-      let whole : done ≡ window = append_cancel_right done window behind both in
-      record {
-        recs = g.recs;
-        chained = rw same g.chained;
-        modes = g.modes;
-        reads = counted;
-        used = rw used holds.within;
-        whole = rw (none, used) (append-nil done ∙ whole ∙ holds.is);
-        apart = rw (none, used) (rw left at g.apart);
-        unshared = alone;
-        lands = rw (used, same) (lands_on mode x.rest.items (slice_get segments n) there.1 none);
-      }
-
-  -- all is read
-  pub ended : TailsAreFound def → (window : List ℕ) (n pos : ℕ) (mode : Mode) (x : Reread A) → Holds raw segments n window → Going first (all_bytes raw segments) x.pieces.items mode pos
-      → (n ≡ length segments) × (read_at def mode (left_from window pos) ≡ Ok None) → NoneShared raw segments 0 x.pieces.items → x.reads ≡ length x.pieces.items
+  pub ended : TailsAreFound def → (window : List ℕ) (n pos : ℕ) (mode : Mode) (x : Reread A) → pos ≤ length window → Holds raw segments n window → Stops segments mode pos n window
+      → Going first (all_bytes raw segments) x.pieces.items mode pos → NoneShared raw segments 0 x.pieces.items → x.reads ≡ length x.pieces.items
       → x.rest.items ≡ slice_range window pos (length window) → x.mode ≡ mode → x.used ≡ n → IsReread first raw segments x
-  ended law window n pos mode x holds g none alone counted range same used =
-      let ps = x.pieces.items in
-      let rest : x.rest.items ≡ drop pos window = range ∙ ap (λ (k : ℕ). take k (drop pos window)) (sym (length-drop pos window)) ∙ take-length (drop pos window) in
-      let done = concat (new_bytes ps) in
-      let is : all_bytes raw segments ≡ window = whole_is raw segments n window holds none.0 in
-      let left : g.left ≡ drop pos window = sym (left_at first mode (all_bytes raw segments) ps pos g) ∙ ap (drop pos) is in
-      let nothing : drop n segments ≡ [] = ap (λ (k : ℕ). drop k segments) none.0 ∙ drop-length segments in
-      let past : slice_get segments n ≡ None = slice_get_past segments n (omega (arith, none.0)) in
-      let tail : IsTail def mode x.rest.items = rw rest (law pos mode (drop pos window) none.1) in
+  ended law window n pos mode x within holds stops g alone counted range same used =
+      let done = concat (new_bytes x.pieces.items) in
+      let left = drop pos window in
+      let behind = bytes_of (drop n segments) in
+      let rest : x.rest.items ≡ left = range ∙ ap (λ (k : ℕ). take k left) (sym (length-drop pos window)) ∙ take-length left in
+      let is = all_is raw segments n window holds in
+      let left_over = left_is first mode (all_bytes raw segments) x.pieces.items pos g window behind is within in
+      let both : (done ++ left) ++ behind ≡ window ++ behind = append_assoc done left behind ∙ ap (λ (t : List ℕ). done ++ t) (sym left_over) ∙ sym g.whole ∙ is in
       record {
         recs = g.recs;
         chained = rw same g.chained;
         modes = g.modes;
         reads = counted;
         used = rw used holds.within;
-        whole = rw (rest, used) (ap (λ (t : List ℕ). done ++ t) (sym left) ∙ sym g.whole ∙ is ∙ holds.is);
-        apart = rw (rest, used, nothing) (rw (append-nil (drop pos window)) (rw left at g.apart));
+        whole = rw (rest, used) (append_cancel_right (done ++ left) window behind both ∙ holds.is);
+        apart = rw (rest, used) (rw left_over at g.apart);
         unshared = alone;
-        lands = rw (used, same, past) tail;
+        lands = rw (used, same) (stops_at law mode window x.rest.items pos (slice_get segments n) rest stops);
       }
 
   -- a fault of the next statement, or want of memory
   pub failed : PiecesAreRead def → (window : List ℕ) (used pos : ℕ) (mode : Mode) (ps : List (NewPiece A)) (error : ReadError) → Going first (all_bytes raw segments) ps mode pos
-      → NextWhole raw segments mode pos used window (Err error) → Rereads {A = A} first raw segments (Err error)
+      → NextNew raw segments mode pos used window (Err error) → Rereads {A = A} first raw segments (Err error)
   failed law window used pos mode ps (Fault f) g read = going_fault first mode (all_bytes raw segments) ps pos g law f read
   failed law window used pos mode ps Memory g read = tt

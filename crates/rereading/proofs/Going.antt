@@ -17,7 +17,8 @@ use Rattle.piece_laws.specs.ChainLaws.{ChainsJoin, ChainsLead}
 use Rattle.piece_laws.specs.PieceLaws.{PiecesAreRead}
 use Rattle.piece_laws.specs.Pieces.{keyless, AreApart, AreChained, modes_from}
 use Rattle.piece_laws.proofs.Keyless.{same_read}
-use Rattle.rereading.specs.Rereading.{PieceAt, new_bytes, new_modes}
+use Rattle.rereading.specs.Rereading.{new_bytes, new_modes}
+use Rattle.rereading.specs.Steps.{PieceAt}
 use Rattle.rereading.specs.declared.pieces.NewPiece.{NewPiece}
 use Rattle.rereading.proofs.AllBytes.{apart_append}
 

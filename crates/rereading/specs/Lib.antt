@@ -1,3 +1,4 @@
 pub mod Rereading
 pub mod Segments
+pub mod Steps
 pub mod Windows

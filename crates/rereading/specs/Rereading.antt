@@ -1,47 +1,20 @@
 -- Rereading from an edit on: new pieces of the bytes with the edit in them, and then old ones go on as they did.
-use Rattle.std.specs.Prelude.{◌≡◌, ◌≢◌, ◌+◌, ◌≤◌, ◌<◌, ℕ, List, [], ◌∷◌, ◌++◌, length, map, take, drop, slice_get, Option, Some, None, Result, Ok, Err, MatchResult, MatchOption}
-use Rattle.std.specs.List.{concat, slice_range}
-use Rattle.design_model.specs.declared.fault.Fault as fault
+use Rattle.std.specs.Prelude.{◌≡◌, ◌≢◌, ◌+◌, ◌≤◌, ℕ, List, [], ◌∷◌, ◌++◌, length, map, take, drop, slice_get, Some, Result, Ok, Err, MatchOption}
+use Rattle.std.specs.List.{concat}
 use Rattle.design_model.specs.declared.fault.ReadError.{ReadError}
 use Rattle.design_model.specs.declared.fault.ReadError.TheVariants.{Fault, Memory}
 use Rattle.design_model.specs.declared.mode.Mode.{Mode}
-use Rattle.statement_model.specs.Tokens.{left_from, tokens}
-use Rattle.statement_model.specs.Reading.{read_at, read_from}
-use Rattle.lefdef_tokens.specs.Laws.{BeginsApart}
+use Rattle.statement_model.specs.Tokens.{tokens}
+use Rattle.statement_model.specs.Reading.{read_from}
 use Rattle.def_grammar.specs.Records.{Record, def}
-use Rattle.piece_laws.specs.Pieces.{keyless, AreApart, IsPiece, AreChained, IsTail, modes_from}
+use Rattle.piece_laws.specs.Pieces.{keyless, AreApart, AreChained, IsTail, modes_from}
 use Rattle.rereading.specs.Segments.{OldBytes, bytes_of, mode_at}
-use Rattle.rereading.specs.Windows.{Holds}
 use Rattle.rereading.specs.declared.pieces.NewPiece.{NewPiece}
 use Rattle.rereading.specs.declared.pieces.Reread.{Reread}
-
--- a piece stands from one position to another, in a mode and leading to another, and a blank or the end comes after it
-abbrev pub PieceAt : Mode → List ℕ → ℕ → ℕ × Mode → Type 0
-PieceAt mode window pos found = (pos < found.0) × (found.0 ≤ length window) × ((rec : Record) × IsPiece def mode (slice_range window pos found.0) rec found.1) × BeginsApart (drop found.0 window)
-
--- from a position on comes this piece; or none, or a fault
-abbrev pub NextPiece : Mode → List ℕ → ℕ → Result (Option (ℕ × Mode)) fault.Fault → Type 0
-NextPiece mode window pos r =
-    MatchResult r
-    (λ found. MatchOption found (read_at def mode (left_from window pos) ≡ Ok None) (PieceAt mode window pos))
-    (λ f. read_at def mode (left_from window pos) ≡ Err f)
-
--- a statement that was read to its end is counted, and nothing else
-abbrev pub Counts : {E : Type 0} → ℕ → Result (Option (ℕ × Mode)) E → ℕ → Type 0
-Counts old (Ok (Some x)) new = new ≡ old + 1
-Counts old (Ok None) new = new ≡ old
-Counts old (Err e) new = new ≡ old
 
 -- all bytes from an edit on
 abbrev pub all_bytes : List ℕ → List OldBytes → List ℕ
 all_bytes raw segments = raw ++ bytes_of segments
-
--- the next piece, in a window that has enough segments for it; or none, where all are in it; or the fault of all bytes
-abbrev pub NextWhole : List ℕ → List OldBytes → Mode → ℕ → ℕ → List ℕ → Result (Option (ℕ × Mode)) ReadError → Type 0
-NextWhole raw segments mode pos used window (Ok found) =
-    Holds raw segments used window × MatchOption found ((used ≡ length segments) × (read_at def mode (left_from window pos) ≡ Ok None)) (PieceAt mode window pos)
-NextWhole raw segments mode pos used window (Err (Fault f)) = read_at def mode (left_from (all_bytes raw segments) pos) ≡ Err f
-NextWhole raw segments mode pos used window (Err Memory) = Unit {0}
 
 abbrev pub new_bytes : {A : Type 0} → List (NewPiece A) → List (List ℕ)
 new_bytes ps = map (λ p. p.bytes.items) ps

@@ -6,8 +6,8 @@
 //! `Mode::Top` on it gives the pieces of the whole text and the bytes behind its last statement.
 //!
 //! `specs/Rereading` says what it gives (`IsReread`): pieces as `piece_laws` has them, the mode of each, how many segments
-//! were used up, and how many statements were read. No new piece but those that must be is read: none of them begins where an
-//! old statement stands in its mode.
+//! were used up, and how many statements were read, which are the new pieces. None of these begins where an old statement
+//! stands in its mode.
 //!
 //! It takes memory for the new pieces, and for a window on the text while it reads. A window that doesn't hold a whole
 //! statement grows by 1, 2, 4 and more segments, and gives back what stands behind the statement.

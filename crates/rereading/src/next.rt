@@ -1,7 +1,7 @@
 //! The next statement of a window.
 
 ghost use Rattle.std.specs.Prelude.{◌≤◌, length};
-ghost use Rattle.rereading.specs.Rereading.{Counts, NextPiece};
+ghost use Rattle.rereading.specs.Steps.{Counts, NextPiece};
 
 use def_reader::read_statement::read_statement;
 use design_model::fault::Fault;

@@ -1,7 +1,9 @@
 //! What rereading gives.
 
+ghost use Rattle.std.specs.Prelude.{◌≡◌, [], ◌∷◌, ◌++◌, OnOk};
+
 use design_model::mode::Mode;
-use std::alloc::{Allocator, Global};
+use std::alloc::{AllocError, Allocator, Global};
 
 /// A statement with the blanks before it, and the mode in which it stands.
 #[derive(Drop)]
@@ -19,4 +21,18 @@ pub struct Reread<A: Allocator = Global> {
     pub mode: Mode,
     pub used: usize,
     pub reads: u64,
+}
+
+/// Puts a piece with these bytes behind others.
+pub(crate) fn push_piece<A: Allocator + Copy>(
+    alloc: A,
+    pieces: &mut Vec<NewPiece<A>, A>,
+    bytes: &[u8],
+    mode: Mode,
+) -> Result<(), AllocError>
+    ensures { OnOk result ((p : _) × (pieces.new.items ≡ pieces.old.items ++ p ∷ []) × (p.bytes.items ≡ bytes.now) × (p.mode ≡ mode)) }
+{
+    let bytes = Vec::from_slice(alloc, bytes)?;
+    pieces.push(NewPiece { bytes, mode })?;
+    Ok(())
 }

@@ -1,10 +1,12 @@
 //! Rereading from an edit on, up to where the old statements go on as they did.
 
-ghost use Rattle.std.specs.Prelude.{◌≡◌, ◌≢◌, Some, length, true, false};
+ghost use Rattle.std.specs.Prelude.{◌≡◌, ◌≢◌, ◌≤◌, ℕ, List, Some, length, true, false, OnOk};
 ghost use Rattle.rereading.specs.Rereading.{Rereads};
 ghost use Rattle.rereading.specs.Segments.{AreFull, BeginApart, mode_at};
+ghost use Rattle.rereading.specs.Steps.{Counts, NextNew};
+ghost use Rattle.rereading.specs.Windows.{Holds, IsTight};
 
-use crate::pieces::{NewPiece, Reread};
+use crate::pieces::{Reread, push_piece};
 use crate::segments::Segments;
 use crate::whole::next_whole;
 use crate::window::Window;
@@ -33,8 +35,31 @@ fn lands<S: Segments, A: Allocator>(
     }
 }
 
+/// The next statement from a position on, or `None` where an old one comes next that stands in this mode, or all is read.
+fn next_new<S: Segments, A: Allocator>(
+    window: &mut Window<A>,
+    segments: &S,
+    mode: Mode,
+    pos: usize,
+    reads: &mut u64,
+) -> Result<Option<(usize, Mode)>, ReadError>
+    requires pos { pos ≤ length window.old.bytes.items }
+    requires apart { BeginApart (S.listed segments.now) }
+    requires full { AreFull (S.listed segments.now) }
+    requires few { reads.old ≤ pos }
+    ensures new { (raw : List ℕ) → Holds raw (S.listed segments.now) window.old.used window.old.bytes.items → IsTight raw (S.listed segments.now) window.old.used pos → NextNew raw (S.listed segments.now) mode pos window.new.used window.new.bytes.items result }
+    ensures pos { OnOk result (pos ≤ length window.new.bytes.items) }
+    ensures counts { Counts reads.old result reads.new }
+{
+    if lands(window, segments, mode, pos) {
+        return Ok(None);
+    }
+    next_whole(window, segments, mode, pos, reads)
+}
+
 /// Reads the statements of raw bytes and then of segments, from a mode on, until they end where an old statement begins that
-/// stands in the mode that they lead to, or all is read. Its fault is that of all bytes.
+/// stands in the mode that they lead to, or all is read. Each segment begins with a blank or is empty, and only the last is.
+/// Its fault is that of all bytes.
 pub fn reread<S: Segments, A: Allocator + Copy>(
     alloc: A,
     first: Mode,
@@ -58,34 +83,22 @@ pub fn reread<S: Segments, A: Allocator + Copy>(
     let mut pos = 0;
     let mut reads = 0;
     'statements: loop {
-        if lands(&window, segments, mode, pos) {
-            return Ok(Reread {
-                pieces,
-                rest: Vec::new(alloc),
-                mode,
-                used: window.used,
-                reads,
-            });
-        }
-        match next_whole(&mut window, segments, mode, pos, &mut reads) {
+        match next_new(&mut window, segments, mode, pos, &mut reads) {
             Ok(Some((end, after))) => {
-                let bytes = Vec::from_slice(alloc, &window.bytes[pos..end])?;
-                pieces.push(NewPiece { bytes, mode })?;
+                push_piece(alloc, &mut pieces, &window.bytes[pos..end], mode)?;
                 mode = after;
                 pos = end;
                 window.give_back(segments, pos);
             }
-            Ok(None) => {
-                let rest = Vec::from_slice(alloc, &window.bytes[pos..])?;
-                return Ok(Reread {
-                    pieces,
-                    rest,
-                    mode,
-                    used: window.used,
-                    reads,
-                });
-            }
+            Ok(None) => break,
             Err(error) => return Err(error),
         }
     }
+    Ok(Reread {
+        pieces,
+        rest: Vec::from_slice(alloc, &window.bytes[pos..])?,
+        mode,
+        used: window.used,
+        reads,
+    })
 }

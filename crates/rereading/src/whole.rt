@@ -1,8 +1,8 @@
 //! The next statement, with as many segments as it needs.
 
-ghost use Rattle.std.specs.Prelude.{◌≡◌, ◌≢◌, ◌≤◌, ℕ, List, true, length};
+ghost use Rattle.std.specs.Prelude.{◌≡◌, ◌≢◌, ◌≤◌, ℕ, List, true, length, OnOk};
 ghost use Rattle.design_model.specs.declared.fault.FaultCode.TheVariants.{OpenString, Unfinished};
-ghost use Rattle.rereading.specs.Rereading.{Counts, NextWhole};
+ghost use Rattle.rereading.specs.Steps.{Counts, NextWhole};
 ghost use Rattle.rereading.specs.Segments.{BeginApart};
 ghost use Rattle.rereading.specs.Windows.{Holds};
 
@@ -36,6 +36,7 @@ pub(crate) fn next_whole<S: Segments, A: Allocator>(
     requires apart { BeginApart (S.listed segments.now) }
     requires few { reads.old ≤ pos }
     ensures whole { (raw : List ℕ) → Holds raw (S.listed segments.now) window.old.used window.old.bytes.items → NextWhole raw (S.listed segments.now) mode pos window.new.used window.new.bytes.items result }
+    ensures pos { OnOk result (pos ≤ length window.new.bytes.items) }
     ensures counts { Counts reads.old result reads.new }
 {
     faults_stand();
