@@ -2,6 +2,7 @@
 
 use design_model::fault::{Fault, FaultCode, ReadError};
 use design_model::mode::{Mode, Section};
+use rereading::read_pieces::read_pieces;
 use rereading::reread::reread;
 use rereading::segments::{NoSegments, Segment, Segments};
 use std::alloc::Global;
@@ -108,7 +109,7 @@ fn later_edits_are_read(rt: HostRuntime) {
 #[test]
 fn whole_texts_are_opened(rt: HostRuntime) -> Result<(), Fail> {
     let text = b"UNITS DISTANCE MICRONS 1000 ;\nCOMPONENTS 1 ;\n# first\n- u1 INV ;\nEND COMPONENTS\nEND DESIGN\n# last\n";
-    let opened = reread(rt.alloc(), Mode::Top, text, &NoSegments)?;
+    let opened = read_pieces(rt.alloc(), text)?;
     let modes = [Mode::Top, Mode::Top, IN_COMPONENTS, IN_COMPONENTS, Mode::Top];
     let bytes: [&[u8]; 5] = [
         b"UNITS DISTANCE MICRONS 1000 ;",

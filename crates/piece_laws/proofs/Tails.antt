@@ -14,7 +14,7 @@ use Rattle.statement_reader.proofs.Steps.{reading_ends}
 use Rattle.lefdef_tokens.specs.Laws.{moved}
 use Rattle.lefdef_tokens.proofs.Moving.{tokens_move}
 use Rattle.piece_laws.specs.Pieces.{keyless, IsTail}
-use Rattle.piece_laws.specs.PieceLaws.{TailsAreFound}
+use Rattle.piece_laws.specs.PieceLaws.{TailsAreFound, TailsMayEnd}
 use Rattle.piece_laws.specs.PlaceLaws.{placed_pieces, TextsAreRead}
 use Rattle.piece_laws.proofs.Places.{pieces_are_located}
 use Rattle.piece_laws.proofs.Reading.{pieces_are_read}
@@ -70,6 +70,9 @@ module _ {M R : Type 0} (g : Grammar M R) where
       let l = tokens bytes in
       let own = ends_back pos none.0 l.pieces l.end (sym (moved_place pos bytes) ∙ none.1) in
       reads_none m l own.0 own.1 none.2
+
+  pub tails_may_end : TailsMayEnd g
+  tails_may_end m bytes tail = (none_left m (tokens bytes) tail).2
 
   -- a tail wherever it stands
   tail_at : (pos : ℕ) (m : M) (bytes : List ℕ) → IsTail g m bytes → (n : ℕ) × EndsAt (lex pos between bytes) n × (g.may_end m ≡ true)

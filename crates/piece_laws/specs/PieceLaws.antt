@@ -1,5 +1,5 @@
 -- Laws of pieces.
-use Rattle.std.specs.Prelude.{◌≡◌, ◌≢◌, ◌≤◌, ℕ, ◌+◌, List, [], ◌++◌, length, drop, Some, None, Ok, Err}
+use Rattle.std.specs.Prelude.{◌≡◌, ◌≢◌, ◌≤◌, ℕ, ◌+◌, true, List, [], ◌++◌, length, drop, Some, None, Ok, Err}
 use Rattle.std.specs.List.{concat, slice_range}
 use Rattle.design_model.specs.declared.fault.Fault.{Fault}
 use Rattle.design_model.specs.declared.fault.FaultCode.TheVariants.{Unfinished, OpenString}
@@ -53,3 +53,7 @@ module _ {M R : Type 0} (g : Grammar M R) where
   -- Where no statement is left in bytes, wherever they stand, and a text may end, they are a tail.
   abbrev pub TailsAreFound : Type 0
   TailsAreFound = (pos : ℕ) (m : M) (bytes : List ℕ) → read_at g m (lex pos between bytes) ≡ Ok None → IsTail g m bytes
+
+  -- A text may end with a tail.
+  abbrev pub TailsMayEnd : Type 0
+  TailsMayEnd = (m : M) (bytes : List ℕ) → IsTail g m bytes → g.may_end m ≡ true

@@ -1,7 +1,7 @@
 //! Laws of reading pieces, and of making pieces of what is read.
 
 ghost use Rattle.def_grammar.specs.Records.{def};
-ghost use Rattle.piece_laws.specs.PieceLaws.{FaultsStand, PiecesAreRead, StatementsArePieces, StatementsEndBeforeBlanks, TailsAreFound};
+ghost use Rattle.piece_laws.specs.PieceLaws.{FaultsStand, PiecesAreRead, StatementsArePieces, StatementsEndBeforeBlanks, TailsAreFound, TailsMayEnd};
 ghost use Rattle.piece_laws.specs.PlaceLaws.{PiecesAreLocated, TextsAreRead};
 
 /// A DEF text of pieces, and then more that begins apart, is read as what the pieces say, and then as the rest.
@@ -32,6 +32,11 @@ pub fn statements_end_before_blanks()
 /// Bytes of a DEF text in which no statement is left, and with which it may end, are a tail.
 pub fn tails_are_found()
     ensures { TailsAreFound def }
+{}
+
+/// A DEF text may end with a tail.
+pub fn tails_may_end()
+    ensures { TailsMayEnd def }
 {}
 
 /// A DEF text of pieces and a tail is read as what the pieces say, and its statements are those of the pieces.

@@ -2,4 +2,5 @@ mod AllBytes
 mod Ends
 mod Going
 mod Shared
+mod WholeTexts
 mod Windows

@@ -1,4 +1,5 @@
 pub mod Rereading
 pub mod Segments
 pub mod Steps
+pub mod Texts
 pub mod Windows

@@ -2,12 +2,12 @@
 //!
 //! Begin with `reread::reread`. It reads the bytes with an edit in them, and then as many of the statements behind them as
 //! are needed until a statement ends where an old one begins that stands in the same mode. What stands behind the edit it
-//! asks of the trait `segments::Segments`, a segment at a time. With `segments::NoSegments` it opens a text: from
-//! `Mode::Top` on it gives the pieces of the whole text and the bytes behind its last statement.
+//! asks of the trait `segments::Segments`, a segment at a time. `read_pieces::read_pieces` reads a whole text in this way: from
+//! `Mode::Top` on, with no segments.
 //!
-//! `specs/Rereading` says what it gives (`IsReread`): pieces as `piece_laws` has them, the mode of each, how many segments
+//! `specs/Rereading` says what rereading gives (`IsReread`): pieces as `piece_laws` has them, the mode of each, how many segments
 //! were used up, and how many statements were read, which are the new pieces. None of these begins where an old statement
-//! stands in its mode.
+//! stands in its mode. `specs/Texts` says what a whole text in pieces is.
 //!
 //! It takes memory for the new pieces, and for a window on the text while it reads. A window that doesn't hold a whole
 //! statement grows by 1, 2, 4 and more segments, and gives back what stands behind the statement.
@@ -18,6 +18,7 @@
 
 mod next;
 pub mod pieces;
+pub mod read_pieces;
 pub mod reread;
 pub mod segments;
 mod whole;
