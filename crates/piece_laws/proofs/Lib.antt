@@ -6,5 +6,6 @@ pub mod Fronts
 pub mod Keyless
 pub mod MovedTokens
 pub mod Places
+pub mod ReadPieces
 pub mod Reading
 pub mod Tails

@@ -32,6 +32,13 @@ module _ {M R : Type 0} (g : Grammar M R) where
       → span_of ps ≡ record { lo = start; hi = end }
       → IsPiece g m (slice_range text pos end) rec after
 
+  -- A piece is read wherever it stands, where more follows that begins apart.
+  abbrev pub PiecesAreFound : Type 0
+  PiecesAreFound = (pos : ℕ) (m after : M) (p rest : List ℕ) (rec : R)
+      → IsPiece g m p rec after
+      → BeginsApart rest
+      → read_at g m (lex pos between (p ++ rest)) ≡ Ok (Some (rec, after, lex (pos + length p) between rest))
+
   -- A fault of the next statement of some bytes, unless it is that they end before the statement does, is that of these
   -- bytes and then more that begins apart.
   abbrev pub FaultsStand : Type 0

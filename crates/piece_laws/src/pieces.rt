@@ -1,7 +1,7 @@
 //! Laws of reading pieces, and of making pieces of what is read.
 
 ghost use Rattle.def_grammar.specs.Records.{def};
-ghost use Rattle.piece_laws.specs.PieceLaws.{FaultsStand, PiecesAreRead, StatementsArePieces, StatementsEndBeforeBlanks, TailsAreFound, TailsMayEnd};
+ghost use Rattle.piece_laws.specs.PieceLaws.{FaultsStand, PiecesAreFound, PiecesAreRead, StatementsArePieces, StatementsEndBeforeBlanks, TailsAreFound, TailsMayEnd};
 ghost use Rattle.piece_laws.specs.PlaceLaws.{PiecesAreLocated, TextsAreRead};
 
 /// A DEF text of pieces, and then more that begins apart, is read as what the pieces say, and then as the rest.
@@ -17,6 +17,11 @@ pub fn pieces_are_located()
 /// A statement of a DEF text that is read from a position on is a piece by itself.
 pub fn statements_are_pieces()
     ensures { StatementsArePieces def }
+{}
+
+/// A piece of a DEF text is read wherever it stands, and so by itself.
+pub fn pieces_are_found()
+    ensures { PiecesAreFound def }
 {}
 
 /// A fault of the next statement of some bytes, unless it is that they end too early, stays where more follows.

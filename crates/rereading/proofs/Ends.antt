@@ -11,7 +11,7 @@ use Rattle.design_model.specs.declared.mode.Mode.{Mode}
 use Rattle.statement_model.specs.Tokens.{left_from}
 use Rattle.statement_model.specs.Reading.{read_at}
 use Rattle.def_grammar.specs.Records.{def}
-use Rattle.piece_laws.specs.ChainLaws.{ChainsJoin, ChainsLead}
+use Rattle.piece_laws.specs.ChainLaws.{ApartJoins, ChainsJoin, ChainsLead, ModesJoin}
 use Rattle.piece_laws.specs.PieceLaws.{PiecesAreRead, TailsAreFound}
 use Rattle.piece_laws.specs.Pieces.{IsTail}
 use Rattle.rereading.specs.Rereading.{NotShared, NoneShared, IsReread, Rereads, all_bytes, new_bytes}
@@ -55,10 +55,10 @@ stops_at law mode window rest pos (Some s) is stops = (is ∙ ap (λ (k : ℕ). 
 
 module _ {A : Type 0} (first : Mode) (raw : List ℕ) (segments : List OldBytes) where
   -- one piece more
-  pub pushed : ChainsJoin def → ChainsLead def → (window : List ℕ) (n pos end : ℕ) (mode next : Mode) (ps : List (NewPiece A)) (p : NewPiece A) → BeginApart segments → Holds raw segments n window
+  pub pushed : ChainsJoin def → ChainsLead def → ModesJoin def → ApartJoins → (window : List ℕ) (n pos end : ℕ) (mode next : Mode) (ps : List (NewPiece A)) (p : NewPiece A) → BeginApart segments → Holds raw segments n window
       → PieceAt mode window pos (end, next) → p.bytes.items ≡ slice_range window pos end → p.mode ≡ mode → Going first (all_bytes raw segments) ps mode pos → Going first (all_bytes raw segments) (ps ++ p ∷ []) next end
-  pushed joins leads window n pos end mode next ps p apart holds piece bytes same g =
-      going_on first mode (all_bytes raw segments) ps pos g joins leads next window (bytes_of (drop n segments)) end p (all_is raw segments n window holds) (apart_behind n segments apart) piece bytes same
+  pushed joins leads modes_join apart_joins window n pos end mode next ps p apart holds piece bytes same g =
+      going_on first mode (all_bytes raw segments) ps pos g joins leads modes_join apart_joins next window (bytes_of (drop n segments)) end p (all_is raw segments n window holds) (apart_behind n segments apart) piece bytes same
 
   pub ended : TailsAreFound def → (window : List ℕ) (n pos : ℕ) (mode : Mode) (x : Reread A) → pos ≤ length window → Holds raw segments n window → Stops segments mode pos n window
       → Going first (all_bytes raw segments) x.pieces.items mode pos → NoneShared raw segments 0 x.pieces.items → x.reads ≡ length x.pieces.items

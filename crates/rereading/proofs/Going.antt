@@ -13,7 +13,7 @@ use Rattle.statement_model.specs.Reading.{read_at, read_from}
 use Rattle.lefdef_tokens.specs.Laws.{BeginsApart}
 use Rattle.statement_reader.proofs.Steps.{faults_stop}
 use Rattle.def_grammar.specs.Records.{Record, def}
-use Rattle.piece_laws.specs.ChainLaws.{ChainsJoin, ChainsLead}
+use Rattle.piece_laws.specs.ChainLaws.{ApartJoins, ChainsJoin, ChainsLead, ModesJoin}
 use Rattle.piece_laws.specs.PieceLaws.{PiecesAreRead}
 use Rattle.piece_laws.specs.Pieces.{keyless, AreApart, AreChained, modes_from}
 use Rattle.piece_laws.proofs.Keyless.{same_read}
@@ -36,18 +36,8 @@ pub going_start : {A : Type 0} (first : Mode) (all : List ℕ) → Going {A = A}
 going_start first all = record { recs = []; chained = refl; modes = refl; left = all; whole = refl; at = refl; apart = tt }
 
 -- one piece more
-modes_more : (m : Mode) (recs : List Record) (rec : Record) → modes_from def m (recs ++ rec ∷ []) ≡ modes_from def m recs ++ fold def.after m recs ∷ []
-modes_more m [] rec = refl
-modes_more m (r ∷ rs) rec = ap (λ (ms : List Mode). m ∷ ms) (modes_more (def.after m r) rs rec)
-
 joined_one : (done : List (List ℕ)) (p : List ℕ) → concat (done ++ p ∷ []) ≡ concat done ++ p
 joined_one done p = concat-append done (p ∷ []) ∙ ap (λ (t : List ℕ). concat done ++ t) (append-nil p)
-
-apart_more : (done : List (List ℕ)) (p left : List ℕ) → AreApart done (p ++ left) → BeginsApart left → AreApart (done ++ p ∷ []) left
-apart_more [] p left apart next = (next, tt)
-apart_more (d ∷ ds) p left apart next =
-    let same : concat ds ++ (p ++ left) ≡ concat (ds ++ p ∷ []) ++ left = sym (append_assoc (concat ds) p left) ∙ ap (λ (t : List ℕ). t ++ left) (sym (joined_one ds p)) in
-    (subst BeginsApart same apart.0, apart_more ds p left apart.1 next)
 
 -- bytes from a position on, in two parts
 split_at : (window : List ℕ) (pos end : ℕ) → pos ≤ end → drop pos window ≡ slice_range window pos end ++ drop end window
@@ -66,9 +56,9 @@ module _ {A : Type 0} (first mode : Mode) (all : List ℕ) (ps : List (NewPiece 
   pub left_is : (window behind : List ℕ) → all ≡ window ++ behind → pos ≤ length window → g.left ≡ drop pos window ++ behind
   left_is window behind is within = sym left_at ∙ ap (drop pos) is ∙ drop-append-le pos window behind within
 
-  pub going_on : ChainsJoin def → ChainsLead def → (next : Mode) (window behind : List ℕ) (end : ℕ) (p : NewPiece A) → all ≡ window ++ behind → BeginsApart behind → PieceAt mode window pos (end, next)
+  pub going_on : ChainsJoin def → ChainsLead def → ModesJoin def → ApartJoins → (next : Mode) (window behind : List ℕ) (end : ℕ) (p : NewPiece A) → all ≡ window ++ behind → BeginsApart behind → PieceAt mode window pos (end, next)
       → p.bytes.items ≡ slice_range window pos end → p.mode ≡ mode → Going first all (ps ++ p ∷ []) next end
-  going_on joins leads next window behind end p is apart piece bytes same =
+  going_on joins leads modes_join apart_joins next window behind end p is apart piece bytes same =
       let b = slice_range window pos end in
       let left = drop end window ++ behind in
       let done = new_bytes ps in
@@ -81,11 +71,11 @@ module _ {A : Type 0} (first mode : Mode) (all : List ℕ) (ps : List (NewPiece 
       record {
         recs = g.recs ++ piece.2.0 ∷ [];
         chained = rw more (joins first mode next done (b ∷ []) g.recs (piece.2.0 ∷ []) g.chained (next, piece.2.1, refl));
-        modes = map-append (λ (q : NewPiece A). q.mode) ps (p ∷ []) ∙ ap₂ (λ (ms : List Mode) (m : Mode). ms ++ m ∷ []) g.modes leads_here ∙ sym (modes_more first g.recs piece.2.0);
+        modes = map-append (λ (q : NewPiece A). q.mode) ps (p ∷ []) ∙ ap₂ (λ (ms : List Mode) (m : Mode). ms ++ m ∷ []) g.modes leads_here ∙ sym (modes_join first g.recs (piece.2.0 ∷ []));
         left = left;
         whole = rw more (g.whole ∙ ap (λ (t : List ℕ). concat done ++ t) split ∙ sym (append_assoc (concat done) b left) ∙ ap (λ (t : List ℕ). t ++ left) (sym (joined_one done b)));
         at = rw more (omega (arith, g.at, long, ap (λ (t : List ℕ). length t) (joined_one done b), length-append (concat done) b));
-        apart = rw more (apart_more done b left (subst (AreApart done) split g.apart) begins);
+        apart = rw more ((apart_joins done (b ∷ []) left).1 (subst (AreApart done) (split ∙ ap (λ (t : List ℕ). t ++ left) (sym (append-nil b))) g.apart, (begins, tt)));
       }
 
   -- the fault of the next statement is that of all bytes

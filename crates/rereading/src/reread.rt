@@ -12,7 +12,7 @@ use crate::whole::next_whole;
 use crate::window::Window;
 use design_model::fault::ReadError;
 use design_model::mode::Mode;
-use piece_laws::chains::{chains_join, chains_lead};
+use piece_laws::chains::{apart_joins, chains_join, chains_lead, modes_join};
 use piece_laws::pieces::{pieces_are_read, tails_are_found};
 use std::alloc::Allocator;
 
@@ -74,6 +74,8 @@ pub fn reread<S: Segments, A: Allocator + Copy>(
     tails_are_found();
     chains_join();
     chains_lead();
+    modes_join();
+    apart_joins();
     let mut window = Window {
         bytes: Vec::from_slice(alloc, raw)?,
         used: 0,

@@ -55,7 +55,7 @@ statements-preserved g c =
       holds = c.give_back.ensures.holds raw next.0;
       tight = c.give_back.ensures.tight raw next.0;
       unshared = rw put.1 (unshared_more raw segments s.pieces.items put.0 s.pos s.mode put.3 i.going.at i.unshared next.2);
-      going = rw put.1 (pushed c.args.first raw segments c.chains_join.ensures c.chains_lead.ensures window.bytes.items window.used s.pos x.end s.mode x.after s.pieces.items put.0 c.requires.apart next.0 next.1 bytes put.3 i.going);
+      going = rw put.1 (pushed c.args.first raw segments c.chains_join.ensures c.chains_lead.ensures c.modes_join.ensures c.apart_joins.ensures window.bytes.items window.used s.pos x.end s.mode x.after s.pieces.items put.0 c.requires.apart next.0 next.1 bytes put.3 i.going);
     }
 
 pub returns : goal.returns
