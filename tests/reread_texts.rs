@@ -26,8 +26,8 @@ const EDITED_TWICE: [Segment<'static>; 4] = [
     Segment { bytes: b"\n", mode: Some(Mode::After) },
 ];
 
-/// What rereading gives: how many pieces, their first and last modes, the mode after them, and how many segments were used
-/// up, bytes are left, and statements were read.
+/// What rereading gives: how many pieces, their first and last modes, the mode after them, how many segments were used up,
+/// bytes are left, and statements were read, and how often one was tried again.
 #[derive(Clone, Copy, PartialEq, Eq, Debug)]
 struct Told {
     pieces: usize,
@@ -37,6 +37,7 @@ struct Told {
     used: usize,
     rest: usize,
     reads: u64,
+    again: u64,
 }
 
 fn outcome<S: Segments>(alloc: Global, first: Mode, raw: &[u8], segments: &S) -> Result<Told, ReadError> {
@@ -49,13 +50,14 @@ fn outcome<S: Segments>(alloc: Global, first: Mode, raw: &[u8], segments: &S) ->
         used: given.used,
         rest: given.rest.len(),
         reads: given.reads,
+        again: given.again,
     })
 }
 
-/// Statements of components that come before old ones, of which some are used up.
+/// Statements of components before old ones, of which each is used up since a statement wasn't whole.
 fn components(pieces: usize, used: usize) -> Result<Told, ReadError> {
     let mode = if pieces == 0 { None } else { Some(IN_COMPONENTS) };
-    Ok(Told { pieces, first: mode, last: mode, after: IN_COMPONENTS, used, rest: 0, reads: pieces as u64 })
+    Ok(Told { pieces, first: mode, last: mode, after: IN_COMPONENTS, used, rest: 0, reads: pieces as u64, again: used as u64 })
 }
 
 fn at(code: FaultCode, pos: usize) -> Result<Told, ReadError> {
@@ -94,6 +96,7 @@ fn modes_differ_up_to_the_end(rt: HostRuntime) {
         used: 4,
         rest: 1,
         reads: 4,
+        again: 0,
     };
     // the section begins anew, and its entries go on as before
     assert_eq!(rt; outcome(rt.alloc(), Mode::Top, b"COMPONENTS 1 ;", &behind), Ok(Told { pieces: 1, after: IN_COMPONENTS, used: 0, rest: 0, reads: 1, ..opened }));
@@ -124,7 +127,7 @@ fn whole_texts_are_opened(rt: HostRuntime) -> Result<(), Fail> {
         assert_eq!(rt; opened.pieces[i].bytes.as_slice(), bytes[i]);
     }
     assert_eq!(rt; opened.rest.as_slice(), b"\n# last\n".as_slice());
-    assert_eq!(rt; (opened.mode, opened.used, opened.reads), (Mode::After, 0, 5));
+    assert_eq!(rt; (opened.mode, opened.reads, opened.again), (Mode::After, 5, 0));
     assert_eq!(rt; outcome(rt.alloc(), Mode::Top, b"", &NoSegments), at(FaultCode::Unfinished, 0));
     assert_eq!(rt; outcome(rt.alloc(), Mode::Top, b"UNITS DISTANCE MICRONS 1000 ;\nEND DESIGN ;", &NoSegments), at(FaultCode::NoForm, 41));
     Ok(())

@@ -62,8 +62,8 @@ module _ {A : Type 0} (first : Mode) (raw : List ℕ) (segments : List OldBytes)
 
   pub ended : TailsAreFound def → (window : List ℕ) (n pos : ℕ) (mode : Mode) (x : Reread A) → pos ≤ length window → Holds raw segments n window → Stops segments mode pos n window
       → Going first (all_bytes raw segments) x.pieces.items mode pos → NoneShared raw segments 0 x.pieces.items → x.reads ≡ length x.pieces.items
-      → x.rest.items ≡ slice_range window pos (length window) → x.mode ≡ mode → x.used ≡ n → IsReread first raw segments x
-  ended law window n pos mode x within holds stops g alone counted range same used =
+      → x.again ≤ x.used → x.rest.items ≡ slice_range window pos (length window) → x.mode ≡ mode → x.used ≡ n → IsReread first raw segments x
+  ended law window n pos mode x within holds stops g alone counted again range same used =
       let done = concat (new_bytes x.pieces.items) in
       let left = drop pos window in
       let behind = bytes_of (drop n segments) in
@@ -76,6 +76,7 @@ module _ {A : Type 0} (first : Mode) (raw : List ℕ) (segments : List OldBytes)
         chained = rw same g.chained;
         modes = g.modes;
         reads = counted;
+        again = again;
         used = rw used holds.within;
         whole = rw (rest, used) (append_cancel_right (done ++ left) window behind both ∙ holds.is);
         apart = rw (rest, used) (rw left_over at g.apart);

@@ -40,7 +40,7 @@ joined_one : (done : List (List ℕ)) (p : List ℕ) → concat (done ++ p ∷ [
 joined_one done p = concat-append done (p ∷ []) ∙ ap (λ (t : List ℕ). concat done ++ t) (append-nil p)
 
 -- bytes from a position on, in two parts
-split_at : (window : List ℕ) (pos end : ℕ) → pos ≤ end → drop pos window ≡ slice_range window pos end ++ drop end window
+pub split_at : (window : List ℕ) (pos end : ℕ) → pos ≤ end → drop pos window ≡ slice_range window pos end ++ drop end window
 split_at window pos end low =
     let sum : pos + (end - pos) ≡ end = omega (arith, low) in
     sym (take-append-drop (end - pos) (drop pos window)) ∙ ap (λ (t : List ℕ). slice_range window pos end ++ t) (drop-drop (end - pos) pos window ∙ ap (λ (k : ℕ). drop k window) sum)

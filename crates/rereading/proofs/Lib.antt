@@ -2,5 +2,6 @@ mod AllBytes
 mod Ends
 mod Going
 mod Shared
+mod Tries
 mod WholeTexts
 mod Windows

@@ -1,5 +1,5 @@
 -- What is read with no segments is a whole text.
-use Rattle.std.proofs.Common.{◌≡◌, ℕ, true, List, [], ◌++◌, drop, Result, Ok, Err, refl, sym, ap, ◌∙◌, subst, append-nil}
+use Rattle.std.proofs.Common.{◌≡◌, ℕ, true, List, [], ◌++◌, drop, Result, Ok, Err, refl, sym, ap, ◌∙◌, subst, append-nil, arith}
 use Rattle.std.proofs.Math.Seq.{drop-nil, take-nil}
 use Rattle.design_model.specs.declared.fault.ReadError.{ReadError}
 use Rattle.design_model.specs.declared.fault.ReadError.TheVariants.{Fault, Memory}
@@ -33,6 +33,7 @@ in_pieces law text x is =
       chained = subst (AreChained def Top ps is.recs) last is.chained;
       modes = is.modes;
       reads = is.reads;
+      again = omega (arith, is.again, is.used);
       whole = is.whole ∙ ap (λ (ss : List OldBytes). text ++ bytes_of ss) (take-nil x.used) ∙ append-nil text;
       apart = subst (AreApart ps) behind is.apart;
       tail = subst (λ (m : Mode). IsTail def m rest) last is.lands;

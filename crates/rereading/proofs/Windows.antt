@@ -1,6 +1,7 @@
 -- Windows with one segment more or less.
-use Rattle.std.proofs.Common.{◌≡◌, ◌≤◌, ◌<◌, ℕ, zero, suc, ◌+◌, ◌-◌, List, [], ◌∷◌, ◌++◌, length, take, Some, None, sym, ap, ap₂, ◌∙◌, subst, append_assoc, append-nil, arith, length-append, take_at}
+use Rattle.std.proofs.Common.{◌≡◌, ◌≤◌, ◌<◌, ℕ, zero, suc, ◌+◌, ◌-◌, List, [], ◌∷◌, ◌++◌, length, take, Some, None, sym, ap, ap₂, ◌∙◌, subst, append_assoc, append-nil, arith, length-append, take_at, ⊎_elim}
 use Rattle.std.specs.Prelude.{slice_get}
+use Rattle.std.proofs.lemmas.Bool.{cases_order}
 use Rattle.std.proofs.lemmas.List.{length-take-le}
 use Rattle.std.proofs.lemmas.Option.{slice_get-get_or, slice_get_within}
 use Rattle.form_meanings.proofs.Steps.{some_same}
@@ -56,8 +57,8 @@ pub appended : (raw : List ℕ) (segments : List OldBytes) (n : ℕ) (window new
     → Holds raw segments (n + 1) new
 appended raw segments n window new s at is holds = subst (Holds raw segments (n + 1)) (sym is) (one_more raw segments n window s at holds)
 
-pub longer_still : (first window more new : List ℕ) → length first ≤ length window → new ≡ window ++ more → length first ≤ length new
-longer_still first window more new low is = let long = ap (λ (t : List ℕ). length t) is in omega (arith, low, long, length-append window more)
+pub longer_still : (first window bytes new : List ℕ) → (more : List ℕ) × (window ≡ first ++ more) → new ≡ window ++ bytes → (more : List ℕ) × (new ≡ first ++ more)
+longer_still first window bytes new low is = (low.0 ++ bytes, is ∙ ap (λ (t : List ℕ). t ++ bytes) low.1 ∙ append_assoc first low.0 bytes)
 
 -- the size of the last segment
 abbrev pub Sized : List OldBytes → ℕ → ℕ → Type 0
@@ -88,3 +89,18 @@ tight_end raw segments n pos len size window within is sized few holds = λ some
 -- no segment is in the window
 pub tight_none : (raw : List ℕ) (segments : List OldBytes) (n pos : ℕ) → n ≡ 0 → IsTight raw segments n pos
 tight_none raw segments n pos none = λ some. absurd (omega (arith, none, some))
+
+-- a segment that begins before a position isn't given back
+pub still_kept : (raw : List ℕ) (segments : List OldBytes) (n pos len size : ℕ) (window : List ℕ) (k : ℕ) → pos ≤ length window → len ≡ length window → Sized segments n size → size ≤ len - pos
+    → Holds raw segments n window → k < n → length raw + length (bytes_of (take k segments)) < pos → k < n - 1
+still_kept raw segments n pos len size window k within is sized few holds low before =
+    let some : 0 < n = omega (arith, low) in
+    let last = last_of segments n some holds.within in
+    let long = ap (λ (t : List ℕ). length t) (ends_with raw segments n window last.0 some last.1 holds) in
+    let front = raw ++ bytes_of (take (n - 1) segments) in
+    ⊎_elim
+    (λ (here : k ≡ n - 1).
+    let same = ap (λ (j : ℕ). length (bytes_of (take j segments))) here in
+    absurd (omega (arith, before, same, long, within, is, few, sized last.0 last.1, length-append front last.0.bytes, length-append raw (bytes_of (take (n - 1) segments)))))
+    (λ other. ⊎_elim (λ (less : k < n - 1). less) (λ (more : n - 1 < k). absurd (omega (arith, low, more))) other)
+    (cases_order k (n - 1))

@@ -38,6 +38,7 @@ pub record IsReread {A : Type 0} (first : Mode) (raw : List ℕ) (segments : Lis
   pub chained : AreChained def first (new_bytes x.pieces.items) recs x.mode
   pub modes : new_modes x.pieces.items ≡ modes_from def first recs
   pub reads : x.reads ≡ length x.pieces.items
+  pub again : x.again ≤ x.used
   pub used : x.used ≤ length segments
   pub whole : concat (new_bytes x.pieces.items) ++ x.rest.items ≡ raw ++ bytes_of (take x.used segments)
   pub apart : AreApart (new_bytes x.pieces.items) (x.rest.items ++ bytes_of (drop x.used segments))

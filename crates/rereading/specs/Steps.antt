@@ -1,17 +1,17 @@
 -- The next new piece of a window.
-use Rattle.std.specs.Prelude.{◌≡◌, ◌+◌, ◌≤◌, ◌<◌, ℕ, List, length, drop, slice_get, Option, Some, None, Result, Ok, Err, MatchResult, MatchOption}
+use Rattle.std.specs.Prelude.{◌≡◌, ◌≢◌, ◌⊎◌, ◌+◌, ◌≤◌, ◌<◌, ℕ, List, length, take, drop, slice_get, Option, Some, None, Result, Ok, Err, MatchResult, MatchOption}
 use Rattle.std.specs.List.{slice_range}
 use Rattle.design_model.specs.declared.fault.Fault as fault
 use Rattle.design_model.specs.declared.fault.ReadError.{ReadError}
 use Rattle.design_model.specs.declared.fault.ReadError.TheVariants.{Fault, Memory}
 use Rattle.design_model.specs.declared.mode.Mode.{Mode}
-use Rattle.statement_model.specs.Tokens.{left_from}
+use Rattle.statement_model.specs.Tokens.{Lexed, left_from}
 use Rattle.statement_model.specs.Reading.{read_at}
 use Rattle.lefdef_tokens.specs.Laws.{BeginsApart}
 use Rattle.def_grammar.specs.Records.{Record, def}
 use Rattle.piece_laws.specs.Pieces.{IsPiece}
 use Rattle.rereading.specs.Rereading.{NotShared, all_bytes}
-use Rattle.rereading.specs.Segments.{OldBytes}
+use Rattle.rereading.specs.Segments.{OldBytes, bytes_of}
 use Rattle.rereading.specs.Windows.{Holds}
 
 -- a piece stands from one position to another, in a mode and leading to another, and a blank or the end comes after it
@@ -37,6 +37,21 @@ NextWhole raw segments mode pos used window (Ok found) =
     Holds raw segments used window × MatchOption found ((used ≡ length segments) × (read_at def mode (left_from window pos) ≡ Ok None)) (PieceAt mode window pos)
 NextWhole raw segments mode pos used window (Err (Fault f)) = read_at def mode (left_from (all_bytes raw segments) pos) ≡ Err f
 NextWhole raw segments mode pos used window (Err Memory) = Unit {0}
+
+-- the next statement isn't whole in this window
+abbrev pub IsShort : Mode → ℕ → List ℕ → Type 0
+IsShort mode pos window = (x : Record × Mode × Lexed) → read_at def mode (left_from window pos) ≢ Ok (Some x)
+
+-- How often the next statement was tried again, where so many segments were in the window before, and so many are now: never; or
+-- no more than one time for each segment up to one that begins before the statement ends.
+abbrev pub TriedFor : List ℕ → List OldBytes → ℕ → ℕ → ℕ → ℕ → ℕ → Type 0
+TriedFor raw segments used now old again end =
+    ((used ≤ now) × (again ≡ old)) ⊎ ((k : ℕ) × (k < now) × (again + used ≤ old + (k + 1)) × (length raw + length (bytes_of (take k segments)) < end))
+
+abbrev pub TriesAgain : List ℕ → List OldBytes → ℕ → ℕ → ℕ → ℕ → Result (Option (ℕ × Mode)) ReadError → Type 0
+TriesAgain raw segments used now old again (Ok (Some x)) = TriedFor raw segments used now old again x.0
+TriesAgain raw segments used now old again (Ok None) = again + used ≤ old + now
+TriesAgain raw segments used now old again (Err e) = Unit {0}
 
 -- the segment that comes next is an old statement, where the window ends and in this mode; or there is none, and no statement
 -- is left

@@ -17,6 +17,7 @@ pub record IsInPieces {A : Type 0} (text : List ℕ) (x : Reread A) : Type 0 whe
   pub chained : AreChained def Top (new_bytes x.pieces.items) recs After
   pub modes : new_modes x.pieces.items ≡ modes_from def Top recs
   pub reads : x.reads ≡ length x.pieces.items
+  pub again : x.again ≡ 0
   pub whole : concat (new_bytes x.pieces.items) ++ x.rest.items ≡ text
   pub apart : AreApart (new_bytes x.pieces.items) x.rest.items
   pub tail : IsTail def After x.rest.items

@@ -5,9 +5,10 @@
 //! asks of the trait `segments::Segments`, a segment at a time. `read_pieces::read_pieces` reads a whole text in this way: from
 //! `Mode::Top` on, with no segments.
 //!
-//! `specs/Rereading` says what rereading gives (`IsReread`): pieces as `piece_laws` has them, the mode of each, how many segments
-//! were used up, and how many statements were read, which are the new pieces. None of these begins where an old statement
-//! stands in its mode. `specs/Texts` says what a whole text in pieces is.
+//! `specs/Rereading` says what rereading gives (`IsReread`): pieces as `piece_laws` has them, the mode of each, and how many
+//! segments were used up. No new piece begins where an old statement stands in its mode; as many statements are read to their
+//! end as there are new pieces, and one is tried again at most once for each segment that is used up. `specs/Texts` says what a
+//! whole text in pieces is.
 //!
 //! It takes memory for the new pieces, and for a window on the text while it reads. A window that doesn't hold a whole
 //! statement grows by 1, 2, 4 and more segments, and gives back what stands behind the statement.

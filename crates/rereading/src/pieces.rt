@@ -12,8 +12,8 @@ pub struct NewPiece<A: Allocator = Global> {
     pub mode: Mode,
 }
 
-/// New pieces and the mode after them, the bytes behind them where all was read, how many segments were used up, and how
-/// many statements were read.
+/// New pieces and the mode after them, the bytes behind them where all was read, how many segments were used up, how many
+/// statements were read, and how often one was tried again with more segments.
 #[derive(Drop)]
 pub struct Reread<A: Allocator = Global> {
     pub pieces: Vec<NewPiece<A>, A>,
@@ -21,6 +21,7 @@ pub struct Reread<A: Allocator = Global> {
     pub mode: Mode,
     pub used: usize,
     pub reads: u64,
+    pub again: u64,
 }
 
 /// Puts a piece with these bytes behind others.

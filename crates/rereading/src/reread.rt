@@ -3,7 +3,7 @@
 ghost use Rattle.std.specs.Prelude.{◌≡◌, ◌≢◌, ◌≤◌, ℕ, List, Some, length, true, false, OnOk};
 ghost use Rattle.rereading.specs.Rereading.{Rereads};
 ghost use Rattle.rereading.specs.Segments.{AreFull, BeginApart, mode_at};
-ghost use Rattle.rereading.specs.Steps.{Counts, NextNew};
+ghost use Rattle.rereading.specs.Steps.{Counts, NextNew, TriesAgain};
 ghost use Rattle.rereading.specs.Windows.{Holds, IsTight};
 
 use crate::pieces::{Reread, push_piece};
@@ -42,19 +42,22 @@ fn next_new<S: Segments, A: Allocator>(
     mode: Mode,
     pos: usize,
     reads: &mut u64,
+    again: &mut u64,
 ) -> Result<Option<(usize, Mode)>, ReadError>
     requires pos { pos ≤ length window.old.bytes.items }
     requires apart { BeginApart (S.listed segments.now) }
     requires full { AreFull (S.listed segments.now) }
     requires few { reads.old ≤ pos }
+    requires again { again.old ≤ window.old.used }
     ensures new { (raw : List ℕ) → Holds raw (S.listed segments.now) window.old.used window.old.bytes.items → IsTight raw (S.listed segments.now) window.old.used pos → NextNew raw (S.listed segments.now) mode pos window.new.used window.new.bytes.items result }
     ensures pos { OnOk result (pos ≤ length window.new.bytes.items) }
     ensures counts { Counts reads.old result reads.new }
+    ensures again { (raw : List ℕ) → Holds raw (S.listed segments.now) window.old.used window.old.bytes.items → TriesAgain raw (S.listed segments.now) window.old.used window.new.used again.old again.new result }
 {
     if lands(window, segments, mode, pos) {
         return Ok(None);
     }
-    next_whole(window, segments, mode, pos, reads)
+    next_whole(window, segments, mode, pos, reads, again)
 }
 
 /// Reads the statements of raw bytes and then of segments, from a mode on, until they end where an old statement begins that
@@ -84,8 +87,9 @@ pub fn reread<S: Segments, A: Allocator + Copy>(
     let mut mode = first;
     let mut pos = 0;
     let mut reads = 0;
+    let mut again = 0;
     'statements: loop {
-        match next_new(&mut window, segments, mode, pos, &mut reads) {
+        match next_new(&mut window, segments, mode, pos, &mut reads, &mut again) {
             Ok(Some((end, after))) => {
                 push_piece(alloc, &mut pieces, &window.bytes[pos..end], mode)?;
                 mode = after;
@@ -102,5 +106,6 @@ pub fn reread<S: Segments, A: Allocator + Copy>(
         mode,
         used: window.used,
         reads,
+        again,
     })
 }

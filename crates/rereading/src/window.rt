@@ -1,6 +1,7 @@
 //! A window on a text: bytes with an edit in them, and as many segments behind them as were needed.
 
-ghost use Rattle.std.specs.Prelude.{◌≡◌, ◌≤◌, ◌<◌, ℕ, List, length, Some, OnOk, slice_get, true, false};
+ghost use Rattle.std.specs.Prelude.{◌≡◌, ◌≤◌, ◌<◌, ◌+◌, ◌^◌, ◌++◌, ℕ, List, length, take, Some, OnOk, slice_get, true, false};
+ghost use Rattle.rereading.specs.Segments.{bytes_of};
 ghost use Rattle.rereading.specs.Windows.{Holds, IsTight};
 
 use crate::segments::Segments;
@@ -17,6 +18,7 @@ pub(crate) struct Window<A: Allocator> {
 pub(crate) fn is_end<S: Segments>(segments: &S, k: usize) -> bool
     ensures end { result ≡ true → length (S.listed segments.now) ≤ k }
     ensures more { result ≡ false → k < length (S.listed segments.now) }
+    ensures few { result ≡ false → k < 2 ^ 63 }
 {
     segments.segment(k).is_none()
 }
@@ -39,7 +41,7 @@ impl<A: Allocator> Window<A> {
         more: usize,
     ) -> Result<(), AllocError>
         ensures holds { OnOk result ((raw : List ℕ) → Holds raw (S.listed segments.now) self.old.used self.old.bytes.items → Holds raw (S.listed segments.now) self.new.used self.new.bytes.items) }
-        ensures longer { OnOk result (length self.old.bytes.items ≤ length self.new.bytes.items) }
+        ensures longer { OnOk result ((more : List ℕ) × (self.new.bytes.items ≡ self.old.bytes.items ++ more)) }
         ensures further { OnOk result (0 < more → self.old.used < length (S.listed segments.now) → self.old.used < self.new.used) }
     {
         for _ in 0..more {
@@ -58,6 +60,7 @@ impl<A: Allocator> Window<A> {
         requires pos { pos ≤ length self.old.bytes.items }
         ensures holds { (raw : List ℕ) → Holds raw (S.listed segments.now) self.old.used self.old.bytes.items → Holds raw (S.listed segments.now) self.new.used self.new.bytes.items }
         ensures pos { pos ≤ length self.new.bytes.items }
+        ensures kept { (raw : List ℕ) → Holds raw (S.listed segments.now) self.old.used self.old.bytes.items → (k : ℕ) → k < self.old.used → length raw + length (bytes_of (take k (S.listed segments.now))) < pos → k < self.new.used }
         ensures tight { (raw : List ℕ) → Holds raw (S.listed segments.now) self.old.used self.old.bytes.items → IsTight raw (S.listed segments.now) self.new.used pos }
     {
         'back: loop {

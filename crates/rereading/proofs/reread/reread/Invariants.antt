@@ -8,6 +8,7 @@ abbrev pub invariant-statements : goal.invariant-statements
 invariant-statements g l = record {
   pos : l.pos ≤ length l.window.bytes.items;
   few : l.reads ≤ l.pos;
+  again : l.again ≤ l.window.used;
   counted : l.reads ≡ length l.pieces.items;
   holds : Holds l.raw (g.S.Segments.listed l.segments) l.window.used l.window.bytes.items;
   tight : IsTight l.raw (g.S.Segments.listed l.segments) l.window.used l.pos;

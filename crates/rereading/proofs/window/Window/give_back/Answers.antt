@@ -1,5 +1,5 @@
 use Rattle.std.proofs.Common.{◌≡◌, ◌<◌, length, arith}
-use Rattle.rereading.proofs.Windows.{pos_within, shortened, tight_end}
+use Rattle.rereading.proofs.Windows.{pos_within, shortened, still_kept, tight_end}
 use Rattle.rereading.proofs.window.Window.give_back.Goals as goal
 
 pub returns-then-size-len-clause-tight : goal.returns-then-size-len-clause-tight
@@ -22,4 +22,5 @@ back-preserved g c =
       within = omega (arith, i.within);
       pos = pos_within c.args.pos c.len-in-back.result c.size_at-size.result window new i.pos long (omega (arith, c.if-size-len.false, same, long)) c.truncate.ensures.items;
       holds = λ raw holds. shortened raw segments c.back.self.used c.len-in-back.result c.size_at-size.result window new some long c.size_at-size.ensures c.truncate.ensures.items (i.holds raw holds);
+      kept = λ raw holds k low before. still_kept raw segments c.back.self.used c.args.pos c.len.result c.size_at-size.result window k i.pos same c.size_at-size.ensures (omega (arith, c.if-size-len.false)) (i.holds raw holds) (i.kept raw holds k low before) before;
     }
