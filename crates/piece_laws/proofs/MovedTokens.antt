@@ -18,12 +18,12 @@ unfolding last_of
 last_moved k p [] = refl
 last_moved k p (q ∷ qs) = last_moved k q qs
 
-pub whole_moved : (e : List ℕ → Ending) (k : ℕ) (ps : List Token) → is_whole e (map (moved_token k) ps) ≡ is_whole e ps
+whole_moved : (e : List ℕ → Ending) (k : ℕ) (ps : List Token) → is_whole e (map (moved_token k) ps) ≡ is_whole e ps
 whole_moved e k [] = refl
 whole_moved e k (p ∷ []) = refl
 whole_moved e k (p ∷ q ∷ qs) = rw (last_moved k q qs) refl
 
-pub one_longer : (k : ℕ) (begun : List Token) (p : Token) → map (moved_token k) (begun ++ p ∷ []) ≡ map (moved_token k) begun ++ moved_token k p ∷ []
+one_longer : (k : ℕ) (begun : List Token) (p : Token) → map (moved_token k) (begun ++ p ∷ []) ≡ map (moved_token k) begun ++ moved_token k p ∷ []
 one_longer k begun p = map-append (moved_token k) begun (p ∷ [])
 
 -- a statement that is cut is cut wherever it stands
@@ -86,7 +86,7 @@ moved_open k pos b comment = push_if (moved_state k) (b == 10) between comment
 moved_open k pos b (word start bytes) = push_if (moved_state k) (is_white b) between (word start (bytes ++ b ∷ []))
 moved_open k pos b (string start bytes last) = push_if (moved_state k) (closes last b) between (string start (bytes ++ b ∷ []) b)
 
-pub state_moved : (bytes : List ℕ) (k pos : ℕ) (s : Open) → state_after (k + pos) (moved_state k s) bytes ≡ moved_state k (state_after pos s bytes)
+state_moved : (bytes : List ℕ) (k pos : ℕ) (s : Open) → state_after (k + pos) (moved_state k s) bytes ≡ moved_state k (state_after pos s bytes)
 unfolding state_after
 state_moved [] k pos s = refl
 state_moved (b ∷ bs) k pos s =

@@ -1,10 +1,9 @@
 -- All bytes from an edit on: those of a window, and then those of the segments that aren't in it.
-use Rattle.std.proofs.Common.{◌≡◌, ◌≢◌, ◌≤◌, ℕ, zero, suc, List, [], ◌∷◌, ◌++◌, length, map, take, drop, Err, sym, ap, ◌∙◌, append_assoc, append-nil, arith, length-append}
+use Rattle.std.proofs.Common.{◌≡◌, ◌≢◌, ◌≤◌, ℕ, zero, suc, List, [], ◌∷◌, ◌++◌, length, map, take, drop, Err, sym, ap, ◌∙◌, append_assoc, arith, length-append}
 use Rattle.std.specs.List.{concat}
 use Rattle.std.proofs.lemmas.List.{take-append-drop, drop-append-le, map-append}
 use Rattle.std.proofs.lemmas.List.Elements.{All-head, All-tail}
 use Rattle.std.proofs.lemmas.List.Folds.{concat-append}
-use Rattle.std.proofs.Math.Seq.{drop-length}
 use Rattle.design_model.specs.declared.fault.Fault.{Fault}
 use Rattle.design_model.specs.declared.fault.FaultCode.TheVariants.{Unfinished, OpenString}
 use Rattle.design_model.specs.declared.mode.Mode.{Mode}
@@ -32,12 +31,6 @@ pub window_within : (raw : List ℕ) (segments : List OldBytes) (n : ℕ) (windo
 window_within raw segments n window holds =
     let long = ap (λ (t : List ℕ). length t) (all_is raw segments n window holds) in
     omega (arith, long, length-append window (bytes_of (drop n segments)))
-
--- once all segments are in the window, it is all bytes
-pub whole_is : (raw : List ℕ) (segments : List OldBytes) (n : ℕ) (window : List ℕ) → Holds raw segments n window → n ≡ length segments → all_bytes raw segments ≡ window
-whole_is raw segments n window holds same =
-    let none : drop n segments ≡ [] = ap (λ (k : ℕ). drop k segments) same ∙ drop-length segments in
-    all_is raw segments n window holds ∙ ap (λ (ss : List OldBytes). window ++ bytes_of ss) none ∙ append-nil window
 
 -- segments begin apart
 pub apart_append : (s t : List ℕ) → BeginsApart s → BeginsApart t → BeginsApart (s ++ t)

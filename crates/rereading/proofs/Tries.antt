@@ -38,7 +38,7 @@ whole_within law mode pos short more x piece within none =
     let split = split_at short pos end (omega (arith, piece.0)) in
     none (piece.2.0, x.1, lex (pos + length p) between left) (ap (λ (t : List ℕ). read_at def mode (lex pos between t)) split ∙ law pos mode x.1 p left piece.2.0 is apart)
 
-pub ends_behind : PiecesAreFound def → (mode : Mode) (pos : ℕ) (short more : List ℕ) (x : ℕ × Mode) → PieceAt mode (short ++ more) pos x → IsShort mode pos short → length short < x.0
+ends_behind : PiecesAreFound def → (mode : Mode) (pos : ℕ) (short more : List ℕ) (x : ℕ × Mode) → PieceAt mode (short ++ more) pos x → IsShort mode pos short → length short < x.0
 ends_behind law mode pos short more x piece none = ⊎_elim (λ (less : length short < x.0). less) (λ (within : x.0 ≤ length short). absurd (whole_within law mode pos short more x piece within none)) (cases_lt (length short) x.0)
 
 -- The next statement was tried in windows with fewer segments, and in the last of these it wasn't whole.

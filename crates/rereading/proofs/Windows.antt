@@ -14,7 +14,7 @@ one_longer [] n s at = absurd (cc)
 one_longer (x ∷ xs) zero s at = let same = some_same x s at in append-nil x.bytes ∙ ap (λ (y : OldBytes). y.bytes) same
 one_longer (x ∷ xs) (suc n) s at = ap (λ (t : List ℕ). x.bytes ++ t) (one_longer xs n s at) ∙ sym (append_assoc x.bytes (bytes_of (take n xs)) s.bytes)
 
-pub one_more : (raw : List ℕ) (segments : List OldBytes) (n : ℕ) (window : List ℕ) (s : OldBytes) → slice_get segments n ≡ Some s → Holds raw segments n window → Holds raw segments (n + 1) (window ++ s.bytes)
+one_more : (raw : List ℕ) (segments : List OldBytes) (n : ℕ) (window : List ℕ) (s : OldBytes) → slice_get segments n ≡ Some s → Holds raw segments n window → Holds raw segments (n + 1) (window ++ s.bytes)
 one_more raw segments n window s at holds =
     let next : n + 1 ≡ suc n = omega arith in
     let within = slice_get_within segments n s at in
@@ -27,7 +27,7 @@ one_more raw segments n window s at holds =
     }
 
 -- the last of some segments
-pub last_of : (segments : List OldBytes) (n : ℕ) → 0 < n → n ≤ length segments → (s : OldBytes) × (slice_get segments (n - 1) ≡ Some s)
+last_of : (segments : List OldBytes) (n : ℕ) → 0 < n → n ≤ length segments → (s : OldBytes) × (slice_get segments (n - 1) ≡ Some s)
 last_of segments n some within = (_, slice_get-get_or segments (n - 1) (record { bytes = []; mode = None }) (omega (arith, some, within)))
 
 -- a window ends with its last segment
@@ -40,7 +40,7 @@ ends_with raw segments n window s some at holds =
     ∙ ap (λ (t : List ℕ). raw ++ t) (one_longer segments (n - 1) s at)
     ∙ sym (append_assoc raw (bytes_of (take (n - 1) segments)) s.bytes)
 
-pub one_less : (raw : List ℕ) (segments : List OldBytes) (n : ℕ) (window : List ℕ) (s : OldBytes) → 0 < n → slice_get segments (n - 1) ≡ Some s → Holds raw segments n window
+one_less : (raw : List ℕ) (segments : List OldBytes) (n : ℕ) (window : List ℕ) (s : OldBytes) → 0 < n → slice_get segments (n - 1) ≡ Some s → Holds raw segments n window
     → Holds raw segments (n - 1) (take (length window - length s.bytes) window)
 one_less raw segments n window s some at holds =
     let front = raw ++ bytes_of (take (n - 1) segments) in

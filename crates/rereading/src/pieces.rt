@@ -13,7 +13,7 @@ pub struct NewPiece<A: Allocator = Global> {
 }
 
 /// New pieces and the mode after them, the bytes behind them where all was read, how many segments were used up, how many
-/// statements were read, and how often one was tried again with more segments.
+/// statements were read to their end, and how often one was tried again with more segments.
 #[derive(Drop)]
 pub struct Reread<A: Allocator = Global> {
     pub pieces: Vec<NewPiece<A>, A>,

@@ -61,8 +61,8 @@ fn next_new<S: Segments, A: Allocator>(
 }
 
 /// Reads the statements of raw bytes and then of segments, from a mode on, until they end where an old statement begins that
-/// stands in the mode that they lead to, or all is read. Each segment begins with a blank or is empty, and only the last is.
-/// Its fault is that of all bytes.
+/// stands in the mode that they lead to, or all is read. Each segment begins with a blank; only the last may be empty. Its
+/// fault is that of all bytes.
 pub fn reread<S: Segments, A: Allocator + Copy>(
     alloc: A,
     first: Mode,

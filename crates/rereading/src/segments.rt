@@ -14,7 +14,8 @@ pub struct Segment<'t> {
     pub mode: Option<Mode>,
 }
 
-/// The segments behind an edit in their order, up to the end of the text.
+/// The segments behind an edit in their order, up to the end of the text. They are asked for one at a time, so that they need
+/// not stand in a list.
 pub trait Segments {
     ghost listed: { Self → List OldBytes };
 
