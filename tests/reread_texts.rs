@@ -4,7 +4,7 @@ use design_model::fault::{Fault, FaultCode, ReadError};
 use design_model::mode::{Mode, Section};
 use rereading::read_pieces::read_pieces;
 use rereading::reread::reread;
-use rereading::segments::{NoSegments, Segment, Segments};
+use rereading::segments::{Segment, Segments};
 use std::alloc::Global;
 use std::test::Fail;
 
@@ -126,9 +126,26 @@ fn whole_texts_are_opened(rt: HostRuntime) -> Result<(), Fail> {
         assert_eq!(rt; opened.pieces[i].mode, modes[i]);
         assert_eq!(rt; opened.pieces[i].bytes.as_slice(), bytes[i]);
     }
-    assert_eq!(rt; opened.rest.as_slice(), b"\n# last\n".as_slice());
-    assert_eq!(rt; (opened.mode, opened.reads, opened.again), (Mode::After, 5, 0));
-    assert_eq!(rt; outcome(rt.alloc(), Mode::Top, b"", &NoSegments), at(FaultCode::Unfinished, 0));
-    assert_eq!(rt; outcome(rt.alloc(), Mode::Top, b"UNITS DISTANCE MICRONS 1000 ;\nEND DESIGN ;", &NoSegments), at(FaultCode::NoForm, 41));
+    assert_eq!(rt; opened.tail.as_slice(), b"\n# last\n".as_slice());
+    assert_eq!(rt; opened.reads, 5);
     Ok(())
+}
+
+#[test]
+fn no_segments_are_a_whole_text(rt: HostRuntime) {
+    let none: &[Segment<'static>] = &[];
+    let text = b"UNITS DISTANCE MICRONS 1000 ;\nEND DESIGN\n";
+    let opened = Told {
+        pieces: 2,
+        first: Some(Mode::Top),
+        last: Some(Mode::Top),
+        after: Mode::After,
+        used: 0,
+        rest: 1,
+        reads: 2,
+        again: 0,
+    };
+    assert_eq!(rt; outcome(rt.alloc(), Mode::Top, text, &none), Ok(opened));
+    assert_eq!(rt; outcome(rt.alloc(), Mode::Top, b"", &none), at(FaultCode::Unfinished, 0));
+    assert_eq!(rt; outcome(rt.alloc(), Mode::Top, b"UNITS DISTANCE MICRONS 1000 ;\nEND DESIGN ;", &none), at(FaultCode::NoForm, 41));
 }

@@ -49,7 +49,7 @@ range_long : (window : List ℕ) (pos end : ℕ) → pos < end → end ≤ lengt
 range_long window pos end low high = omega (arith, low, high, length-take (end - pos) (drop pos window), length-drop pos window)
 
 module _ {A : Type 0} (first mode : Mode) (all : List ℕ) (ps : List (NewPiece A)) (pos : ℕ) (g : Going first all ps mode pos) where
-  left_at : drop pos all ≡ g.left
+  pub left_at : drop pos all ≡ g.left
   left_at = ap (drop pos) g.whole ∙ drop_at (concat (new_bytes ps)) g.left pos (sym g.at)
 
   -- what is left of all bytes is what is left of the window, and then what is behind it

@@ -2,8 +2,8 @@
 //!
 //! Begin with `reread::reread`. It reads the bytes with an edit in them, and then as many of the statements behind them as
 //! are needed until a statement ends where an old one begins that stands in the same mode. What stands behind the edit it
-//! asks of the trait `segments::Segments`, a segment at a time. `read_pieces::read_pieces` reads a whole text in this way: from
-//! `Mode::Top` on, with no segments.
+//! asks of the trait `segments::Segments`, a segment at a time. With no segments it reads all bytes, as from `Mode::Top` on a
+//! whole text; `read_pieces::read_pieces` does the same, and copies nothing but the pieces.
 //!
 //! `specs/Rereading` says what rereading gives (`IsReread`): pieces as `piece_laws` has them, the mode of each, and how many
 //! segments were used up. No new piece begins where an old statement stands in its mode; as many statements are read to their

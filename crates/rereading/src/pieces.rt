@@ -24,6 +24,14 @@ pub struct Reread<A: Allocator = Global> {
     pub again: u64,
 }
 
+/// A whole text: its pieces, the bytes behind them, and how many statements were read.
+#[derive(Drop)]
+pub struct WholeText<A: Allocator = Global> {
+    pub pieces: Vec<NewPiece<A>, A>,
+    pub tail: Vec<u8, A>,
+    pub reads: u64,
+}
+
 /// Puts a piece with these bytes behind others.
 pub(crate) fn push_piece<A: Allocator + Copy>(
     alloc: A,

@@ -25,20 +25,6 @@ pub trait Segments {
         ensures few { IfSome result (λ s. k < 2 ^ 63) };
 }
 
-/// No segments: a text is read from its beginning to its end.
-#[derive(Clone, Copy)]
-pub struct NoSegments;
-
-impl Segments for NoSegments {
-    ghost use Rattle.std.specs.Prelude.{[]};
-
-    ghost listed = { λ s. [] };
-
-    fn segment(&self, _k: usize) -> Option<Segment<'_>> {
-        None
-    }
-}
-
 impl<'t> Segments for &'t [Segment<'t>] {
     ghost use Rattle.std.specs.Prelude.{map};
 
