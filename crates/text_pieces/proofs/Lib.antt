@@ -1,0 +1,7 @@
+mod Exchanges
+mod Going
+mod Ids
+mod Neighbours
+mod Shown
+mod Slots
+mod Weights

@@ -1,0 +1,5 @@
+//! A DEF text in pieces.
+#![tactic(auto)]
+
+mod chunks;
+mod table;
