@@ -2,6 +2,9 @@ mod Exchanges
 mod Going
 mod Ids
 mod Neighbours
+mod Opened
+mod ReadPieces
 mod Shown
 mod Slots
+mod Storing
 mod Weights

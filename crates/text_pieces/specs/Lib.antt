@@ -1,2 +1,4 @@
 pub mod Chunks
+pub mod Content
+pub mod Opening
 pub mod Tables

@@ -2,4 +2,6 @@
 #![tactic(auto)]
 
 mod chunks;
+mod opening;
 mod table;
+pub mod text;
