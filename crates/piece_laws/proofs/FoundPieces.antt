@@ -35,7 +35,7 @@ front_is text from to front rest is long =
     ap (take (to - from)) is ∙ take_at front rest (to - from) size
 
 -- where tokens end that are as many places further on
-end_moved : (k place : ℕ) (ps : List Token) → end_after (k + place) (map (moved_token k) ps) ≡ k + end_after place ps
+pub end_moved : (k place : ℕ) (ps : List Token) → end_after (k + place) (map (moved_token k) ps) ≡ k + end_after place ps
 end_moved k place [] = refl
 end_moved k place (p ∷ ps) = ap (λ (n : ℕ). end_after n (map (moved_token k) ps)) (add_assoc k p.pos (length p.bytes)) ∙ end_moved k (p.pos + length p.bytes) ps
 

@@ -1,8 +1,10 @@
 mod Exchanges
+mod Found
 mod Going
 mod Ids
 mod Neighbours
 mod Opened
+mod PlacedPieces
 mod ReadPieces
 mod Shown
 mod Slots

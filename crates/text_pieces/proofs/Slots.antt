@@ -14,7 +14,7 @@ slot_map f (x ∷ xs) zero = refl
 slot_map f (x ∷ xs) (suc i) = slot_map f xs i
 
 module _ (slots : List (Option Kept)) where
-  same_slot : (id x : StmtId) → id.0 ≡ x.0 → slot slots id ≡ slot slots x
+  pub same_slot : (id x : StmtId) → id.0 ≡ x.0 → slot slots id ≡ slot slots x
   same_slot id x e = ap (λ (n : ℕ). get_or slots n None) e
 
   -- a number of another chunk isn't one of this chunk

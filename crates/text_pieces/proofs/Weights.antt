@@ -9,10 +9,10 @@ use Rattle.text_pieces.specs.Tables.{Kept, kept_at, weight, start_in, piece_at, 
 use Rattle.text_pieces.proofs.Ids.{same, differ, cut_at, ids_from, ids_up_to}
 use Rattle.text_pieces.proofs.Slots.{len_at}
 
-below_is : (a b : ℕ) → a < b → nat_lt a b ≡ true
+pub below_is : (a b : ℕ) → a < b → nat_lt a b ≡ true
 below_is a b h = grind arith
 
-above_is : (a b : ℕ) → b ≤ a → nat_lt a b ≡ false
+pub above_is : (a b : ℕ) → b ≤ a → nat_lt a b ≡ false
 above_is a b h = grind arith
 
 module _ (slots : List (Option Kept)) where
@@ -92,3 +92,9 @@ module _ (slots : List (Option Kept)) where
 
   pub weight_of : (cs : List Numbers) (k : ℕ) (n : Numbers) → AreChunks slots 0 cs → k < length cs → get_or cs k no_numbers ≡ n → weight slots n.ids ≡ n.len
   weight_of cs k n h below is = ap (λ (m : Numbers). weight slots m.ids) (sym is) ∙ sym (len_at slots 0 cs k h below) ∙ ap (λ (m : Numbers). m.len) is
+
+  pub head_has : (start pos : ℕ) (x : StmtId) (xs : List StmtId) → pos < start + length (kept_at slots x).bytes → piece_at slots start pos (x ∷ xs) ≡ Some (x, start)
+  head_has start pos x xs here = rw (below_is pos (start + length (kept_at slots x).bytes) here) refl
+
+  pub head_passed : (start pos : ℕ) (x : StmtId) (xs : List StmtId) → start + length (kept_at slots x).bytes ≤ pos → piece_at slots start pos (x ∷ xs) ≡ piece_at slots (start + length (kept_at slots x).bytes) pos xs
+  head_passed start pos x xs past = rw (above_is pos (start + length (kept_at slots x).bytes) past) refl

@@ -1,4 +1,5 @@
 pub mod Chunks
 pub mod Content
 pub mod Opening
+pub mod Statements
 pub mod Tables

@@ -1,14 +1,19 @@
 //! A text in pieces.
 
-ghost use Rattle.std.specs.Prelude.{◌≡◌, ◌≤◌, length};
+ghost use Rattle.std.specs.Prelude.{◌≡◌, ◌≤◌, ◌+◌, ◌-◌, length, nat_le, option_map};
 ghost use Rattle.design_model.specs.declared.TheConstants.{MAX_TEXT};
+ghost use Rattle.text_pieces.specs.Chunks.{id_after, id_before};
 ghost use Rattle.text_pieces.specs.Content.{Opens, text_of};
+ghost use Rattle.text_pieces.specs.Statements.{bytes_in, lead, lent_bytes, look_up, modes_by_number, number_at, spans_by_number};
+ghost use Rattle.text_pieces.specs.Tables.{ids_of};
 
 use crate::opening::read_chunk;
 use crate::table::PieceTable;
 use design_model::MAX_TEXT;
 use design_model::fault::{Fault, FaultCode, ReadError};
+use design_model::identifier::StmtId;
 use design_model::mode::Mode;
+use lefdef_tokens::token_at;
 use piece_laws::pieces::{tails_are_found, texts_are_read};
 use slab::Slab;
 use std::alloc::{Allocator, Global};
@@ -31,6 +36,17 @@ impl<A: Allocator> Model for TextPieces<A> {
     ghost view = { λ t. record { table = table_of t.table; tail = t.tail.items; len = t.len } };
 
     ghost invariant = { λ t. IsText (record { table = table_of t.table; tail = t.tail.items; len = t.len }) };
+}
+
+/// Where the first token of a piece begins.
+fn lead(bytes: &[u8]) -> usize
+    ensures lead { result ≡ lead bytes.now }
+    ensures within { result ≤ length bytes.now }
+{
+    match token_at(bytes, 0) {
+        Ok(Some((token, _))) => token.pos,
+        _ => 0,
+    }
 }
 
 /// Reads all statements of a text that isn't too long.
@@ -81,5 +97,66 @@ impl<A: Allocator + Copy> TextPieces<A> {
         ensures { result ≡ length (text_of self.now) }
     {
         self.len
+    }
+
+    /// Whether the text stays within its limit where these bytes give way to so many others.
+    pub fn fits(&self, from: usize, to: usize, put: usize) -> bool
+        requires order { from ≤ to }
+        requires within { to ≤ length (text_of self.now) }
+        ensures { result ≡ nat_le ((length (text_of self.now) - (to - from)) + put) MAX_TEXT }
+    {
+        let stays = self.len - (to - from);
+        put <= MAX_TEXT - stays
+    }
+
+    /// The bytes of a statement, from its first token to its last.
+    pub fn statement(&self, id: StmtId) -> Option<&[u8]>
+        ensures { option_map lent_bytes result ≡ option_map (bytes_in (text_of self.now)) (look_up id (spans_by_number self.now)) }
+    {
+        texts_are_read();
+        let piece = self.table.piece(id)?;
+        Some(&piece.bytes[lead(&piece.bytes)..])
+    }
+
+    /// The mode in which a statement stands.
+    pub fn mode(&self, id: StmtId) -> Option<Mode>
+        ensures { result ≡ look_up id (modes_by_number self.now) }
+    {
+        texts_are_read();
+        let piece = self.table.piece(id)?;
+        Some(piece.mode)
+    }
+
+    /// Where the first token of a statement begins.
+    pub fn offset(&self, id: StmtId) -> Option<usize>
+        ensures { result ≡ option_map (λ s. s.lo) (look_up id (spans_by_number self.now)) }
+    {
+        texts_are_read();
+        let start = self.table.start_of(id)?;
+        Some(start + lead(&self.table.pieces[id.0].bytes))
+    }
+
+    /// The statement that has a position between its first token's start and its last one's end.
+    pub fn find_at(&self, pos: usize) -> Option<StmtId>
+        ensures { result ≡ number_at pos (spans_by_number self.now) }
+    {
+        texts_are_read();
+        let (id, start) = self.table.at(pos)?;
+        let first = start + lead(&self.table.pieces[id.0].bytes);
+        (first <= pos).then_some(id)
+    }
+
+    /// The statement after one.
+    pub fn next(&self, id: StmtId) -> Option<StmtId>
+        ensures { result ≡ id_after id (ids_of self.now.table) }
+    {
+        self.table.next(id)
+    }
+
+    /// The statement before one.
+    pub fn prev(&self, id: StmtId) -> Option<StmtId>
+        ensures { result ≡ id_before id (ids_of self.now.table) }
+    {
+        self.table.prev(id)
     }
 }
