@@ -2,6 +2,7 @@ mod Exchanges
 mod Found
 mod Going
 mod Ids
+mod JoinedPieces
 mod Neighbours
 mod Opened
 mod PlacedPieces
@@ -10,3 +11,4 @@ mod Shown
 mod Slots
 mod Storing
 mod Weights
+mod WritingSteps

@@ -3,3 +3,4 @@ pub mod Content
 pub mod Opening
 pub mod Statements
 pub mod Tables
+pub mod Writing

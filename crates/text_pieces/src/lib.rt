@@ -5,3 +5,4 @@ mod chunks;
 mod opening;
 mod table;
 pub mod text;
+mod writing;

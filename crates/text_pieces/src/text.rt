@@ -1,6 +1,9 @@
 //! A text in pieces.
 
-ghost use Rattle.std.specs.Prelude.{◌≡◌, ◌≤◌, ◌+◌, ◌-◌, length, nat_le, option_map};
+ghost use Rattle.std.specs.Prelude.{◌≡◌, ◌<◌, ◌≤◌, ◌+◌, ◌-◌, ◌^◌, OnErr, OnOk, length, nat_le, option_map};
+ghost use Rattle.std.specs.Io.KnownBytes.{Appends};
+ghost use Rattle.counted_devices.specs.Counting.{HasFailed};
+ghost use Rattle.counted_devices.specs.Known.{WritesPart};
 ghost use Rattle.design_model.specs.declared.TheConstants.{MAX_TEXT};
 ghost use Rattle.text_pieces.specs.Chunks.{id_after, id_before};
 ghost use Rattle.text_pieces.specs.Content.{Opens, text_of};
@@ -9,6 +12,9 @@ ghost use Rattle.text_pieces.specs.Tables.{ids_of};
 
 use crate::opening::read_chunk;
 use crate::table::PieceTable;
+use crate::writing::write_pieces;
+use counted_devices::counted::CountedWrite;
+use counted_devices::output::{MAX_INTERRUPTIONS, WriteFault, write_whole};
 use design_model::MAX_TEXT;
 use design_model::fault::{Fault, FaultCode, ReadError};
 use design_model::identifier::StmtId;
@@ -158,5 +164,18 @@ impl<A: Allocator + Copy> TextPieces<A> {
         ensures { result ≡ id_before id (ids_of self.now.table) }
     {
         self.table.prev(id)
+    }
+
+    /// Writes the text.
+    pub fn write_to<W: CountedWrite>(&self, out: &mut W) -> Result<(), WriteFault>
+        requires { W.failed out.old < 2 ^ 63 }
+        ensures ok { OnOk result (Appends (W.contents out.old) (W.contents out.new) (text_of self.now)) }
+        ensures err { OnErr result (WritesPart (W.contents out.old) (W.contents out.new) (text_of self.now)) }
+        ensures failed { OnErr result (HasFailed (W.failed_hard out.old) (W.failed_hard out.new) (W.failed out.old) (W.failed out.new) 33554431) }
+        ensures few { W.failed out.new ≤ W.failed out.old + 33554432 }
+    {
+        let mut patience = MAX_INTERRUPTIONS;
+        write_pieces(&self.table, out, &mut patience)?;
+        write_whole(out, &self.tail, &mut patience)
     }
 }
