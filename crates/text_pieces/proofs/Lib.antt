@@ -10,5 +10,6 @@ mod ReadPieces
 mod Shown
 mod Slots
 mod Storing
+mod Turning
 mod Weights
 mod WritingSteps

@@ -1,3 +1,4 @@
+pub mod Changes
 pub mod Chunks
 pub mod Content
 pub mod Opening

@@ -3,6 +3,7 @@
 
 mod chunks;
 mod opening;
+pub mod prepared;
 mod table;
 pub mod text;
 mod writing;

@@ -6,11 +6,14 @@ ghost use Rattle.counted_devices.specs.Counting.{HasFailed};
 ghost use Rattle.counted_devices.specs.Known.{WritesPart};
 ghost use Rattle.design_model.specs.declared.TheConstants.{MAX_TEXT};
 ghost use Rattle.text_pieces.specs.Chunks.{id_after, id_before};
-ghost use Rattle.text_pieces.specs.Content.{Opens, text_of};
+ghost use Rattle.text_pieces.specs.Changes.{IsBetween};
+ghost use Rattle.text_pieces.specs.Content.{Content, Opens, text_of};
 ghost use Rattle.text_pieces.specs.Statements.{bytes_in, lead, lent_bytes, look_up, modes_by_number, number_at, spans_by_number};
 ghost use Rattle.text_pieces.specs.Tables.{ids_of};
 
+use crate::chunks::exchange;
 use crate::opening::read_chunk;
+use crate::prepared::PreparedText;
 use crate::table::PieceTable;
 use crate::writing::write_pieces;
 use counted_devices::counted::CountedWrite;
@@ -177,5 +180,15 @@ impl<A: Allocator + Copy> TextPieces<A> {
         let mut patience = MAX_INTERRUPTIONS;
         write_pieces(&self.table, out, &mut patience)?;
         write_whole(out, &self.tail, &mut patience)
+    }
+
+    /// Exchanges the two contents of a change, which takes no memory. The same change then leads back.
+    pub fn commit(&mut self, change: &mut PreparedText<A>)
+        requires { (base : Content) × (other : Content) × IsBetween self.old change.old base other }
+        ensures exchanged { (base other : Content) → IsBetween self.old change.old base other → IsBetween self.new change.new other base }
+    {
+        exchange(&mut self.table.chunks, &mut change.changes);
+        std::mem::swap(&mut self.tail, &mut change.tail);
+        std::mem::swap(&mut self.len, &mut change.len);
     }
 }
