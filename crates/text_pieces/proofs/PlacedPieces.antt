@@ -5,7 +5,7 @@ use Rattle.std.specs.Bool.{then_some}
 use Rattle.std.specs.List.{concat, zip}
 use Rattle.std.proofs.lemmas.Bool.{cases_eq, cases_lt}
 use Rattle.std.proofs.lemmas.Bool.Decides.{nat_tests}
-use Rattle.std.proofs.lemmas.List.{map-append, take_at, drop_at, drop-append-le, drop-drop, length-drop}
+use Rattle.std.proofs.lemmas.List.{map-append, take_at, drop_at, drop-append-le, drop-drop, length-drop, length-map}
 use Rattle.std.proofs.lemmas.List.Folds.{concat-append}
 use Rattle.design_model.specs.declared.identifier.StmtId.{StmtId}
 use Rattle.design_model.specs.declared.mode.Mode.{Mode}
@@ -20,11 +20,11 @@ use Rattle.piece_laws.specs.PlaceLaws.{TextsAreRead, placed_pieces}
 use Rattle.piece_laws.specs.Pieces.{AreChained, IsPiece, modes_from}
 use Rattle.piece_laws.proofs.FoundPieces.{end_moved}
 use Rattle.text_pieces.specs.Chunks.{IsAbsent, all_ids}
-use Rattle.text_pieces.specs.Content.{Content, IsText, bytes_of, text_of}
+use Rattle.text_pieces.specs.Content.{Content, IsText, bytes_of, read_keyless, text_of}
 use Rattle.text_pieces.specs.Statements.{bytes_in, holds, lead, look_up, modes_by_number, modes_of, number_at, spans_by_number, spans_of, statements_of}
 use Rattle.text_pieces.specs.Tables.{Kept, Stands, ids_of, kept_at, kept_or, piece_at, standing, start_in, weight}
 use Rattle.text_pieces.proofs.Ids.{differ, same}
-use Rattle.text_pieces.proofs.Opened.{weight_is}
+use Rattle.text_pieces.proofs.Opened.{read_is, weight_is}
 use Rattle.text_pieces.proofs.Slots.{same_slot}
 use Rattle.text_pieces.proofs.Weights.{above_is, below_is, head_has, head_passed, start_is}
 
@@ -60,6 +60,12 @@ records_placed start m last (p ∷ ps) (r ∷ rs) chain = ap (λ (l : List Recor
 pub then_is : {X : Type 0} (b : Bool) (x : X) → then_some b x ≡ (if b then Some x else None)
 then_is true x = refl
 then_is false x = refl
+
+many_placed : (start : ℕ) (m last : Mode) (ps : List (List ℕ)) (recs : List Record) → AreChained def m ps recs last → length (placed_pieces start ps recs) ≡ length ps
+many_placed start m last [] [] chain = refl
+many_placed start m last [] (r ∷ rs) chain = absurd chain
+many_placed start m last (p ∷ ps) [] chain = absurd chain
+many_placed start m last (p ∷ ps) (r ∷ rs) chain = ap (λ (n : ℕ). suc n) (many_placed (start + length p) chain.0 last ps rs chain.2)
 
 module _ (slots : List (Option Kept)) where
   spans_placed : (start : ℕ) (m last : Mode) (ids : List StmtId) (recs : List Record) → AreChained def m (bytes_of (map (kept_at slots) ids)) recs last
@@ -137,6 +143,20 @@ part_of front part rest n k is low =
 module _ (law : TextsAreRead def) (c : Content) (t : IsText c) where
   located_is : statements_of (text_of c) ≡ placed_pieces 0 (bytes_of (standing c.table)) t.recs
   located_is = (law Top t.last (bytes_of (standing c.table)) t.recs c.tail t.chained t.apart t.ends).1
+
+  -- the text reads as what its statements say, and there are as many as numbers
+  pub reads_as : read_keyless (text_of c) ≡ Ok (map (λ x. x.1) (statements_of (text_of c)))
+  reads_as =
+      read_is (text_of c) t.fits
+      ∙ (law Top t.last (bytes_of (standing c.table)) t.recs c.tail t.chained t.apart t.ends).0
+      ∙ ap (λ (l : List Record). Ok l) (sym (ap (λ (l : List (List Token × Record)). map (λ x. x.1) l) located_is ∙ records_placed 0 Top t.last (bytes_of (standing c.table)) t.recs t.chained))
+
+  pub as_many : length (ids_of c.table) ≡ length (statements_of (text_of c))
+  as_many = sym (
+      ap (λ (l : List (List Token × Record)). length l) located_is
+      ∙ many_placed 0 Top t.last (bytes_of (standing c.table)) t.recs t.chained
+      ∙ length-map (standing c.table) (λ k. k.bytes)
+      ∙ length-map (ids_of c.table) (kept_at c.table.slots))
 
   pub spans_are : spans_by_number c ≡ placed c.table.slots 0 (ids_of c.table)
   spans_are =

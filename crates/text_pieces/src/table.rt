@@ -2,7 +2,7 @@
 
 ghost use Rattle.std.specs.Prelude.{◌≡◌, ◌<◌, ◌≤◌, ◌+◌, MatchOption, length, map, take};
 ghost use Rattle.design_model.specs.declared.TheConstants.{MAX_TEXT};
-ghost use Rattle.text_pieces.specs.Chunks.{IsAbsent, all_ids, id_after, id_before};
+ghost use Rattle.text_pieces.specs.Chunks.{IsAbsent, all_ids, first_id, id_after, id_before};
 ghost use Rattle.text_pieces.specs.Tables.{AreHome, IsTable, Stands, StandsAt, ids_of, kept, kept_at, piece_at, start_in, table_of, weight};
 
 use crate::chunks::{Chunk, first_from, last_before, place_in};
@@ -115,6 +115,13 @@ impl<A: Allocator> PieceTable<A> {
             start = end;
         }
         None
+    }
+
+    /// The first statement.
+    pub(crate) fn first(&self) -> Option<StmtId>
+        ensures { result ≡ first_id (ids_of (table_of self.now)) }
+    {
+        first_from(&self.chunks, 0)
     }
 
     /// The statement after one.

@@ -1,14 +1,14 @@
 //! A text in pieces.
 
-ghost use Rattle.std.specs.Prelude.{◌≡◌, ◌<◌, ◌≤◌, ◌+◌, ◌-◌, ◌^◌, OnErr, OnOk, length, nat_le, option_map};
+ghost use Rattle.std.specs.Prelude.{◌≡◌, ◌<◌, ◌≤◌, ◌+◌, ◌-◌, ◌^◌, Ok, OnErr, OnOk, length, map, nat_le, option_map};
 ghost use Rattle.std.specs.Io.KnownBytes.{Appends};
 ghost use Rattle.counted_devices.specs.Counting.{HasFailed};
 ghost use Rattle.counted_devices.specs.Known.{WritesPart};
 ghost use Rattle.design_model.specs.declared.TheConstants.{MAX_TEXT};
-ghost use Rattle.text_pieces.specs.Chunks.{id_after, id_before};
+ghost use Rattle.text_pieces.specs.Chunks.{AreOnce, first_id, id_after, id_before};
 ghost use Rattle.text_pieces.specs.Changes.{IsBetween};
-ghost use Rattle.text_pieces.specs.Content.{Content, Opens, text_of};
-ghost use Rattle.text_pieces.specs.Statements.{bytes_in, lead, lent_bytes, look_up, modes_by_number, number_at, spans_by_number};
+ghost use Rattle.text_pieces.specs.Content.{Content, Opens, read_keyless, text_of};
+ghost use Rattle.text_pieces.specs.Statements.{bytes_in, lead, lent_bytes, look_up, modes_by_number, number_at, spans_by_number, statements_of};
 ghost use Rattle.text_pieces.specs.Tables.{ids_of};
 
 use crate::chunks::exchange;
@@ -155,6 +155,13 @@ impl<A: Allocator + Copy> TextPieces<A> {
         (first <= pos).then_some(id)
     }
 
+    /// The first statement.
+    pub fn first(&self) -> Option<StmtId>
+        ensures { result ≡ first_id (ids_of self.now.table) }
+    {
+        self.table.first()
+    }
+
     /// The statement after one.
     pub fn next(&self, id: StmtId) -> Option<StmtId>
         ensures { result ≡ id_after id (ids_of self.now.table) }
@@ -180,6 +187,16 @@ impl<A: Allocator + Copy> TextPieces<A> {
         let mut patience = MAX_INTERRUPTIONS;
         write_pieces(&self.table, out, &mut patience)?;
         write_whole(out, &self.tail, &mut patience)
+    }
+
+    /// A law: the text reads without its keys, and each of its statements has a number of its own.
+    pub fn statements_are_numbered(&self)
+        ensures reads { read_keyless (text_of self.now) ≡ Ok (map (λ x. x.1) (statements_of (text_of self.now))) }
+        ensures all { length (ids_of self.now.table) ≡ length (statements_of (text_of self.now)) }
+        ensures once { AreOnce (ids_of self.now.table) }
+    {
+        texts_are_read();
+        let _ = &self.table;
     }
 
     /// Exchanges the two contents of a change, which takes no memory. The same change then leads back.
