@@ -1,5 +1,5 @@
 -- Exchanges of chunks.
-use Rattle.std.proofs.Common.{◌≡◌, ◌≢◌, ◌≤◌, ◌<◌, ◌+◌, ℕ, zero, suc, List, [], ◌∷◌, ◌++◌, length, get_or, set, map, refl, sym, ap, ◌∙◌, subst, arith}
+use Rattle.std.proofs.Common.{◌≡◌, ℕ, List, [], ◌∷◌, length, get_or, set, refl, sym, ap, ◌∙◌, arith}
 use Rattle.std.proofs.Math.ListN.{length-set}
 use Rattle.std.proofs.lemmas.List.{get_or-set_other, get_or-set_same, set-get_or, set-set, set_comm}
 use Rattle.text_pieces.specs.Chunks.{Numbers, Replacement, exchanged, no_numbers, IsElsewhere, ArePlaces}
@@ -35,5 +35,5 @@ exchanges_undo cs (r ∷ rs) h =
     let long : length (exchanged cs rs).0 ≡ length cs = length-exchanged cs rs in
     let back : get_or (set (exchanged cs rs).0 r.0 r.1) r.0 no_numbers ≡ r.1 = get_or-set_same (exchanged cs rs).0 r.0 r.1 no_numbers (omega (arith, long, h.0)) in
     let stays : set (exchanged cs rs).0 r.0 (get_or cs r.0 no_numbers) ≡ (exchanged cs rs).0 =
-        ap (λ (y : Numbers). set (exchanged cs rs).0 r.0 y) (sym (get-exchanged cs rs r.0 h.1)) ∙ set-get_or (exchanged cs rs).0 r.0 no_numbers in
+    ap (λ (y : Numbers). set (exchanged cs rs).0 r.0 y) (sym (get-exchanged cs rs r.0 h.1)) ∙ set-get_or (exchanged cs rs).0 r.0 no_numbers in
     rw e (rw (back, set-set (exchanged cs rs).0 r.0 r.1 (get_or cs r.0 no_numbers), stays) (ap (fronted r) (exchanges_undo cs rs h.2)))

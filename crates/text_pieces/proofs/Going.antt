@@ -1,8 +1,8 @@
 -- An exchange, turn by turn.
-use Rattle.std.proofs.Common.{◌≡◌, ◌≢◌, ◌≤◌, ◌<◌, ◌+◌, ℕ, zero, suc, List, [], ◌∷◌, ◌++◌, length, get_or, set, map, take, drop, refl, sym, ap, ◌∙◌, subst, arith, add-one, append_assoc}
+use Rattle.std.proofs.Common.{◌≡◌, ◌≤◌, ◌<◌, ◌+◌, ℕ, List, [], ◌∷◌, ◌++◌, length, get_or, set, map, take, drop, refl, ap, ◌∙◌, arith, add-one, append_assoc}
 use Rattle.std.proofs.Math.ListN.{length-set}
 use Rattle.std.proofs.Math.Seq.{drop-cons}
-use Rattle.std.proofs.lemmas.List.{map-set, map-append, drop-set-lt, take_more_set, length-map, get_or-map}
+use Rattle.std.proofs.lemmas.List.{map-set, map-append, drop-set-lt, take_more_set}
 use Rattle.text_pieces.specs.Chunks.{Numbers, Replacement, exchanged, no_numbers, ArePlaces}
 
 module _ {V C : Type 0} (f : V → Numbers) (s : C → Replacement) where

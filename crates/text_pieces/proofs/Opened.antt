@@ -1,10 +1,9 @@
 -- A text that is read to its end.
-use Rattle.std.proofs.Common.{◌≡◌, ◌≤◌, ◌<◌, ℕ, ◌+◌, zero, suc, true, false, List, [], ◌∷◌, ◌++◌, length, drop, map, Option, None, Result, Ok, Err, rules, refl, sym, ap, ◌∙◌, subst, append_assoc, arith, length-append, IsOk}
+use Rattle.std.proofs.Common.{◌≡◌, ◌≤◌, ◌<◌, ℕ, true, false, List, [], ◌∷◌, ◌++◌, length, drop, map, Option, None, Ok, Err, rules, refl, sym, ap, ◌∙◌, subst, arith, length-append, IsOk}
 use Rattle.std.specs.Prelude.{nat_lt}
 use Rattle.std.specs.List.{concat}
 use Rattle.std.proofs.lemmas.Bool.Decides.{nat_tests}
 use Rattle.design_model.specs.declared.TheConstants.{MAX_TEXT}
-use Rattle.design_model.specs.declared.fault.Fault as fault
 use Rattle.design_model.specs.declared.fault.FaultCode.TheVariants.{TooLong}
 use Rattle.design_model.specs.declared.fault.ReadError.{ReadError}
 use Rattle.design_model.specs.declared.fault.ReadError.TheVariants.{Fault, Memory}
@@ -13,15 +12,14 @@ use Rattle.design_model.specs.declared.mode.Mode.{Mode}
 use Rattle.design_model.specs.declared.mode.Mode.TheVariants.{Top}
 use Rattle.statement_model.specs.Tokens.{tokens, left_from}
 use Rattle.statement_model.specs.Reading.{read_at, read_from, read_text}
-use Rattle.def_grammar.specs.Records.{Record, def}
+use Rattle.def_grammar.specs.Records.{def}
 use Rattle.piece_laws.specs.PieceLaws.{TailsAreFound}
 use Rattle.piece_laws.specs.PlaceLaws.{TextsAreRead}
 use Rattle.piece_laws.specs.Pieces.{keyless, AreApart, IsTail}
 use Rattle.text_pieces.specs.Chunks.{Numbers, all_ids}
 use Rattle.text_pieces.specs.Content.{Content, IsText, Opens, bytes_of, read_keyless, text_of}
-use Rattle.text_pieces.specs.Opening.{AreRead, IsOpened, ReadsChunk}
+use Rattle.text_pieces.specs.Opening.{IsOpened, ReadsChunk}
 use Rattle.text_pieces.specs.Tables.{Kept, kept_at, weight}
-use Rattle.text_pieces.specs.declared.opening.Part.{Part}
 use Rattle.text_pieces.proofs.ReadPieces.{left_at, read_start}
 
 -- the pieces of numbers have as many bytes as they have joined

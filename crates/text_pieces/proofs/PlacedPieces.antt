@@ -1,6 +1,6 @@
 -- Where the statements of pieces stand.
-use Rattle.std.proofs.Common.{◌≡◌, ◌≤◌, ◌<◌, ◌+◌, ◌-◌, ℕ, zero, suc, true, false, Bool, List, [], ◌∷◌, ◌++◌, length, map, take, drop, Option, Some, None, Ok, refl, sym, ap, ap₂, ◌∙◌, subst, ⊎_elim, append_assoc, add_assoc, arith, length-append, slice_range}
-use Rattle.std.specs.Prelude.{nat_le, nat_lt, option_map, if◌then◌else◌, ◌&&◌, ◌==◌}
+use Rattle.std.proofs.Common.{◌≡◌, ◌≤◌, ◌<◌, ◌+◌, ◌-◌, ℕ, suc, true, false, Bool, List, [], ◌∷◌, ◌++◌, length, map, take, drop, Option, Some, None, Ok, refl, sym, ap, ap₂, ◌∙◌, ⊎_elim, append_assoc, add_assoc, arith, slice_range}
+use Rattle.std.specs.Prelude.{nat_le, option_map, if◌then◌else◌, ◌==◌}
 use Rattle.std.specs.Bool.{then_some}
 use Rattle.std.specs.List.{concat, zip}
 use Rattle.std.proofs.lemmas.Bool.{cases_eq, cases_lt}
@@ -19,9 +19,9 @@ use Rattle.def_grammar.specs.Records.{Record, def}
 use Rattle.piece_laws.specs.PlaceLaws.{TextsAreRead, placed_pieces}
 use Rattle.piece_laws.specs.Pieces.{AreChained, IsPiece, modes_from}
 use Rattle.piece_laws.proofs.FoundPieces.{end_moved}
-use Rattle.text_pieces.specs.Chunks.{IsAbsent, all_ids}
+use Rattle.text_pieces.specs.Chunks.{IsAbsent}
 use Rattle.text_pieces.specs.Content.{Content, IsText, bytes_of, read_keyless, text_of}
-use Rattle.text_pieces.specs.Statements.{bytes_in, holds, lead, look_up, modes_by_number, modes_of, number_at, spans_by_number, spans_of, statements_of}
+use Rattle.text_pieces.specs.Statements.{bytes_in, lead, look_up, modes_by_number, number_at, spans_by_number, statements_of}
 use Rattle.text_pieces.specs.Tables.{Kept, Stands, ids_of, kept_at, kept_or, piece_at, standing, start_in, weight}
 use Rattle.text_pieces.proofs.Ids.{differ, same}
 use Rattle.text_pieces.proofs.Opened.{read_is, weight_is}
@@ -196,14 +196,14 @@ module _ (law : TextsAreRead def) (c : Content) (t : IsText c) where
       let start : start_in c.table.slots 0 id (ids_of c.table) ≡ Some (0 + n) = ap (start_in c.table.slots 0 id) s.is ∙ start_is c.table.slots 0 id s.before s.after s.first in
       let place : 0 + n ≡ n = omega arith in
       let pieces : bytes_of (map (kept_at c.table.slots) (ids_of c.table)) ≡ bytes_of (map (kept_at c.table.slots) s.before) ++ b ∷ bytes_of (map (kept_at c.table.slots) s.after) =
-          ap (λ (l : List StmtId). bytes_of (map (kept_at c.table.slots) l)) s.is
-          ∙ ap bytes_of (map-append (kept_at c.table.slots) s.before (id ∷ s.after))
-          ∙ map-append (λ (k : Kept). k.bytes) (map (kept_at c.table.slots) s.before) (map (kept_at c.table.slots) (id ∷ s.after)) in
+      ap (λ (l : List StmtId). bytes_of (map (kept_at c.table.slots) l)) s.is
+      ∙ ap bytes_of (map-append (kept_at c.table.slots) s.before (id ∷ s.after))
+      ∙ map-append (λ (k : Kept). k.bytes) (map (kept_at c.table.slots) s.before) (map (kept_at c.table.slots) (id ∷ s.after)) in
       let whole : text_of c ≡ front ++ (b ++ (rest ++ c.tail)) =
-          ap (λ (l : List (List ℕ)). concat l ++ c.tail) pieces
-          ∙ ap (λ (u : List ℕ). u ++ c.tail) (concat-append (bytes_of (map (kept_at c.table.slots) s.before)) (b ∷ bytes_of (map (kept_at c.table.slots) s.after)))
-          ∙ append_assoc front (b ++ rest) c.tail
-          ∙ ap (λ (u : List ℕ). front ++ u) (append_assoc b rest c.tail) in
+      ap (λ (l : List (List ℕ)). concat l ++ c.tail) pieces
+      ∙ ap (λ (u : List ℕ). u ++ c.tail) (concat-append (bytes_of (map (kept_at c.table.slots) s.before)) (b ∷ bytes_of (map (kept_at c.table.slots) s.after)))
+      ∙ append_assoc front (b ++ rest) c.tail
+      ∙ ap (λ (u : List ℕ). front ++ u) (append_assoc b rest c.tail) in
       let long : n ≡ length front = sym (weight_is c.table.slots s.before) in
       ap (option_map (bytes_in (text_of c))) (span_is id ∙ ap (option_map (λ m. piece_span m b)) (start ∙ ap (λ (m : ℕ). Some m) place))
       ∙ ap (λ (u : List ℕ). Some (slice_range u (n + lead b) (n + length b))) whole

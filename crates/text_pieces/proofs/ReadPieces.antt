@@ -1,5 +1,5 @@
 -- How far a text is read, piece by piece.
-use Rattle.std.proofs.Common.{◌≡◌, ◌≤◌, ◌<◌, ℕ, ◌+◌, ◌-◌, List, [], ◌∷◌, ◌++◌, length, drop, map, Result, Ok, Err, refl, sym, ap, ap₂, ◌∙◌, subst, append_assoc, append-nil, arith, length-append, drop_at, slice_range}
+use Rattle.std.proofs.Common.{◌≡◌, ◌≤◌, ◌<◌, ℕ, ◌+◌, ◌-◌, List, [], ◌∷◌, ◌++◌, length, drop, Result, Ok, Err, refl, sym, ap, ap₂, ◌∙◌, subst, append_assoc, append-nil, arith, length-append, drop_at, slice_range}
 use Rattle.std.specs.List.{concat, fold}
 use Rattle.std.proofs.lemmas.List.{take-append-drop, length-drop, length-take, drop-drop, map-append}
 use Rattle.std.proofs.lemmas.List.Folds.{concat-append}

@@ -1,5 +1,5 @@
 -- What is kept under numbers.
-use Rattle.std.proofs.Common.{◌≡◌, ◌≢◌, ◌<◌, ◌≤◌, ◌+◌, ℕ, zero, suc, List, [], ◌∷◌, ◌++◌, length, get_or, take, drop, map, Option, Some, None, refl, sym, ap, ◌∙◌, subst, ⊎_elim, arith}
+use Rattle.std.proofs.Common.{◌≡◌, ◌≢◌, ◌<◌, ◌≤◌, ◌+◌, ℕ, zero, suc, List, [], ◌∷◌, length, get_or, take, map, Option, Some, None, refl, sym, ap, ◌∙◌, subst, ⊎_elim, arith}
 use Rattle.std.specs.Prelude.{option_map}
 use Rattle.std.proofs.lemmas.Bool.{cases_eq}
 use Rattle.std.proofs.lemmas.List.{get_or_past}
@@ -20,15 +20,17 @@ module _ (slots : List (Option Kept)) where
   -- a number of another chunk isn't one of this chunk
   absent_home : (k : ℕ) (ids : List StmtId) (id : StmtId) (p : Kept) → AreHome slots k ids → slot slots id ≡ Some p → (p.chunk ≢ k) → IsAbsent id ids
   absent_home k [] id p h held apart = tt
-  absent_home k (x ∷ xs) id p h held apart =
-      (λ e. let s : Some p ≡ Some (kept_at slots x) = sym held ∙ same_slot id x e ∙ h.0 in let t : p ≡ kept_at slots x = cc in apart (ap (λ (q : Kept). q.chunk) t ∙ h.1),
-      absent_home k xs id p h.2 held apart)
+  absent_home k (x ∷ xs) id p h held apart = (
+    λ e. let s : Some p ≡ Some (kept_at slots x) = sym held ∙ same_slot id x e ∙ h.0 in let t : p ≡ kept_at slots x = cc in apart (ap (λ (q : Kept). q.chunk) t ∙ h.1),
+    absent_home k xs id p h.2 held apart,
+  )
 
   unheld_home : (k : ℕ) (ids : List StmtId) (id : StmtId) → AreHome slots k ids → slot slots id ≡ None → IsAbsent id ids
   unheld_home k [] id h none = tt
-  unheld_home k (x ∷ xs) id h none =
-      (λ e. let s : None ≡ Some (kept_at slots x) = sym none ∙ same_slot id x e ∙ h.0 in absurd (cc),
-      unheld_home k xs id h.2 none)
+  unheld_home k (x ∷ xs) id h none = (
+    λ e. let s : None ≡ Some (kept_at slots x) = sym none ∙ same_slot id x e ∙ h.0 in absurd (cc),
+    unheld_home k xs id h.2 none,
+  )
 
   -- a number under which nothing is kept doesn't stand
   pub unheld : (k : ℕ) (cs : List Numbers) (id : StmtId) → AreChunks slots k cs → slot slots id ≡ None → IsAbsent id (all_ids cs)

@@ -1,5 +1,5 @@
 -- Pieces that are put behind others, under numbers that were free.
-use Rattle.std.proofs.Common.{◌≡◌, ◌≢◌, ◌≤◌, ◌<◌, ℕ, zero, suc, ◌+◌, ◌-◌, List, [], ◌∷◌, ◌++◌, length, get_or, map, Option, Some, None, refl, sym, ap, ap₂, ◌∙◌, subst, append_assoc, append-nil, arith, length-append, slice_range}
+use Rattle.std.proofs.Common.{◌≡◌, ◌≢◌, ◌≤◌, ℕ, suc, ◌+◌, ◌-◌, List, [], ◌∷◌, ◌++◌, length, get_or, map, Option, Some, None, refl, sym, ap, ap₂, ◌∙◌, subst, append_assoc, append-nil, arith, slice_range}
 use Rattle.std.specs.Prelude.{option_map}
 use Rattle.std.proofs.lemmas.List.{map-append}
 use Rattle.slab.specs.Slab.{Slab, Updates, get}
@@ -104,7 +104,7 @@ module _ (text : List ℕ) (front : List Numbers) (ids : List StmtId) (old new :
       let stays = chunks_stay old new s.stays 0 before o.chunks in
       let last = chunk_last new 0 front (numbers_of ids (pos - from)) stays in
       let ks : map (kept_at new) (all_ids before ++ id ∷ []) ≡ map (kept_at old) (all_ids before) ++ k ∷ [] =
-          map-append (kept_at new) (all_ids before) (id ∷ []) ∙ ap₂ (λ (ps : List Kept) (p : Kept). ps ++ p ∷ []) (all_stay old new s.stays 0 before o.chunks) own in
+      map-append (kept_at new) (all_ids before) (id ∷ []) ∙ ap₂ (λ (ps : List Kept) (p : Kept). ps ++ p ∷ []) (all_stay old new s.stays 0 before o.chunks) own in
       let home : AreHome new (0 + length front) (id ∷ []) = (s.held ∙ ap (λ (p : Kept). Some p) (sym own), ap (λ (p : Kept). p.chunk) own ∙ chunk ∙ omega arith, tt) in
       let long = range_long text pos end piece.0 piece.1 in
       let bytes_long : length (kept_at new id).bytes ≡ length k.bytes = ap (λ (p : Kept). length p.bytes) own in
@@ -125,7 +125,7 @@ stores_is old mid new key p bytes same free updates is =
       free = slot_map kept old.slots key ∙ ap (option_map kept) none;
       held = slot_map kept new.slots key ∙ ap (option_map kept) updates.changed ∙ ap (λ (b : List ℕ). Some (record { mode = p.mode; bytes = b; chunk = p.chunk })) is;
       stays = λ n k h.
-        let was : option_map kept (get_or old.slots n None) ≡ Some k = sym (slot_map kept old.slots n) ∙ h in
-        let apart : n ≢ key = λ (e : n ≡ key). let gone : None ≡ Some k = ap (option_map kept) (sym none) ∙ ap (λ (m : ℕ). option_map kept (get_or old.slots m None)) (sym e) ∙ was in absurd (cc) in
-        slot_map kept new.slots n ∙ ap (option_map kept) (updates.others n apart ∙ ap (λ (l : List (Option (Piece _))). get_or l n None) same) ∙ was;
+          let was : option_map kept (get_or old.slots n None) ≡ Some k = sym (slot_map kept old.slots n) ∙ h in
+          let apart : n ≢ key = λ (e : n ≡ key). let gone : None ≡ Some k = ap (option_map kept) (sym none) ∙ ap (λ (m : ℕ). option_map kept (get_or old.slots m None)) (sym e) ∙ was in absurd (cc) in
+          slot_map kept new.slots n ∙ ap (option_map kept) (updates.others n apart ∙ ap (λ (l : List (Option (Piece _))). get_or l n None) same) ∙ was;
     }

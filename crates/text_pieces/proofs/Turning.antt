@@ -1,5 +1,5 @@
 -- A change that is taken back.
-use Rattle.std.proofs.Common.{◌≡◌, ◌≢◌, ◌<◌, ℕ, List, [], ◌∷◌, length, sym, ap, ◌∙◌, subst, set}
+use Rattle.std.proofs.Common.{◌≡◌, ℕ, List, [], ◌∷◌, length, sym, ap, ◌∙◌, subst, set}
 use Rattle.text_pieces.specs.Changes.{Prepared, changed, back, IsBetween}
 use Rattle.text_pieces.specs.Chunks.{Numbers, Replacement, exchanged, IsElsewhere, ArePlaces}
 use Rattle.text_pieces.specs.Content.{Content, IsText}

@@ -1,5 +1,5 @@
 -- Parts that are written one after the other.
-use Rattle.std.proofs.Common.{◌≡◌, ◌<◌, ◌≤◌, ◌+◌, ℕ, List, [], ◌++◌, Option, Some, None, Result, Ok, Err, OnErr, inl, inr, refl, sym, ap, ◌∙◌, ⊎_elim, append_assoc, append-nil, arith}
+use Rattle.std.proofs.Common.{ℕ, List, [], ◌++◌, Option, Some, None, Result, Ok, Err, OnErr, inl, inr, refl, sym, ap, ◌∙◌, ⊎_elim, append_assoc, append-nil, arith}
 use Rattle.std.specs.Io.KnownBytes.{Appends}
 use Rattle.counted_devices.specs.Counting.{HasFailed, one_more}
 use Rattle.counted_devices.specs.Known.{WritesPart}
@@ -30,9 +30,10 @@ pub part_on : (a b c : Option (List ℕ)) (xs ys : List ℕ) → Appends a b xs 
 part_on a b c xs ys h k = (xs ++ k.0, k.1, ap (λ (t : List ℕ). xs ++ t) k.2 ∙ sym (append_assoc xs k.0 k.1), appends_on a b c xs k.0 h k.3)
 
 fails_on : (a b c : Writer) (xs : List ℕ) → WritesAll a b xs → HasFailed b.hard c.hard b.failed c.failed b.patience → HasFailed a.hard c.hard a.failed c.failed a.patience
-fails_on a b c xs h k =
-    (omega (arith, h.rises, k.0),
-    ⊎_elim (λ e. inl (e ∙ ap one_more h.hard)) (λ e. inr (e.0 ∙ h.hard, omega (arith, e.1, h.spent))) k.1)
+fails_on a b c xs h k = (
+  omega (arith, h.rises, k.0),
+  ⊎_elim (λ e. inl (e ∙ ap one_more h.hard)) (λ e. inr (e.0 ∙ h.hard, omega (arith, e.1, h.spent))) k.1,
+)
 
 -- the writer fails in a later part, or in the first
 pub broke_on : (a b c : Writer) (xs ys : List ℕ) → WritesAll a b xs → BreaksOff b c ys → BreaksOff a c (xs ++ ys)

@@ -1,5 +1,5 @@
 -- The numbers of statements in chunks, and chunks that take the places of others, and back.
-use Rattle.std.specs.Prelude.{◌≡◌, ◌≢◌, ◌+◌, ◌<◌, ℕ, List, [], ◌∷◌, ◌++◌, length, take, drop, map, slice_set, slice_index_or, Option, Some, None, MatchOption, if◌then◌else◌, ◌==◌}
+use Rattle.std.specs.Prelude.{◌≡◌, ◌≢◌, ◌+◌, ◌<◌, ℕ, List, [], ◌∷◌, ◌++◌, length, take, drop, slice_set, slice_index_or, Option, Some, None, MatchOption, if◌then◌else◌, ◌==◌}
 use Rattle.design_model.specs.declared.identifier.StmtId.{StmtId}
 use Rattle.text_pieces.specs.declared.chunks.Chunk.{Chunk}
 use Rattle.text_pieces.specs.declared.chunks.Change.{Change}

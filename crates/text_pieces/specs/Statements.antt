@@ -1,5 +1,5 @@
 -- The statements of a text in pieces, under their numbers.
-use Rattle.std.specs.Prelude.{◌≡◌, ◌+◌, ℕ, Bool, ◌&&◌, ◌==◌, nat_le, nat_lt, List, [], ◌∷◌, length, map, Option, Some, None, if◌then◌else◌}
+use Rattle.std.specs.Prelude.{ℕ, Bool, ◌&&◌, ◌==◌, nat_le, nat_lt, List, [], ◌∷◌, map, Option, Some, None, if◌then◌else◌}
 use Rattle.std.specs.List.{slice_range, zip}
 use Rattle.std.specs.Borrow.{Bor}
 use Rattle.design_model.specs.declared.identifier.StmtId.{StmtId}

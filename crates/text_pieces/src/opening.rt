@@ -80,13 +80,29 @@ pub(crate) fn read_chunk<A: Allocator + Copy>(
     let mut pos = from;
     'statements: while ids.len() < CHUNK {
         let Some((end, after)) = next_piece(mode, text, pos)? else {
-            let chunk = Chunk { ids, len: pos - from };
-            return Ok(Part { chunk, mode, pos, is_last: true });
+            let chunk = Chunk {
+                ids,
+                len: pos - from,
+            };
+            return Ok(Part {
+                chunk,
+                mode,
+                pos,
+                is_last: true,
+            });
         };
         store(alloc, pieces, &mut ids, &text[pos..end], mode, number)?;
         mode = after;
         pos = end;
     }
-    let chunk = Chunk { ids, len: pos - from };
-    Ok(Part { chunk, mode, pos, is_last: false })
+    let chunk = Chunk {
+        ids,
+        len: pos - from,
+    };
+    Ok(Part {
+        chunk,
+        mode,
+        pos,
+        is_last: false,
+    })
 }

@@ -84,7 +84,13 @@ impl<A: Allocator> PieceTable<A> {
 
     /// The statement whose piece has a position, among some numbers of which the first's piece begins at a position, and where
     /// its piece begins.
-    fn at_in(&self, ids: &[StmtId], chunk: usize, from: usize, pos: usize) -> Option<(StmtId, usize)>
+    fn at_in(
+        &self,
+        ids: &[StmtId],
+        chunk: usize,
+        from: usize,
+        pos: usize,
+    ) -> Option<(StmtId, usize)>
         requires kept { AreHome (table_of self.now).slots chunk ids.now }
         requires fits { from + weight (table_of self.now).slots ids.now ≤ MAX_TEXT }
         ensures { result ≡ piece_at (table_of self.now).slots from pos ids.now }

@@ -22,13 +22,11 @@ fn write_ids<A: Allocator, W: CountedWrite>(
 ) -> Result<(), WriteFault>
     requires kept { AreHome (table_of table.now).slots chunk ids.now }
     requires few { W.failed out.old + patience.old < 2 ^ 63 + 2 ^ 32 }
-    ensures {
-      Writes
-      (record { contents = W.contents out.old; hard = W.failed_hard out.old; failed = W.failed out.old; patience = patience.old })
-      (record { contents = W.contents out.new; hard = W.failed_hard out.new; failed = W.failed out.new; patience = patience.new })
-      (concat (bytes_of (map (kept_at (table_of table.now).slots) ids.now)))
-      result
-    }
+    ensures { Writes
+        (record { contents = W.contents out.old; hard = W.failed_hard out.old; failed = W.failed out.old; patience = patience.old })
+        (record { contents = W.contents out.new; hard = W.failed_hard out.new; failed = W.failed out.new; patience = patience.new })
+        (concat (bytes_of (map (kept_at (table_of table.now).slots) ids.now)))
+        result }
 {
     for id in ids {
         write_whole(out, &table.pieces[id.0].bytes, patience)?;
@@ -44,13 +42,11 @@ pub(crate) fn write_pieces<A: Allocator, W: CountedWrite>(
 ) -> Result<(), WriteFault>
     requires table { IsTable (table_of table.now) }
     requires few { W.failed out.old + patience.old < 2 ^ 63 + 2 ^ 32 }
-    ensures {
-      Writes
-      (record { contents = W.contents out.old; hard = W.failed_hard out.old; failed = W.failed out.old; patience = patience.old })
-      (record { contents = W.contents out.new; hard = W.failed_hard out.new; failed = W.failed out.new; patience = patience.new })
-      (concat (bytes_of (standing (table_of table.now))))
-      result
-    }
+    ensures { Writes
+        (record { contents = W.contents out.old; hard = W.failed_hard out.old; failed = W.failed out.old; patience = patience.old })
+        (record { contents = W.contents out.new; hard = W.failed_hard out.new; failed = W.failed out.new; patience = patience.new })
+        (concat (bytes_of (standing (table_of table.now))))
+        result }
 {
     for k in 0..table.chunks.len() {
         write_ids(table, &table.chunks[k].ids, k, out, patience)?;

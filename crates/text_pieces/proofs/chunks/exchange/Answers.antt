@@ -1,4 +1,4 @@
-use Rattle.std.proofs.Common.{◌≡◌, ◌<◌, length, refl, sym, ap, ◌∙◌, arith, get_or}
+use Rattle.std.proofs.Common.{◌<◌, length, refl, sym, ap, ◌∙◌, arith, get_or}
 use Rattle.std.proofs.lemmas.List.{get_or_default, get_or-map}
 use Rattle.text_pieces.specs.Chunks.{no_numbers, shown, shown_change}
 use Rattle.text_pieces.proofs.Going.{turn, place_below}

@@ -1,4 +1,4 @@
-use Rattle.std.proofs.Common.{◌≡◌, ◌<◌, ◌≤◌, ◌+◌, ◌-◌, ◌∙◌, sym, length, map, arith}
+use Rattle.std.proofs.Common.{◌<◌, ◌≤◌, ◌∙◌, sym, length, map, arith}
 use Rattle.std.proofs.lemmas.List.{length-map}
 use Rattle.text_pieces.specs.Chunks.{shown}
 use Rattle.text_pieces.proofs.Ids.{first_found, first_none}

@@ -1,4 +1,4 @@
-use Rattle.std.proofs.Common.{◌≡◌, ◌≤◌, ◌+◌, ◌-◌, [], ◌∷◌, refl, sym, ap, length, map, arith, length-append}
+use Rattle.std.proofs.Common.{◌≡◌, ◌-◌, [], ◌∷◌, refl, sym, ap, length, map, arith, length-append}
 use Rattle.std.specs.Prelude.{option_map}
 use Rattle.std.proofs.lemmas.Result.{err_from_is_err_and}
 use Rattle.text_pieces.specs.Tables.{kept}
@@ -21,9 +21,12 @@ statements-preserved g c =
     let new = map (option_map kept) c.store.new.pieces.slots in
     let piece = rw c.in-Some.is at c.in_ok-end.ensures in
     let stored = c.in_ok-store.ensures in
-    let long = ap length stored.1 in
-    (omega (arith, i.0, piece.0, long, length-append s.ids.items (stored.0 ∷ [])), piece.1, λ front n o.
-    rw stored.1 (opened_more text front s.ids.items old new s.mode c.args.from s.pos c.chains_join.ensures c.chains_lead.ensures (i.2 front n o) (omega (arith, i.0)) c.in-Some.end c.in-Some.after _ stored.0 piece refl refl (sym n) stored.2))
+    let long = ap length stored.1 in (
+      omega (arith, i.0, piece.0, long, length-append s.ids.items (stored.0 ∷ [])),
+      piece.1,
+      λ front n o.
+          rw stored.1 (opened_more text front s.ids.items old new s.mode c.args.from s.pos c.chains_join.ensures c.chains_lead.ensures (i.2 front n o) (omega (arith, i.0)) c.in-Some.end c.in-Some.after _ stored.0 piece refl refl (sym n) stored.2),
+    )
 
 pub returns-in_err-end-clause-reads : goal.returns-in_err-end-clause-reads
 returns-in_err-end-clause-reads g c =

@@ -1,4 +1,4 @@
-use Rattle.std.proofs.Common.{◌≡◌, ◌≤◌, ◌+◌, ◌-◌, ℕ, List, [], ◌∷◌, ◌++◌, length, map}
+use Rattle.std.proofs.Common.{◌≡◌, ◌≤◌, ◌+◌, ◌-◌, List, [], ◌∷◌, ◌++◌, length, map}
 use Rattle.std.specs.Prelude.{option_map}
 use Rattle.text_pieces.specs.Chunks.{Numbers}
 use Rattle.text_pieces.specs.Opening.{IsOpened}

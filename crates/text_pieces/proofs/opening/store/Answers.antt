@@ -1,4 +1,4 @@
-use Rattle.std.proofs.Common.{sym, ap}
+use Rattle.std.proofs.Common.{ap}
 use Rattle.text_pieces.proofs.Storing.{stores_is}
 use Rattle.text_pieces.proofs.opening.store.Goals as goal
 

@@ -1,4 +1,4 @@
-use Rattle.std.proofs.Common.{◌≤◌, ◌+◌, ◌-◌, length, map}
+use Rattle.std.proofs.Common.{◌≤◌, ◌-◌, length, map}
 use Rattle.std.specs.Prelude.{option_map}
 use Rattle.text_pieces.specs.Chunks.{shown}
 use Rattle.text_pieces.specs.Opening.{IsOpened}

@@ -1,4 +1,4 @@
-use Rattle.std.proofs.Common.{◌≡◌, ◌+◌, ◌≤◌, drop, map}
+use Rattle.std.proofs.Common.{◌≡◌, ◌+◌, drop, map}
 use Rattle.std.specs.Prelude.{option_map}
 use Rattle.text_pieces.specs.Tables.{kept, piece_at, weight}
 use Rattle.text_pieces.proofs.table.PieceTable.at_in.Given as goal

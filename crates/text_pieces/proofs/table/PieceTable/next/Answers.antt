@@ -1,6 +1,6 @@
-use Rattle.std.proofs.Common.{◌≡◌, ◌<◌, ◌≤◌, ◌+◌, ◌∙◌, List, sym, ap, length, map, take, drop, arith}
+use Rattle.std.proofs.Common.{◌<◌, ◌+◌, ◌∙◌, sym, ap, length, map, drop, arith}
 use Rattle.std.proofs.lemmas.List.{length-map}
-use Rattle.text_pieces.specs.Chunks.{shown, all_ids, first_id, last_id}
+use Rattle.text_pieces.specs.Chunks.{shown, all_ids, first_id}
 use Rattle.text_pieces.proofs.Ids.{none_after}
 use Rattle.text_pieces.proofs.Neighbours.{next_inside, next_outside}
 use Rattle.text_pieces.proofs.Shown.{shown_at}

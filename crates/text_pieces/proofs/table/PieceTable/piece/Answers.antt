@@ -14,10 +14,12 @@ returns g c =
     let s = c.in_ok-_place.ensures in
     let cs = map shown c.args.self.now.chunks.items in
     let k = c.in_ok-_place._place.0 in
-    let i = c.in_ok-_place._place.1 in
-    (sym (kept_is c.args.self.now.pieces.slots c.args.id _ c.index.ensures), record {
-      before = ids_before cs k i;
-      after = ids_after cs k i;
-      is = s.is;
-      first = absent_before c.args.id (ids_before cs k i) (ids_after cs k i) (subst (λ (l : List StmtId). AreOnce l) s.is c.requires.once);
-    })
+    let i = c.in_ok-_place._place.1 in (
+      sym (kept_is c.args.self.now.pieces.slots c.args.id _ c.index.ensures),
+      record {
+        before = ids_before cs k i;
+        after = ids_after cs k i;
+        is = s.is;
+        first = absent_before c.args.id (ids_before cs k i) (ids_after cs k i) (subst (λ (l : List StmtId). AreOnce l) s.is c.requires.once);
+      },
+    )

@@ -1,11 +1,11 @@
-use Rattle.std.proofs.Common.{◌≡◌, ◌≢◌, ◌<◌, ◌≤◌, ◌+◌, ◌∙◌, ℕ, Some, None, List, sym, ap, length, map, subst, arith}
+use Rattle.std.proofs.Common.{◌<◌, ◌≤◌, ◌∙◌, Some, sym, ap, length, map, arith}
 use Rattle.std.specs.Prelude.{option_map}
 use Rattle.std.proofs.lemmas.Bool.Decides.{nat_tests}
 use Rattle.std.proofs.lemmas.List.{length-map}
-use Rattle.text_pieces.specs.Chunks.{Numbers, shown, no_numbers, ids_at, IsAbsent}
-use Rattle.text_pieces.specs.Tables.{Kept, kept, slot, kept_at, kept_or}
+use Rattle.text_pieces.specs.Chunks.{Numbers, shown}
+use Rattle.text_pieces.specs.Tables.{kept, kept_or}
 use Rattle.text_pieces.proofs.Shown.{shown_at, slot_is}
-use Rattle.text_pieces.proofs.Slots.{unheld, absent_elsewhere, absent_past, absent_own}
+use Rattle.text_pieces.proofs.Slots.{unheld, absent_past, absent_own}
 use Rattle.text_pieces.proofs.Ids.{stands_in_all}
 use Rattle.text_pieces.proofs.table.PieceTable.place.Goals as goal
 

@@ -1,6 +1,5 @@
 use Rattle.std.proofs.Common.{◌∙◌, Some, sym, ap}
-use Rattle.design_model.specs.declared.mode.Mode.{Mode}
-use Rattle.text_pieces.specs.Tables.{Kept, table_of}
+use Rattle.text_pieces.specs.Tables.{Kept}
 use Rattle.text_pieces.proofs.PlacedPieces.{mode_none, mode_some}
 use Rattle.text_pieces.proofs.text.TextPieces.mode.Goals as goal
 

@@ -38,6 +38,6 @@ returns g c =
     let own = kept_is c.self.inside.table.pieces.slots id _ c.index.ensures in
     let first : c.lead.result ≡ lead (kept_at slots id).bytes = c.lead.ensures.lead ∙ ap lead c.deref.ensures.value ∙ sym (ap (λ (k : Kept). lead k.bytes) own) in
     rw (← c.self.view_is) (
-      ap (λ (n : ℕ). Some (start + n)) first
-      ∙ ap (λ (o : Option ℕ). option_map (λ (s : Span). s.lo) (option_map (λ (n : ℕ). piece_span n (kept_at slots id).bytes) o)) c.in_ok-start.ensures
-      ∙ sym (ap (option_map (λ (s : Span). s.lo)) (span_is c.texts_are_read.ensures _ c.self.invariant id)))
+    ap (λ (n : ℕ). Some (start + n)) first
+    ∙ ap (λ (o : Option ℕ). option_map (λ (s : Span). s.lo) (option_map (λ (n : ℕ). piece_span n (kept_at slots id).bytes) o)) c.in_ok-start.ensures
+    ∙ sym (ap (option_map (λ (s : Span). s.lo)) (span_is c.texts_are_read.ensures _ c.self.invariant id)))

@@ -11,7 +11,7 @@ pub returns-in_err-piece : goal.returns-in_err-piece
 returns-in_err-piece g c =
     let slots = map (option_map kept) c.self.inside.table.pieces.slots in
     rw (c.from_residual.ensures, ← c.self.view_is) (
-      sym (ap (option_map (bytes_in _)) (no_statement c.texts_are_read.ensures _ c.self.invariant c.args.id (no_start slots 0 c.args.id _ c.in_err-piece.ensures))))
+    sym (ap (option_map (bytes_in _)) (no_statement c.texts_are_read.ensures _ c.self.invariant c.args.id (no_start slots 0 c.args.id _ c.in_err-piece.ensures))))
 
 pub returns : goal.returns
 returns g c =
@@ -24,5 +24,5 @@ returns g c =
     let first : c.lead.result ≡ lead bytes = c.lead.ensures.lead ∙ ap lead lent in
     let low : lead bytes ≤ length bytes = omega (arith, first, c.lead.ensures.within, ap length lent) in
     rw (← c.self.view_is) (
-      ap (λ (l : List ℕ). Some l) (take_rest c.deref.result.now c.lead.result ∙ ap₂ (λ (n : ℕ) (l : List ℕ). drop n l) first own)
-      ∙ sym (statement_is c.texts_are_read.ensures _ c.self.invariant id e.1 low))
+    ap (λ (l : List ℕ). Some l) (take_rest c.deref.result.now c.lead.result ∙ ap₂ (λ (n : ℕ) (l : List ℕ). drop n l) first own)
+    ∙ sym (statement_is c.texts_are_read.ensures _ c.self.invariant id e.1 low))

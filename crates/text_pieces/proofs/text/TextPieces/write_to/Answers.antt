@@ -1,4 +1,4 @@
-use Rattle.std.proofs.Common.{◌++◌, ℕ, List, ap, map, subst}
+use Rattle.std.proofs.Common.{ℕ, List, map, subst}
 use Rattle.std.specs.Prelude.{option_map}
 use Rattle.std.proofs.lemmas.Result.{err_from_is_err_and}
 use Rattle.counted_devices.specs.Known.{WritesPart}
@@ -17,6 +17,6 @@ returns-clause-err g c =
     let pieces = joined (map (option_map kept) c.self.inside.table.pieces.slots) (ids_of (table_of c.self.inside.table)) in
     let tail = c.self.inside.tail.items in
     rw (← c.self.view_is) (on_err c.write_whole.result _ _
-      (λ part. part_on (g.W.Write.contents c.args.out.now) (g.W.Write.contents c.write_pieces.new.out) (g.W.Write.contents c.write_whole.new.out) pieces tail c.in_ok-write_pieces.ensures.all
-      (subst (λ (l : List ℕ). WritesPart (g.W.Write.contents c.write_pieces.new.out) (g.W.Write.contents c.write_whole.new.out) l) c.deref.ensures.value part))
-      c.write_whole.ensures.err)
+    (λ part. part_on (g.W.Write.contents c.args.out.now) (g.W.Write.contents c.write_pieces.new.out) (g.W.Write.contents c.write_whole.new.out) pieces tail c.in_ok-write_pieces.ensures.all
+    (subst (λ (l : List ℕ). WritesPart (g.W.Write.contents c.write_pieces.new.out) (g.W.Write.contents c.write_whole.new.out) l) c.deref.ensures.value part))
+    c.write_whole.ensures.err)
