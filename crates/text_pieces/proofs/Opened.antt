@@ -9,13 +9,13 @@ use Rattle.design_model.specs.declared.fault.ReadError.{ReadError}
 use Rattle.design_model.specs.declared.fault.ReadError.TheVariants.{Fault, Memory}
 use Rattle.design_model.specs.declared.identifier.StmtId.{StmtId}
 use Rattle.design_model.specs.declared.mode.Mode.{Mode}
-use Rattle.design_model.specs.declared.mode.Mode.TheVariants.{Top}
+use Rattle.design_model.specs.declared.mode.Mode.TheVariants.{Top, In, Props, After}
 use Rattle.statement_model.specs.Tokens.{tokens, left_from}
 use Rattle.statement_model.specs.Reading.{read_at, read_from, read_text}
-use Rattle.def_grammar.specs.Records.{def}
-use Rattle.piece_laws.specs.PieceLaws.{TailsAreFound}
+use Rattle.def_grammar.specs.Records.{def, is_after}
+use Rattle.piece_laws.specs.PieceLaws.{TailsAreFound, TailsMayEnd}
 use Rattle.piece_laws.specs.PlaceLaws.{TextsAreRead}
-use Rattle.piece_laws.specs.Pieces.{keyless, AreApart, IsTail}
+use Rattle.piece_laws.specs.Pieces.{keyless, AreApart, AreChained, IsTail}
 use Rattle.text_pieces.specs.Chunks.{Numbers, all_ids}
 use Rattle.text_pieces.specs.Content.{Content, IsText, Opens, bytes_of, read_keyless, text_of}
 use Rattle.text_pieces.specs.Opening.{IsOpened, ReadsChunk}
@@ -38,6 +38,12 @@ read_is text fits = let few : nat_lt MAX_TEXT (length text) ≡ false = grind (a
 pub opened_start : (text : List ℕ) → IsOpened text [] [] Top 0
 opened_start text = record { read = read_start text; chunks = tt; once = tt }
 
+pub after_is : (m : Mode) → is_after m ≡ true → m ≡ After
+after_is Top ends = absurd (cc)
+after_is (In s) ends = absurd (cc)
+after_is Props ends = absurd (cc)
+after_is After ends = refl
+
 abbrev content : List Numbers → List (Option Kept) → List ℕ → ℕ → Content
 content chunks slots tail len = record { table = record { chunks = chunks; slots = slots }; tail = tail; len = len }
 
@@ -51,19 +57,20 @@ module _ (text : List ℕ) (cs : List Numbers) (slots : List (Option Kept)) (mod
   pub opened_whole : text_of (content cs slots tail (length text)) ≡ text
   opened_whole = sym (o.read.whole ∙ ap (λ (t : List ℕ). concat (bytes_of (map (kept_at slots) (all_ids cs))) ++ t) tail_is)
 
-  pub opened_text : TailsAreFound def → read_at def mode (left_from text pos) ≡ Ok None → length text ≤ MAX_TEXT → IsText (content cs slots tail (length text))
-  opened_text found ends fits =
+  pub opened_text : TailsAreFound def → TailsMayEnd def → read_at def mode (left_from text pos) ≡ Ok None → length text ≤ MAX_TEXT → IsText (content cs slots tail (length text))
+  opened_text found may_end ends fits =
+      let tail_ends = subst (λ (t : List ℕ). IsTail def mode t) (sym is) (found pos mode (drop pos text) ends) in
+      let last = after_is mode (may_end mode tail tail_ends) in
       let bytes = bytes_of (map (kept_at slots) (all_ids cs)) in
       let long : length text ≡ length (text_of (content cs slots tail (length text))) = ap (λ (t : List ℕ). length t) (sym opened_whole) in
       let heavy = weight_is slots (all_ids cs) in
       record {
         table = record { chunks = o.chunks; once = o.once; fits = omega (arith, long, fits, heavy, length-append (concat bytes) tail) };
         recs = o.read.recs;
-        last = mode;
-        chained = o.read.chained;
+        chained = subst (AreChained def Top bytes o.read.recs) last o.read.chained;
         modes = o.read.modes;
         apart = subst (AreApart bytes) tail_is o.read.apart;
-        ends = subst (λ (t : List ℕ). IsTail def mode t) (sym is) (found pos mode (drop pos text) ends);
+        ends = subst (λ (m : Mode). IsTail def m tail) last tail_ends;
         whole = long;
         fits = omega (arith, long, fits);
       }
@@ -71,7 +78,7 @@ module _ (text : List ℕ) (cs : List Numbers) (slots : List (Option Kept)) (mod
 pub opened_reads : TextsAreRead def → (c : Content) → IsText c → IsOk (read_keyless (text_of c))
 opened_reads law c t =
     let bytes = bytes_of (map (kept_at c.table.slots) (all_ids c.table.chunks)) in
-    let reads = law Top t.last bytes t.recs c.tail t.chained t.apart t.ends in
+    let reads = law Top After bytes t.recs c.tail t.chained t.apart t.ends in
     rw (read_is (text_of c) t.fits, reads.0) (search rules)
 
 -- what a chunk answers that isn't read is what the text answers

@@ -9,7 +9,7 @@ use Rattle.std.proofs.lemmas.List.{map-append, take_at, drop_at, drop-append-le,
 use Rattle.std.proofs.lemmas.List.Folds.{concat-append}
 use Rattle.design_model.specs.declared.identifier.StmtId.{StmtId}
 use Rattle.design_model.specs.declared.mode.Mode.{Mode}
-use Rattle.design_model.specs.declared.mode.Mode.TheVariants.{Top}
+use Rattle.design_model.specs.declared.mode.Mode.TheVariants.{Top, After}
 use Rattle.statement_model.specs.Tokens.{Token, tokens}
 use Rattle.statement_model.specs.Boundaries.{cut}
 use Rattle.lefdef_tokens.specs.Laws.{moved_token}
@@ -142,31 +142,31 @@ part_of front part rest n k is low =
 
 module _ (law : TextsAreRead def) (c : Content) (t : IsText c) where
   located_is : statements_of (text_of c) ≡ placed_pieces 0 (bytes_of (standing c.table)) t.recs
-  located_is = (law Top t.last (bytes_of (standing c.table)) t.recs c.tail t.chained t.apart t.ends).1
+  located_is = (law Top After (bytes_of (standing c.table)) t.recs c.tail t.chained t.apart t.ends).1
 
   -- the text reads as what its statements say, and there are as many as numbers
   pub reads_as : read_keyless (text_of c) ≡ Ok (map (λ x. x.1) (statements_of (text_of c)))
   reads_as =
       read_is (text_of c) t.fits
-      ∙ (law Top t.last (bytes_of (standing c.table)) t.recs c.tail t.chained t.apart t.ends).0
-      ∙ ap (λ (l : List Record). Ok l) (sym (ap (λ (l : List (List Token × Record)). map (λ x. x.1) l) located_is ∙ records_placed 0 Top t.last (bytes_of (standing c.table)) t.recs t.chained))
+      ∙ (law Top After (bytes_of (standing c.table)) t.recs c.tail t.chained t.apart t.ends).0
+      ∙ ap (λ (l : List Record). Ok l) (sym (ap (λ (l : List (List Token × Record)). map (λ x. x.1) l) located_is ∙ records_placed 0 Top After (bytes_of (standing c.table)) t.recs t.chained))
 
   pub as_many : length (ids_of c.table) ≡ length (statements_of (text_of c))
   as_many = sym (
       ap (λ (l : List (List Token × Record)). length l) located_is
-      ∙ many_placed 0 Top t.last (bytes_of (standing c.table)) t.recs t.chained
+      ∙ many_placed 0 Top After (bytes_of (standing c.table)) t.recs t.chained
       ∙ length-map (standing c.table) (λ k. k.bytes)
       ∙ length-map (ids_of c.table) (kept_at c.table.slots))
 
   pub spans_are : spans_by_number c ≡ placed c.table.slots 0 (ids_of c.table)
   spans_are =
       ap (λ (l : List (List Token × Record)). zip (ids_of c.table) (map (λ x. span_of x.0) l)) located_is
-      ∙ spans_placed c.table.slots 0 Top t.last (ids_of c.table) t.recs t.chained
+      ∙ spans_placed c.table.slots 0 Top After (ids_of c.table) t.recs t.chained
 
   modes_are : modes_by_number c ≡ zip (ids_of c.table) (map (λ k. k.mode) (standing c.table))
   modes_are =
       ap (λ (l : List (List Token × Record)). zip (ids_of c.table) (modes_from def Top (map (λ x. x.1) l))) located_is
-      ∙ ap (λ (l : List Record). zip (ids_of c.table) (modes_from def Top l)) (records_placed 0 Top t.last (bytes_of (standing c.table)) t.recs t.chained)
+      ∙ ap (λ (l : List Record). zip (ids_of c.table) (modes_from def Top l)) (records_placed 0 Top After (bytes_of (standing c.table)) t.recs t.chained)
       ∙ ap (λ (l : List Mode). zip (ids_of c.table) l) (sym t.modes)
 
   -- what a number has that doesn't stand, or that does

@@ -5,8 +5,7 @@ use Rattle.design_model.specs.declared.TheConstants.{MAX_TEXT}
 use Rattle.design_model.specs.declared.fault.Fault as fault
 use Rattle.design_model.specs.declared.fault.ReadError.{ReadError}
 use Rattle.design_model.specs.declared.fault.ReadError.TheVariants.{Fault, Memory}
-use Rattle.design_model.specs.declared.mode.Mode.{Mode}
-use Rattle.design_model.specs.declared.mode.Mode.TheVariants.{Top}
+use Rattle.design_model.specs.declared.mode.Mode.TheVariants.{Top, After}
 use Rattle.statement_model.specs.Reading.{read_text}
 use Rattle.def_grammar.specs.Records.{Record, def}
 use Rattle.piece_laws.specs.Pieces.{keyless, AreApart, AreChained, IsTail, modes_from}
@@ -25,15 +24,15 @@ bytes_of = map (λ k. k.bytes)
 abbrev pub text_of : Content → List ℕ
 text_of c = concat (bytes_of (standing c.table)) ++ c.tail
 
--- the pieces are those of a text that reads without its keys, each with the mode in which it stands
+-- the pieces are those of a text that reads without its keys, from its beginning to behind its END DESIGN, each with the mode
+-- in which it stands
 pub record IsText (c : Content) : Type 0 where
   pub table : IsTable c.table
   pub recs : List Record
-  pub last : Mode
-  pub chained : AreChained def Top (bytes_of (standing c.table)) recs last
+  pub chained : AreChained def Top (bytes_of (standing c.table)) recs After
   pub modes : map (λ k. k.mode) (standing c.table) ≡ modes_from def Top recs
   pub apart : AreApart (bytes_of (standing c.table)) c.tail
-  pub ends : IsTail def last c.tail
+  pub ends : IsTail def After c.tail
   pub whole : c.len ≡ length (text_of c)
   pub fits : length (text_of c) ≤ MAX_TEXT
 

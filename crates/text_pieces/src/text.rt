@@ -23,7 +23,7 @@ use design_model::fault::{Fault, FaultCode, ReadError};
 use design_model::identifier::StmtId;
 use design_model::mode::Mode;
 use lefdef_tokens::token_at;
-use piece_laws::pieces::{tails_are_found, texts_are_read};
+use piece_laws::pieces::{tails_are_found, tails_may_end, texts_are_read};
 use slab::Slab;
 use std::alloc::{Allocator, Global};
 use std::marker::Model;
@@ -64,6 +64,7 @@ fn read_all<A: Allocator + Copy>(alloc: A, text: &[u8]) -> Result<TextPieces<A>,
     ensures { Opens text.now result }
 {
     tails_are_found();
+    tails_may_end();
     texts_are_read();
     let mut pieces = Slab::new(alloc);
     let mut chunks = Vec::new(alloc);

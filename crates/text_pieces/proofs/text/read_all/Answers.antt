@@ -31,7 +31,7 @@ invariant_of-result g c =
     let opened = c.in-Ok.ensures.reads cs number s.invariant.1 in
     let items : map shown c.push.new.self.items ≡ cs ++ shown part.chunk ∷ [] = ap (map shown) c.in_ok-push-in-Ok.ensures.items ∙ map-append shown s.chunks.items (part.chunk ∷ []) in
     let rest = c.in_ok-tail-in-Ok.ensures.items ∙ take_rest text part.pos in
-    rw items (opened_text text (cs ++ shown part.chunk ∷ []) (map (option_map kept) c.read_chunk.new.pieces.slots) part.mode part.pos _ opened rest c.tails_are_found.ensures (c.in-Ok.ensures.last.1 c.if-part.true) c.requires)
+    rw items (opened_text text (cs ++ shown part.chunk ∷ []) (map (option_map kept) c.read_chunk.new.pieces.slots) part.mode part.pos _ opened rest c.tails_are_found.ensures c.tails_may_end.ensures (c.in-Ok.ensures.last.1 c.if-part.true) c.requires)
 
 pub returns-then-part : goal.returns-then-part
 returns-then-part g c =
@@ -46,7 +46,7 @@ returns-then-part g c =
     let slots = map (option_map kept) c.read_chunk.new.pieces.slots in
     let front = cs ++ shown part.chunk ∷ [] in
     let whole = opened_whole text front slots part.mode part.pos _ opened rest in
-    let own = opened_text text front slots part.mode part.pos _ opened rest c.tails_are_found.ensures (c.in-Ok.ensures.last.1 c.if-part.true) c.requires in
+    let own = opened_text text front slots part.mode part.pos _ opened rest c.tails_are_found.ensures c.tails_may_end.ensures (c.in-Ok.ensures.last.1 c.if-part.true) c.requires in
     rw items (whole, subst (λ (t : List ℕ). IsOk (read_keyless t)) whole (opened_reads c.texts_are_read.ensures _ own))
 
 pub returns-in-Err : goal.returns-in-Err
