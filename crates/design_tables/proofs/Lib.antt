@@ -1,0 +1,4 @@
+mod ListingLemmas
+mod MarkLemmas
+mod RecordLemmas
+mod TableLemmas

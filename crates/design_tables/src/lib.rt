@@ -1,0 +1,10 @@
+//! Which statements of a DEF text have to do with a name, so that an edit needn't read the text for them.
+#![tactic(auto)]
+
+mod marks;
+mod names;
+mod role;
+mod tables;
+
+pub use role::{Mark, Role};
+pub use tables::{Numbered, Numbers, Tables};
