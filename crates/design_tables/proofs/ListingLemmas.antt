@@ -9,6 +9,7 @@ use Rattle.std.proofs.lemmas.List.{append-nil, map-append}
 use Rattle.std.proofs.lemmas.Slice.Eq.{bytes_eq-Decides}
 use Rattle.indexmap.specs.IndexMap.{IndexMap, insert_entry}
 use Rattle.indexmap.proofs.CallerLemmas.{insert_entry-new}
+use Rattle.design_tables.specs.Changes.{less, or_else_listed}
 use Rattle.design_tables.specs.Listings.{Listing, found, has_name, listed, marks_named, or_unlisted, unlisted, with_marks}
 use Rattle.design_tables.specs.ListingViews.{listing_view, named_view}
 use Rattle.design_tables.specs.declared.names.Listing as code
@@ -65,11 +66,11 @@ module _ {A : Type 0} where
       → map named_view (es ++ (k, l) ∷ []) ≡ map named_view es ++ (name, left) ∷ []
   named_last es k l name left key view = rw (map-append named_view es ((k, l) ∷ []), key, view) refl
 
-  -- a name that a look-up doesn't find gets a place, under which nothing stands
-  pub placed : {S : Type 0} (name : List ℕ) (m : IndexMap (Vec ℕ A) (code.Listing A) S) (k : Vec ℕ A) (l : code.Listing A) (after : List (Vec ℕ A × code.Listing A)) → k.items ≡ name → listing_view l ≡ unlisted
-      → lookup (is_key name) m.entries ≡ None → after ≡ insert_entry (λ (a b : Vec ℕ A). is_key a.items b) m.entries k l → map named_view after ≡ map named_view m.entries ++ (name, unlisted) ∷ []
-  placed name m k l after key view none put =
-      ap (map named_view) (put ∙ insert_entry-new (λ (a b : Vec ℕ A). is_key a.items b) m k l (rw key none)) ∙ named_last m.entries k l name unlisted key view
+  -- a name that a look-up doesn't find gets a place
+  pub placed : {S : Type 0} (name : List ℕ) (left : Listing) (m : IndexMap (Vec ℕ A) (code.Listing A) S) (k : Vec ℕ A) (l : code.Listing A) (after : List (Vec ℕ A × code.Listing A)) → k.items ≡ name → listing_view l ≡ left
+      → lookup (is_key name) m.entries ≡ None → after ≡ insert_entry (λ (a b : Vec ℕ A). is_key a.items b) m.entries k l → map named_view after ≡ map named_view m.entries ++ (name, left) ∷ []
+  placed name left m k l after key view none put =
+      ap (map named_view) (put ∙ insert_entry-new (λ (a b : Vec ℕ A). is_key a.items b) m k l (rw key none)) ∙ named_last m.entries k l name left key view
 
   set_step : (b : Bool) (name : List ℕ) (e : Vec ℕ A × code.Listing A) (es rest : List (Vec ℕ A × code.Listing A)) (l : code.Listing A) (later : List (List ℕ × Listing)) → map named_view rest ≡ later
       → map named_view (cond b ((e.0, l) ∷ es) (e ∷ rest)) ≡ (if b then (e.0.items, listing_view l) ∷ map named_view es else named_view e ∷ later)
@@ -165,3 +166,73 @@ never before es name there none =
     let own = own_name name in
     let stands : (has_name name before || bytes_eq name name) ≡ true = grind arith in
     absurd (true≢false (sym stands ∙ sym there ∙ none))
+
+pub has_set : (es : List (List ℕ × Listing)) (n name : List ℕ) (l : Listing) → has_name n (set_named name l es) ≡ has_name n es
+has_set [] n name l = refl
+has_set (e ∷ es) n name l = by (bytes_eq name e.0) (has_set es n name l)
+  where
+    by : (b : Bool) → has_name n (set_named name l es) ≡ has_name n es → has_name n (if b then (e.0, l) ∷ es else e ∷ set_named name l es) ≡ (bytes_eq n e.0 || has_name n es)
+    by true h = refl
+    by false h = ap (λ d. bytes_eq n e.0 || d) h
+
+found_none_step : (b r : Bool) (l : Listing) (o : Option Listing) → (r ≡ false → o ≡ None) → (b || r) ≡ false → (if b then Some l else o) ≡ None
+found_none_step true r l o h is = cc
+found_none_step false r l o h is = h is
+
+pub found_none : (es : List (List ℕ × Listing)) (name : List ℕ) → has_name name es ≡ false → found name es ≡ None
+found_none [] name is = refl
+found_none (e ∷ es) name is = found_none_step (bytes_eq name e.0) (has_name name es) e.1 (found name es) (found_none es name) is
+
+found_some_step : (b r : Bool) (l : Listing) (o : Option Listing) → (r ≡ true → o ≡ Some (or_unlisted o)) → (b || r) ≡ true → (if b then Some l else o) ≡ Some (or_unlisted (if b then Some l else o))
+found_some_step true r l o h is = refl
+found_some_step false r l o h is = h is
+
+pub found_some : (es : List (List ℕ × Listing)) (name : List ℕ) → has_name name es ≡ true → found name es ≡ Some (listed name es)
+found_some [] name is = cc
+found_some (e ∷ es) name is = found_some_step (bytes_eq name e.0) (has_name name es) e.1 (found name es) (found_some es name) is
+
+-- one table before another
+append_step : (b : Bool) (l : Listing) (o p q : Option Listing) → or_unlisted q ≡ or_else_listed o (or_unlisted p) → or_unlisted (if b then Some l else q) ≡ or_else_listed (if b then Some l else o) (or_unlisted p)
+append_step true l o p q h = refl
+append_step false l o p q h = h
+
+pub listed_both : (n : List ℕ) (es fs : List (List ℕ × Listing)) → listed n (es ++ fs) ≡ or_else_listed (found n es) (listed n fs)
+listed_both n [] fs = refl
+listed_both n (e ∷ es) fs = append_step (bytes_eq n e.0) e.1 (found n es) (found n fs) (found n (es ++ fs)) (listed_both n es fs)
+
+pub listed_one : (n name : List ℕ) (l : Listing) → listed n ((name, l) ∷ []) ≡ (if bytes_eq n name then l else unlisted)
+listed_one n name l = by (bytes_eq n name)
+  where
+    by : (b : Bool) → or_unlisted (if b then Some l else None) ≡ (if b then l else unlisted)
+    by true = refl
+    by false = refl
+
+-- one entry less
+pub counted_set : (before es after : List (List ℕ × Listing)) (n name : List ℕ) (had now : Listing) → es ≡ before → found name es ≡ Some had → now ≡ less 1 had → after ≡ set_named name now es
+    → listed n after ≡ (if bytes_eq name n then less 1 (listed n before) else listed n before)
+counted_set before es after n name had now same at counted set = ap (listed n) set ∙ listed_set es n name now (found_has es name had at) ∙ by (bytes_eq name n) refl
+  where
+    by : (b : Bool) → bytes_eq name n ≡ b → (if b then now else listed n es) ≡ (if b then less 1 (listed n before) else listed n before)
+    by true is = counted ∙ ap (less 1) (sym (ap or_unlisted at) ∙ ap (λ k. listed k es) (same_name name n is) ∙ ap (listed n) same)
+    by false is = ap (listed n) same
+
+pub counted_none : (before es : List (List ℕ × Listing)) (n name : List ℕ) → es ≡ before → found name es ≡ None → listed n es ≡ (if bytes_eq name n then less 1 (listed n before) else listed n before)
+counted_none before es n name same at = by (bytes_eq name n) refl
+  where
+    by : (b : Bool) → bytes_eq name n ≡ b → listed n es ≡ (if b then less 1 (listed n before) else listed n before)
+    by true is =
+        let none : listed n es ≡ unlisted = ap (λ k. listed k es) (sym (same_name name n is)) ∙ ap or_unlisted at in
+        none ∙ ap (less 1) (sym none ∙ ap (listed n) same)
+    by false is = ap (listed n) same
+
+-- nothing is copied under a name that has a place
+pub copied_there : (es : List (List ℕ × Listing)) (n name : List ℕ) (l : Listing) → has_name name es ≡ true → listed n es ≡ or_else_listed (found n es) (if bytes_eq n name then l else unlisted)
+copied_there es n name l there = by (found n es) refl (bytes_eq n name) refl
+  where
+    by : (o : Option Listing) → found n es ≡ o → (b : Bool) → bytes_eq n name ≡ b → or_unlisted o ≡ or_else_listed o (if b then l else unlisted)
+    by (Some k) at b is = refl
+    by None at false is = refl
+    by None at true is =
+        let some : found n es ≡ Some (listed n es) = found_some es n (ap (λ k. has_name k es) (same_name n name is) ∙ there) in
+        let never : Some (listed n es) ≡ None = sym some ∙ at in
+        cc

@@ -30,10 +30,14 @@ word_mark _ = None
 abbrev pub entry_mark : Entry → Option (List ℕ × Role)
 entry_mark e = option_map (λ name. (name, roles.Entry (section_of e))) (name_of e)
 
+-- a statement by what of it a text has once
+abbrev pub key_mark : Record → Option (List ℕ × Role)
+key_mark (entry e) = entry_mark e
+key_mark r = word_mark (key_of r)
+
 abbrev pub own_mark : Record → Option (List ℕ × Role)
-own_mark (entry e) = entry_mark e
 own_mark (end_section s) = Some (section_word s, roles.SectionEnd)
-own_mark r = word_mark (key_of r)
+own_mark r = key_mark r
 
 -- the terminals of an entry
 abbrev pub terminals_of : Entry → List Terminal

@@ -7,7 +7,7 @@ ghost use Rattle.def_reader.specs.EntryViews.{entry_view};
 ghost use Rattle.def_reader.specs.SeenViews.{key_view};
 ghost use Rattle.def_reader.specs.StatementViews.{record_view};
 ghost use Rattle.wire_parts.specs.TerminalViews.{terminal_view, terminals_of as terminals_left};
-ghost use Rattle.design_tables.specs.Marks.{entry_mark, entry_marks, marks_of, own_mark, terminal_mark, terminal_marks, terminals_of, word_mark};
+ghost use Rattle.design_tables.specs.Marks.{entry_mark, entry_marks, key_mark, marks_of, own_mark, terminal_mark, terminal_marks, terminals_of, word_mark};
 ghost use Rattle.design_tables.specs.MarkViews.{name_mark_view};
 
 use crate::role::Role;
@@ -52,17 +52,26 @@ fn entry_mark<'t>(entry: &Entry<'t>) -> Option<NameMark<'t>>
     }
 }
 
+/// The mark of a statement by what of it a text has once.
+pub(crate) fn key_mark<'t>(statement: &Statement<'t>) -> Option<NameMark<'t>>
+    ensures { option_map name_mark_view result ≡ key_mark (record_view statement.now) }
+{
+    match statement {
+        Statement::Entry(entry) => entry_mark(entry),
+        _ => word_mark(statement.key()),
+    }
+}
+
 /// The mark of a statement under its own name or word.
 fn own_mark<'t>(statement: &Statement<'t>) -> Option<NameMark<'t>>
     ensures { option_map name_mark_view result ≡ own_mark (record_view statement.now) }
 {
     match statement {
-        Statement::Entry(entry) => entry_mark(entry),
         Statement::EndSection(section) => Some(NameMark {
             name: section.word(),
             role: Role::SectionEnd,
         }),
-        _ => word_mark(statement.key()),
+        _ => key_mark(statement),
     }
 }
 

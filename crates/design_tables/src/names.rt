@@ -1,17 +1,19 @@
 //! A table of names, with the marks of statements under each.
 
-ghost use Rattle.std.specs.Prelude.{◌≡◌, ◌∷◌, ◌||◌, [], ℕ, Bool, List, IfOk, IfSome, MatchOption, OnOk, Some, filter, not};
+ghost use Rattle.std.specs.Prelude.{◌≡◌, ◌∷◌, ◌||◌, [], ℕ, Bool, List, IfOk, IfSome, MatchOption, OnOk, Some, count_by, if◌then◌else◌};
 ghost use Rattle.std.specs.Option.{option_map};
 ghost use Rattle.std.specs.Str.{bytes_eq};
 ghost use Rattle.def_reader.specs.StatementViews.{record_view};
 ghost use Rattle.design_tables.specs.ListingViews.{listing_view};
+ghost use Rattle.design_tables.specs.Changes.{is_gone, less, or_else_listed, without};
+ghost use Rattle.design_tables.specs.Marks.{same_role};
 ghost use Rattle.design_tables.specs.Listings.{found, has_name, listed, marks_in, marks_named, unlisted, with_marks};
 
 use crate::marks::marks_of;
 use crate::role::{Mark, Role};
 use def_reader::statement::Statement;
 use design_model::identifier::StmtId;
-use indexmap::IndexMap;
+use indexmap::{IndexMap, IndexSet};
 use std::alloc::{AllocError, Allocator, Global};
 use std::hash::{BuildHasherDefault, FoldHasher};
 use std::marker::Model;
@@ -44,7 +46,44 @@ impl<A: Allocator + Copy> Listing<A> {
         }
         Ok(())
     }
+
+    /// Counts one entry less.
+    pub fn uncount(&mut self)
+        ensures { listing_view self.new ≡ less 1 (listing_view self.old) }
+    {
+        self.entries = self.entries.saturating_sub(1);
+    }
+
+    /// The same without the marks of statements of these numbers.
+    pub fn without(&self, alloc: A, gone: &Ids<A>) -> Result<Listing<A>, AllocError>
+        ensures { IfOk result (λ l. listing_view l ≡ without (is_gone gone.now.keys) (listing_view self.now)) }
+    {
+        let mut marks = Vec::with_capacity(alloc, self.marks.len())?;
+        for mark in self.marks.as_slice() {
+            if !gone.contains(&mark.id.0) {
+                marks.push(*mark)?;
+            }
+        }
+        let entries = self.entries;
+        Ok(Listing { marks, entries })
+    }
+
+    /// How many marks have a role.
+    pub fn count(&self, role: Role) -> usize
+        ensures { result ≡ count_by (λ m. same_role m.role role) (listing_view self.now).marks }
+    {
+        let mut count = 0;
+        for mark in self.marks.as_slice() {
+            if mark.role.is(role) {
+                count += 1;
+            }
+        }
+        count
+    }
 }
+
+/// Numbers of statements.
+pub(crate) type Ids<A> = IndexSet<usize, BuildHasherDefault<FoldHasher>, A>;
 
 /// Names with what stands under them, in the order in which they came.
 #[derive(Drop)]
@@ -99,9 +138,52 @@ impl<A: Allocator + Copy> NameTable<A> {
         Ok(())
     }
 
+    /// What stands under a name without the marks of statements of these numbers.
+    fn left_of(&self, name: &[u8], gone: &Ids<A>) -> Result<Listing<A>, AllocError>
+        ensures { IfOk result (λ l. listing_view l ≡ without (is_gone gone.now.keys) (listed name.now self.now)) }
+    {
+        let alloc = self.allocator();
+        match self.get(name) {
+            Some(listing) => listing.without(alloc, gone),
+            None => Listing::new(alloc),
+        }
+    }
+
+    /// Makes a place for a name that has none, and puts there what another table has under it, without the marks of statements of
+    /// these numbers.
+    pub fn copy(
+        &mut self,
+        from: &NameTable<A>,
+        gone: &Ids<A>,
+        name: &[u8],
+    ) -> Result<(), AllocError>
+        ensures copied { OnOk result ((n : List ℕ) → listed n self.new ≡ or_else_listed (found n self.old) (if bytes_eq n name.now then without (is_gone gone.now.keys) (listed name.now from.now) else unlisted)) }
+        ensures there { OnOk result ((n : List ℕ) → has_name n self.new ≡ (has_name n self.old || bytes_eq n name.now)) }
+    {
+        if self.names.contains_key(name) {
+            return Ok(());
+        }
+        let listing = from.left_of(name, gone)?;
+        let name = Vec::from_slice(self.allocator(), name)?;
+        self.names.insert(name, listing)?;
+        Ok(())
+    }
+
+    /// Counts one entry less of the section of a word.
+    pub fn uncount(&mut self, word: &[u8])
+        ensures names { (n : List ℕ) → has_name n self.new ≡ has_name n self.old }
+        ensures counted { (n : List ℕ) → listed n self.new ≡ (if bytes_eq word.now n then less 1 (listed n self.old) else listed n self.old) }
+    {
+        match self.names.get_mut(word) {
+            Some(listing) => listing.uncount(),
+            None => {}
+        }
+    }
+
     /// Puts a mark under a name.
-    fn put(&mut self, name: &[u8], mark: Mark) -> Result<(), AllocError>
-        ensures { OnOk result ((n : List ℕ) → listed n self.new ≡ with_marks (marks_named n ((name.now, mark) ∷ [])) (listed n self.old)) }
+    pub fn put(&mut self, name: &[u8], mark: Mark) -> Result<(), AllocError>
+        ensures there { OnOk result ((n : List ℕ) → has_name n self.new ≡ (has_name n self.old || bytes_eq n name.now)) }
+        ensures put { OnOk result ((n : List ℕ) → listed n self.new ≡ with_marks (marks_named n ((name.now, mark) ∷ [])) (listed n self.old)) }
     {
         self.make_place(name)?;
         match self.names.get_mut(name) {

@@ -2,12 +2,12 @@ use Rattle.std.proofs.Common.{◌≡◌, Some, map, is_some, sym, ap, ◌∙◌}
 use Rattle.std.specs.Option.{option_map}
 use Rattle.design_tables.specs.Listings.{found, has_name, listed}
 use Rattle.design_tables.specs.ListingViews.{listing_view, named_view}
-use Rattle.design_tables.proofs.ListingLemmas.{found_is, has_is, listed_put, looked_none, looked_up, never, on_ok, set_is, set_named}
+use Rattle.design_tables.proofs.ListingLemmas.{found_is, has_is, has_set, listed_put, looked_none, looked_up, never, on_ok, set_is, set_named}
 use Rattle.design_tables.proofs.names.NameTable.put.Goals.{in-Some, in-None}
 use Rattle.design_tables.proofs.names.NameTable.put.Goals as goal
 
-pub returns : goal.returns
-returns g c =
+pub returns-clause-put : goal.returns-clause-put
+returns-clause-put g c =
     let es = c.self.inside.names.entries in
     let name = c.args.name.now in
     elim c.match-get_mut.branch [
@@ -20,6 +20,20 @@ returns g c =
           let set : map named_view (c.get_mut.follows.lender l).entries ≡ set_named name (listing_view l) (map named_view es) = ap (map named_view) (c.get_mut.follows.holds l).0 ∙ set_is name l es in
           rw (w.result-is, w.self-inside-is) (on_ok w.push.result
           (λ put. listed_put c.args.self.now (map named_view es) (map named_view (c.get_mut.follows.lender l).entries) name c.args.mark (listing_view had) (listing_view l) (λ n. ap (λ t. listed n t) view ∙ c.in_ok-make_place.ensures.same n) found_at put set)
+          w.push.ensures)
+      | in-None w ↦ never c.args.self.now c.make_place.new.self name (c.in_ok-make_place.ensures.there name) (ap (has_name name) (sym c.self.view_is) ∙ has_is name es ∙ ap is_some (looked_none _ _ w.in-None.is c.get_mut.ensures.value))
+    ]
+
+pub returns-clause-there : goal.returns-clause-there
+returns-clause-there g c =
+    let es = c.self.inside.names.entries in
+    let name = c.args.name.now in
+    elim c.match-get_mut.branch [
+      | in-Some w ↦
+          let l = w.push.new.self in
+          let set : map named_view (c.get_mut.follows.lender l).entries ≡ set_named name (listing_view l) (map named_view es) = ap (map named_view) (c.get_mut.follows.holds l).0 ∙ set_is name l es in
+          rw (w.result-is, w.self-inside-is) (on_ok w.push.result
+          (λ put n. ap (has_name n) set ∙ has_set (map named_view es) n name (listing_view l) ∙ ap (λ t. has_name n t) c.self.view_is ∙ c.in_ok-make_place.ensures.there n)
           w.push.ensures)
       | in-None w ↦ never c.args.self.now c.make_place.new.self name (c.in_ok-make_place.ensures.there name) (ap (has_name name) (sym c.self.view_is) ∙ has_is name es ∙ ap is_some (looked_none _ _ w.in-None.is c.get_mut.ensures.value))
     ]
