@@ -1,3 +1,4 @@
+mod EditLemmas
 mod ListingLemmas
 mod MarkLemmas
 mod RecordLemmas

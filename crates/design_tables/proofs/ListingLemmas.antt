@@ -236,3 +236,7 @@ copied_there es n name l there = by (found n es) refl (bytes_eq n name) refl
         let some : found n es ≡ Some (listed n es) = found_some es n (ap (λ k. has_name k es) (same_name n name is) ∙ there) in
         let never : Some (listed n es) ≡ None = sym some ∙ at in
         cc
+
+pub on_ok_both : {X E P Q R : Type 0} (r : Result X E) → (P → Q → R) → OnOk r P → OnOk r Q → OnOk r R
+on_ok_both (Ok x) f p q = f p q
+on_ok_both (Err e) f p q = p

@@ -1,6 +1,7 @@
 //! Which statements of a DEF text have to do with a name, so that an edit needn't read the text for them.
 #![tactic(auto)]
 
+mod edited;
 mod marks;
 mod names;
 mod role;
