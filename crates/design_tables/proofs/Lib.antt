@@ -1,4 +1,6 @@
+mod ChangeLemmas
 mod EditLemmas
+mod ExchangeLemmas
 mod ListingLemmas
 mod MarkLemmas
 mod RecordLemmas

@@ -11,6 +11,7 @@ use Rattle.indexmap.specs.IndexMap.{IndexMap, insert_entry}
 use Rattle.indexmap.proofs.CallerLemmas.{insert_entry-new}
 use Rattle.design_tables.specs.Changes.{less, or_else_listed}
 use Rattle.design_tables.specs.Listings.{Listing, found, has_name, listed, marks_named, or_unlisted, unlisted, with_marks}
+use Rattle.design_tables.specs.Prepared.{set_named}
 use Rattle.design_tables.specs.ListingViews.{listing_view, named_view}
 use Rattle.design_tables.specs.declared.names.Listing as code
 use Rattle.design_tables.specs.declared.role.Mark.{Mark}
@@ -27,11 +28,6 @@ own_name a = grind (arith, bytes_eq-Decides)
 
 pub bytes_eq_sym : (a b : List ℕ) → bytes_eq a b ≡ bytes_eq b a
 bytes_eq_sym a b = grind (arith, bytes_eq-Decides)
-
--- the table where the first of a name has something else
-abbrev pub set_named : List ℕ → Listing → List (List ℕ × Listing) → List (List ℕ × Listing)
-set_named name l [] = []
-set_named name l (e ∷ es) = if bytes_eq name e.0 then (e.0, l) ∷ es else e ∷ set_named name l es
 
 module _ {A : Type 0} where
   abbrev pub is_key : List ℕ → Vec ℕ A → Bool

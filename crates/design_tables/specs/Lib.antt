@@ -4,5 +4,6 @@ pub mod ListingViews
 pub mod Lookups
 pub mod MarkViews
 pub mod Marks
+pub mod Prepared
 pub mod Standing
 pub mod TableViews

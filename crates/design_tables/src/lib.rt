@@ -4,8 +4,10 @@
 mod edited;
 mod marks;
 mod names;
+mod prepared;
 mod role;
 mod tables;
 
+pub use prepared::{PrepareError, PreparedTables};
 pub use role::{Mark, Role};
 pub use tables::{Numbered, Numbers, Tables};

@@ -88,7 +88,7 @@ pub(crate) type Ids<A> = IndexSet<usize, BuildHasherDefault<FoldHasher>, A>;
 /// Names with what stands under them, in the order in which they came.
 #[derive(Drop)]
 pub(crate) struct NameTable<A: Allocator + Copy = Global> {
-    names: IndexMap<Vec<u8, A>, Listing<A>, BuildHasherDefault<FoldHasher>, A>,
+    pub names: IndexMap<Vec<u8, A>, Listing<A>, BuildHasherDefault<FoldHasher>, A>,
 }
 
 impl<A: Allocator + Copy> Model for NameTable<A> {

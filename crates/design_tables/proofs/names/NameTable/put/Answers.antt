@@ -1,8 +1,9 @@
 use Rattle.std.proofs.Common.{◌≡◌, Some, map, is_some, sym, ap, ◌∙◌}
 use Rattle.std.specs.Option.{option_map}
 use Rattle.design_tables.specs.Listings.{found, has_name, listed}
+use Rattle.design_tables.specs.Prepared.{set_named}
 use Rattle.design_tables.specs.ListingViews.{listing_view, named_view}
-use Rattle.design_tables.proofs.ListingLemmas.{found_is, has_is, has_set, listed_put, looked_none, looked_up, never, on_ok, set_is, set_named}
+use Rattle.design_tables.proofs.ListingLemmas.{found_is, has_is, has_set, listed_put, looked_none, looked_up, never, on_ok, set_is}
 use Rattle.design_tables.proofs.names.NameTable.put.Goals.{in-Some, in-None}
 use Rattle.design_tables.proofs.names.NameTable.put.Goals as goal
 

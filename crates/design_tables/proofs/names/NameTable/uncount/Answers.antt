@@ -1,8 +1,9 @@
 use Rattle.std.proofs.Common.{◌≡◌, Some, None, map, sym, ap, ◌∙◌}
 use Rattle.std.specs.Option.{option_map}
 use Rattle.design_tables.specs.Listings.{found, has_name, listed}
+use Rattle.design_tables.specs.Prepared.{set_named}
 use Rattle.design_tables.specs.ListingViews.{listing_view, named_view}
-use Rattle.design_tables.proofs.ListingLemmas.{counted_none, counted_set, found_is, has_set, looked_none, looked_up, set_is, set_named}
+use Rattle.design_tables.proofs.ListingLemmas.{counted_none, counted_set, found_is, has_set, looked_none, looked_up, set_is}
 use Rattle.design_tables.proofs.names.NameTable.uncount.Goals.{in-Some, in-None}
 use Rattle.design_tables.proofs.names.NameTable.uncount.Goals as goal
 
