@@ -9,13 +9,15 @@ use Rattle.design_model.specs.declared.identifier.StmtId.{StmtId}
 use Rattle.def_grammar.specs.Records.{Record}
 use Rattle.design_tables.specs.Changes.{IsEdited, edited, has_number, less, or_else_listed, without}
 use Rattle.design_tables.specs.Listings.{AreTablesOf, Listing, SameListing, found, has_name, is_member, listed, marks_in, marks_named, marks_under, unlisted, with_marks}
+use Rattle.design_tables.specs.Lookups.{is_number}
 use Rattle.design_tables.specs.Marks.{marks_of}
 use Rattle.design_tables.specs.Prepared.{IsKept}
 use Rattle.design_tables.specs.declared.role.Mark.{Mark}
 use Rattle.design_tables.specs.declared.role.Role.{Role}
-use Rattle.design_tables.proofs.ListingLemmas.{found_none, found_some, listed_both}
+use Rattle.design_tables.proofs.CountLemmas.{count_both}
+use Rattle.design_tables.proofs.ListingLemmas.{found_none, found_some, listed_both, none_more}
 use Rattle.design_tables.proofs.MarkLemmas.{named_both, with_both}
-use Rattle.design_tables.proofs.TableLemmas.{count_both, same_with, under_both}
+use Rattle.design_tables.proofs.TableLemmas.{same_with, under_both}
 
 -- marks of statements are counted statement by statement
 pub under_sums : (test : Mark → Bool) (n : List ℕ) (xs : List (StmtId × Record)) → count_by test (marks_under n xs) ≡ sum_by (λ x. count_by test (marks_named n (marks_in x))) xs
@@ -84,7 +86,7 @@ module _ (gone : StmtId → Bool) (p test : Mark → Bool) (n : List ℕ) where
       ∙ ap₂ (λ a b. a + b)
         (counts_agree left (λ m. false) x (λ role. ap (λ b. p (record { role = role; id = x.0 }) && (not b && test (record { role = role; id = x.0 }))) own ∙ and_none (p (record { role = role; id = x.0 })) (test (record { role = role; id = x.0 }))) n
         ∙ none_pass (marks_named n (marks_in x)))
-        (none_left xs (λ id has. h id (or_yes (id.0 == x.0.0) (has_number xs id) has)))
+        (none_left xs (λ id has. h id (or_yes (is_number id x.0) (has_number xs id) has)))
 
   -- and each mark of one that is kept is
   all_left : (xs : List (StmtId × Record)) → list_any (λ (x : StmtId × Record). gone x.0) xs ≡ false → count_by left (marks_under n xs) ≡ count_by (λ m. p m && test m) (marks_under n xs)
@@ -148,4 +150,7 @@ module _ (xs out kept : List (StmtId × Record)) (is : IsKept xs out kept) where
         by true h =
             rw (found_some new n h, e.changed n h)
             (same_with (marks_under n put) (less (count_by is_member (marks_under n out)) (without (has_number out) (listed n names))) (with_marks (marks_under n kept) unlisted) (left_is_kept n))
-        by false h = rw (found_none new n h, (e.apart n h).1) (same_with [] (listed n names) (with_marks (marks_under n kept) unlisted) (unchanged (e.apart n h).0))
+        by false h =
+            let same : with_marks (marks_under n put) (with_marks (marks_under n kept) unlisted) ≡ with_marks (marks_under n kept) unlisted =
+                ap (λ ms. with_marks ms (with_marks (marks_under n kept) unlisted)) (e.apart n h).1 ∙ none_more (with_marks (marks_under n kept) unlisted) in
+            rw (found_none new n h, same) (unchanged (e.apart n h).0)

@@ -1,7 +1,10 @@
 mod ChangeLemmas
+mod CountLemmas
 mod EditLemmas
 mod ExchangeLemmas
+mod KeyLemmas
 mod ListingLemmas
 mod MarkLemmas
 mod RecordLemmas
 mod TableLemmas
+mod TurnLemmas

@@ -22,12 +22,10 @@ use Rattle.design_tables.specs.Standing.{ids_with}
 use Rattle.design_tables.specs.declared.role.Mark.{Mark}
 use Rattle.design_tables.specs.declared.role.Role.{Role}
 use Rattle.design_tables.specs.declared.role.Role.TheVariants as roles
+use Rattle.design_tables.proofs.CountLemmas.{count_both, no_role, no_terminals, of_marks}
 use Rattle.design_tables.proofs.ListingLemmas.{bytes_eq_sym}
 use Rattle.design_tables.proofs.MarkLemmas.{named_both, with_both}
 use Rattle.design_tables.proofs.RecordLemmas.{any_agrees, has_role, is_marked}
-
-pub count_both : {X : Type 0} (test : X → Bool) (xs ys : List X) → count_by test (xs ++ ys) ≡ count_by test xs + count_by test ys
-count_both test xs ys = sum_by-append (λ x. cond (test x) 1 0) xs ys
 
 pub same_with : (ms : List Mark) (a b : Listing) → SameListing a b → SameListing (with_marks ms a) (with_marks ms b)
 same_with ms a b same = record {
@@ -145,17 +143,7 @@ module _ (s : Section) where
   in_section e = is_section s (section_of e)
 
   not_counted : (w : List ℕ) (its : Role) → same_role its roles.Member ≡ false → count_by counts ((w, its) ∷ []) ≡ 0
-  not_counted w its e = grind (arith, e, sum_by-cons (λ m. cond (counts m) 1 0) (w, its) [])
-
-  none_of_terminals : (ts : List Terminal) → count_by counts (flat_map terminal_marks ts) ≡ 0
-  none_of_terminals [] = refl
-  none_of_terminals (t ∷ ts) = count_both counts (terminal_marks t) (flat_map terminal_marks ts) ∙ ap₂ (λ a b. a + b) (by (is_of_all t) (is_of_design t) (is_virtual t)) (none_of_terminals ts)
-    where
-      by : (a b c : Bool) → count_by counts (option_to_list (if a then Some (t.pin, roles.StarPin) else (if b then Some (t.pin, roles.DesignPin) else (if c then None else Some (t.owner, roles.Component))))) ≡ 0
-      by true b c = not_counted t.pin roles.StarPin refl
-      by false true c = not_counted t.pin roles.DesignPin refl
-      by false false true = refl
-      by false false false = not_counted t.owner roles.Component refl
+  not_counted w its e = no_role word roles.Member w its e
 
   abbrev counted : Option Entry → ℕ
   counted None = 0
@@ -176,7 +164,7 @@ module _ (s : Section) where
       count_both counts (option_to_list (entry_mark e)) (entry_marks (Some e))
       ∙ ap₂ (λ a b. a + b) (own_counted e (name_of e))
         (sum_by-cons (λ m. cond (counts m) 1 0) (section_word (section_of e), roles.Member) (flat_map terminal_marks (terminals_of e))
-        ∙ member_step (bytes_eq (section_word (section_of e)) word) (in_section e) 0 _ (bytes_eq_sym (section_word (section_of e)) word) (none_of_terminals (terminals_of e)))
+        ∙ member_step (bytes_eq (section_word (section_of e)) word) (in_section e) 0 _ (bytes_eq_sym (section_word (section_of e)) word) (no_terminals word roles.Member refl refl refl (terminals_of e)))
       ∙ omega arith
 
   of_record : (r : Record) → count_by counts (marks_of r) ≡ counted (entry_of r)
@@ -194,23 +182,6 @@ module _ (s : Section) where
   of_record (end_section t) = not_counted (section_word t) roles.SectionEnd refl
   of_record (entry e) = of_entry e
 
-  mark_step : (b c : Bool) (id : StmtId) (m : List ℕ × Role) (ms : List Mark) (k : ℕ) → same_role m.1 roles.Member ≡ c → count_by is_member ms ≡ k
-      → count_by is_member (if b then record { role = m.1; id = id } ∷ ms else ms) ≡ cond (b && c) 1 0 + k
-  mark_step true c id m ms k e h = sum_by-cons (λ j. cond (is_member j) 1 0) (record { role = m.1; id = id }) ms ∙ ap₂ (λ b n. cond b 1 0 + n) e h
-  mark_step false c id m ms k e h = h ∙ omega arith
-
-  split : (b : Bool) (k : List ℕ × Mark) (ks : List (List ℕ × Mark)) → map (λ (j : List ℕ × Mark). j.1) (if b then k ∷ ks else ks) ≡ (if b then k.1 ∷ map (λ (j : List ℕ × Mark). j.1) ks else map (λ (j : List ℕ × Mark). j.1) ks)
-  split true k ks = refl
-  split false k ks = refl
-
-  of_marks : (id : StmtId) (ms : List (List ℕ × Role)) → count_by is_member (marks_named word (map (λ (m : List ℕ × Role). (m.0, record { role = m.1; id = id })) ms)) ≡ count_by counts ms
-  of_marks id [] = refl
-  of_marks id (m ∷ ms) =
-      let rest : List (List ℕ × Mark) = map (λ (k : List ℕ × Role). (k.0, record { role = k.1; id = id })) ms in
-      ap (count_by is_member) (split (bytes_eq m.0 word) (m.0, record { role = m.1; id = id }) (of_name (λ (k : List ℕ × Mark). k.0) word rest))
-      ∙ mark_step (bytes_eq m.0 word) (same_role m.1 roles.Member) id m (marks_named word rest) (count_by counts ms) refl (of_marks id ms)
-      ∙ sym (sum_by-cons (λ j. cond (counts j) 1 0) m ms)
-
   entries_step : (o : Option Entry) (es : List Entry) (k : ℕ) → length (filter in_section es) ≡ k → counted o + k ≡ length (filter in_section (cons_option o es))
   entries_step None es k h = let e : 0 + k ≡ k = omega arith in e ∙ sym h
   entries_step (Some e) es k h = by (in_section e)
@@ -224,7 +195,7 @@ module _ (s : Section) where
   of_all (x ∷ xs) =
       ap (count_by is_member) (named_both word (marks_in x) (flat_map marks_in xs))
       ∙ count_both is_member (marks_named word (marks_in x)) (marks_under word xs)
-      ∙ ap₂ (λ a b. a + b) (of_marks x.0 (marks_of x.1) ∙ of_record x.1) (of_all xs)
+      ∙ ap₂ (λ a b. a + b) (of_marks word roles.Member x.0 (marks_of x.1) ∙ of_record x.1) (of_all xs)
       ∙ entries_step (entry_of x.1) (filter_map (λ (y : StmtId × Record). entry_of y.1) xs) (length (entries_of s xs)) refl
 
   pub entries_are : (xs : List (StmtId × Record)) (es : List (List ℕ × Listing)) → AreTablesOf xs es → (listed word es).entries ≡ length (entries_of s xs)
