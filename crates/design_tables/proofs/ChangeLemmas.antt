@@ -1,13 +1,12 @@
 -- A table of the names that a change has to do with, before the table that it was made of, is the table after the change.
-use Rattle.std.proofs.Common.{◌≡◌, ℕ, ◌+◌, ◌-◌, Bool, true, false, cond, if◌then◌else◌, not, ◌&&◌, ◌||◌, List, [], ◌∷◌, ◌++◌, filter, map, refl, sym, ap, ap₂, ◌∙◌, Option, Some, None, arith}
+use Rattle.std.proofs.Common.{◌≡◌, ℕ, ◌+◌, Bool, true, false, cond, if◌then◌else◌, not, ◌&&◌, ◌||◌, List, [], ◌∷◌, ◌++◌, filter, map, refl, sym, ap, ap₂, ◌∙◌, arith}
 use Rattle.std.specs.Prelude.{count_by, flat_map, sum_by}
 use Rattle.std.specs.List.{list_any}
 use Rattle.std.specs.Str.{bytes_eq}
-use Rattle.std.proofs.lemmas.List.{append-nil}
 use Rattle.std.proofs.lemmas.List.Sums.{sum_by-cons}
 use Rattle.design_model.specs.declared.identifier.StmtId.{StmtId}
 use Rattle.def_grammar.specs.Records.{Record}
-use Rattle.design_tables.specs.Changes.{IsEdited, edited, has_number, less, or_else_listed, without}
+use Rattle.design_tables.specs.Changes.{IsEdited, has_number, less, or_else_listed, without}
 use Rattle.design_tables.specs.Listings.{AreTablesOf, Listing, SameListing, found, has_name, is_member, listed, marks_in, marks_named, marks_under, unlisted, with_marks}
 use Rattle.design_tables.specs.Lookups.{is_number}
 use Rattle.design_tables.specs.Marks.{marks_of}
@@ -154,3 +153,12 @@ module _ (xs out kept : List (StmtId × Record)) (is : IsKept xs out kept) where
             let same : with_marks (marks_under n put) (with_marks (marks_under n kept) unlisted) ≡ with_marks (marks_under n kept) unlisted =
                 ap (λ ms. with_marks ms (with_marks (marks_under n kept) unlisted)) (e.apart n h).1 ∙ none_more (with_marks (marks_under n kept) unlisted) in
             rw (found_none new n h, same) (unchanged (e.apart n h).0)
+
+-- places that are made leave what stands under names
+pub placed_same : (xs : List (StmtId × Record)) (names after : List (List ℕ × Listing)) → ((n : List ℕ) → listed n after ≡ listed n names) → AreTablesOf xs names → AreTablesOf xs after
+placed_same xs names after same are n = rw (same n) (are n)
+
+pub placed_behind : (xs : List (StmtId × Record)) (names after change : List (List ℕ × Listing)) → ((n : List ℕ) → listed n after ≡ listed n names) → AreTablesOf xs (change ++ names) → AreTablesOf xs (change ++ after)
+placed_behind xs names after change same are n =
+    let here : listed n (change ++ after) ≡ listed n (change ++ names) = listed_both n change after ∙ ap (or_else_listed (found n change)) (same n) ∙ sym (listed_both n change names) in
+    rw here (are n)

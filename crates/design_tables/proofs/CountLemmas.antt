@@ -1,16 +1,14 @@
 -- How many marks of a statement have a role under a name.
-use Rattle.std.proofs.Common.{◌≡◌, ℕ, ◌+◌, Bool, true, false, cond, if◌then◌else◌, ◌&&◌, List, [], ◌∷◌, ◌++◌, map, refl, sym, ap, ap₂, ◌∙◌, Option, Some, None, arith}
+use Rattle.std.proofs.Common.{◌≡◌, ℕ, ◌+◌, Bool, true, false, cond, if◌then◌else◌, ◌&&◌, List, [], ◌∷◌, ◌++◌, map, refl, sym, ap, ap₂, ◌∙◌, Some, None, arith}
 use Rattle.std.specs.Prelude.{count_by, flat_map}
 use Rattle.std.specs.Option.{option_to_list}
 use Rattle.std.specs.Str.{bytes_eq}
 use Rattle.std.proofs.lemmas.List.Sums.{sum_by-append, sum_by-cons}
 use Rattle.design_model.specs.declared.identifier.StmtId.{StmtId}
-use Rattle.design_model.specs.EnumWords.{section_word}
-use Rattle.def_grammar.specs.Records.{Entry, entry, section_of}
 use Rattle.def_grammar.specs.Terminals.{Terminal, is_of_all, is_of_design, is_virtual}
 use Rattle.name_groups.specs.Groups.{of_name}
 use Rattle.design_tables.specs.Listings.{marks_named}
-use Rattle.design_tables.specs.Marks.{entry_mark, entry_marks, marks_of, same_role, terminal_marks, terminals_of}
+use Rattle.design_tables.specs.Marks.{same_role, terminal_marks}
 use Rattle.design_tables.specs.declared.role.Mark.{Mark}
 use Rattle.design_tables.specs.declared.role.Role.{Role}
 use Rattle.design_tables.specs.declared.role.Role.TheVariants as roles

@@ -1,5 +1,5 @@
 -- Tables of the names that a change has to do with.
-use Rattle.std.proofs.Common.{◌≡◌, ◌<◌, ℕ, ◌+◌, ◌-◌, zero, suc, Bool, true, false, cond, if◌then◌else◌, not, ◌||◌, List, [], ◌∷◌, ◌++◌, drop, get_or, length, take, filter, map, refl, sym, ap, ap₂, ◌∙◌, Option, Some, None, arith, append_assoc}
+use Rattle.std.proofs.Common.{◌≡◌, ◌<◌, ℕ, ◌+◌, Bool, true, false, cond, if◌then◌else◌, not, ◌||◌, List, [], ◌∷◌, ◌++◌, get_or, length, take, filter, map, refl, sym, ap, ap₂, ◌∙◌, arith, append_assoc}
 use Rattle.std.specs.Prelude.{count_by, flat_map}
 use Rattle.std.specs.Str.{bytes_eq}
 use Rattle.std.proofs.lemmas.List.{append-nil, map-append, take_more}
@@ -7,7 +7,6 @@ use Rattle.std.proofs.lemmas.List.Concat.{flat_map-append}
 use Rattle.std.proofs.lemmas.List.Elements.{filter_agree}
 use Rattle.std.proofs.lemmas.List.Sums.{sum_by-append}
 use Rattle.design_model.specs.declared.identifier.StmtId.{StmtId}
-use Rattle.def_grammar.specs.Records.{Record}
 use Rattle.design_tables.specs.Changes.{IsEdited, edited, less, or_else_listed, without}
 use Rattle.design_tables.specs.Listings.{Listing, found, has_name, is_member, listed, marks_in, marks_named, unlisted, with_marks}
 use Rattle.design_tables.specs.Marks.{same_role}

@@ -1,5 +1,5 @@
 -- What stands under names exchanged, turn by turn.
-use Rattle.std.proofs.Common.{◌≡◌, ◌<◌, ℕ, ◌+◌, zero, suc, Bool, true, false, cond, if◌then◌else◌, ◌||◌, List, [], ◌∷◌, ◌++◌, drop, length, take, map, refl, sym, ap, ap₂, ◌∙◌, Option, Some, None, is_some, add-one, arith, append_assoc}
+use Rattle.std.proofs.Common.{◌≡◌, ℕ, ◌+◌, zero, suc, Bool, true, false, ◌||◌, List, [], ◌∷◌, ◌++◌, drop, length, take, map, refl, sym, ap, ap₂, ◌∙◌, Some, None, is_some, add-one, append_assoc}
 use Rattle.std.specs.List.{AllByRecursion, IsDistinct, list_any, slice_get}
 use Rattle.std.specs.Map.{keys_of, lookup, set_value}
 use Rattle.std.specs.Option.{option_map}
@@ -7,7 +7,7 @@ use Rattle.std.specs.Str.{bytes_eq}
 use Rattle.std.specs.declared.vec.Vec.{Vec}
 use Rattle.std.proofs.lemmas.Map.Keys.{IsDistinct-head, IsDistinct-tail}
 use Rattle.indexmap.specs.Layout.{set_value_at}
-use Rattle.design_tables.specs.Listings.{Listing, found, has_name, listed, or_unlisted}
+use Rattle.design_tables.specs.Listings.{Listing, has_name, listed, or_unlisted}
 use Rattle.design_tables.specs.ListingViews.{listing_view, named_view}
 use Rattle.design_tables.specs.Prepared.{AreApart, HasNames, exchanged, set_named}
 use Rattle.design_tables.specs.declared.names.Listing as code

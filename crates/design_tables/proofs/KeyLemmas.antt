@@ -1,7 +1,6 @@
 -- What a text has once, by marks under names.
-use Rattle.std.proofs.Common.{◌≡◌, ◌≢◌, ◌≤◌, ◌<◌, ℕ, ◌+◌, Bool, true, false, cond, eqb, ltb, if◌then◌else◌, not, ◌&&◌, ◌||◌, List, [], ◌∷◌, ◌++◌, map, refl, sym, ap, ap₂, ◌∙◌, Option, Some, None, subst, arith, true≢false}
-use Rattle.std.specs.Prelude.{codes, count_by, flat_map, nat_lt}
-use Rattle.std.specs.List.{list_any}
+use Rattle.std.proofs.Common.{◌≡◌, ◌≢◌, ℕ, ◌+◌, Bool, true, false, cond, ◌&&◌, List, [], ◌∷◌, refl, sym, ap, ap₂, ◌∙◌, Option, Some, None, arith}
+use Rattle.std.specs.Prelude.{codes, count_by, flat_map}
 use Rattle.std.specs.Option.{option_map, option_to_list}
 use Rattle.std.specs.Str.{bytes_eq}
 use Rattle.std.proofs.lemmas.List.Sums.{sum_by-cons}
@@ -9,19 +8,17 @@ use Rattle.design_model.specs.declared.identifier.StmtId.{StmtId}
 use Rattle.design_model.specs.declared.mode.Section.{Section}
 use Rattle.design_model.specs.EnumWords.{section_word}
 use Rattle.statement_model.specs.Grammar.{Key}
-use Rattle.statement_model.specs.Reading.{is_among, same_words}
+use Rattle.statement_model.specs.Reading.{same_words}
 use Rattle.def_grammar.specs.Records.{Entry, Record, end_section, entry, entry_key, in_properties, key_of, name_of, section_of, top}
 use Rattle.def_grammar.specs.Top.{die_area, end_design, extension, gcell_grid, header, kept, properties, row, tracks, units}
-use Rattle.design_tables.specs.Changes.{IsEdited, has_number, or_else_listed}
-use Rattle.design_tables.specs.Listings.{AreTablesOf, Listing, found, has_name, is_member, listed, marks_in, marks_named, marks_under, or_unlisted, unlisted, with_marks}
+use Rattle.design_tables.specs.Listings.{marks_in, marks_named, marks_under}
 use Rattle.design_tables.specs.Marks.{entry_mark, entry_marks, key_mark, marks_of, same_role, terminal_marks, terminals_of}
-use Rattle.design_tables.specs.Prepared.{AreKeyed, IsKept, count_in, has_none, is_repeated, is_twice, keys_of, lacks_units}
+use Rattle.design_tables.specs.Prepared.{keys_of}
 use Rattle.design_tables.specs.declared.role.Mark.{Mark}
 use Rattle.design_tables.specs.declared.role.Role.{Role}
 use Rattle.design_tables.specs.declared.role.Role.TheVariants as roles
-use Rattle.design_tables.proofs.ChangeLemmas.{count_filter}
 use Rattle.design_tables.proofs.CountLemmas.{count_both, no_role, no_terminals, of_marks}
-use Rattle.design_tables.proofs.ListingLemmas.{bytes_eq_sym, found_none, found_some, listed_both, same_name}
+use Rattle.design_tables.proofs.ListingLemmas.{bytes_eq_sym}
 use Rattle.design_tables.proofs.MarkLemmas.{named_both}
 use Rattle.design_tables.proofs.RecordLemmas.{has_role}
 
@@ -105,12 +102,10 @@ module _ (n : List ℕ) (role : Role) (key : Key) (tells : (r : Record) → coun
       ∙ ap₂ (λ a b. a + b) (of_marks n role y.0 (marks_of y.1) ∙ tells y.1) (under_keys ys)
       ∙ sym (sum_by-cons (λ k. cond (same_words key k) 1 0) (key_of y.1) (keys_of ys))
 
-  stays : same_role role roles.Member ≡ false → (m : Mark) → (not (is_member m) && same_role m.role role) ≡ same_role m.role role
-  stays other m = grind (arith, other)
-
 pub record Counts (n : List ℕ) (role : Role) (key : Key) : Type 0 where
   pub under : (ys : List (StmtId × Record)) → count_by (λ (m : Mark). same_role m.role role) (marks_under n ys) ≡ count_by (same_words key) (keys_of ys)
   pub other : (r : Role) → same_role r role ≡ true → same_role r roles.Member ≡ false
+  pub some : key ≢ []
 
 entry_no_member : (s : Section) (r : Role) → same_role r (roles.Entry s) ≡ true → same_role r roles.Member ≡ false
 entry_no_member s roles.Member h = cc
@@ -130,11 +125,11 @@ statement_no_member roles.Component h = refl
 statement_no_member roles.DesignPin h = refl
 statement_no_member roles.StarPin h = refl
 
-word_counts : (w : List ℕ) → Counts w roles.Statement (w ∷ [])
-word_counts w = record { under = under_keys w roles.Statement (w ∷ []) (by_word w); other = statement_no_member }
+pub word_counts : (w : List ℕ) → Counts w roles.Statement (w ∷ [])
+word_counts w = record { under = under_keys w roles.Statement (w ∷ []) (by_word w); other = statement_no_member; some = λ e. cc }
 
 entry_counts : (s : Section) (n : List ℕ) → Counts n (roles.Entry s) (section_word s ∷ n ∷ [])
-entry_counts s n = record { under = under_keys n (roles.Entry s) (section_word s ∷ n ∷ []) (by_entry n s); other = entry_no_member s }
+entry_counts s n = record { under = under_keys n (roles.Entry s) (section_word s ∷ n ∷ []) (by_entry n s); other = entry_no_member s; some = λ e. cc }
 
 -- what a text has once of a record, by its mark
 abbrev pub CountsOf : Option (List ℕ × Role) → Key → Type 0

@@ -3,6 +3,7 @@ mod CountLemmas
 mod EditLemmas
 mod ExchangeLemmas
 mod KeyLemmas
+mod KeyedLemmas
 mod ListingLemmas
 mod MarkLemmas
 mod RecordLemmas

@@ -7,18 +7,15 @@ use Rattle.std.specs.Str.{bytes_eq}
 use Rattle.std.proofs.lemmas.List.{append-nil}
 use Rattle.std.proofs.lemmas.List.Concat.{flat_map-append}
 use Rattle.std.proofs.lemmas.List.Folds.{list_any-append}
-use Rattle.std.proofs.lemmas.List.Sums.{sum_by-append, sum_by-cons}
+use Rattle.std.proofs.lemmas.List.Sums.{sum_by-cons}
 use Rattle.design_model.specs.declared.identifier.StmtId.{StmtId}
 use Rattle.design_model.specs.declared.mode.Section.{Section}
 use Rattle.design_model.specs.EnumWords.{section_word}
 use Rattle.def_grammar.specs.Records.{Entry, Record, end_section, entry, entry_of, in_properties, name_of, section_of, top}
-use Rattle.def_grammar.specs.Terminals.{Terminal, is_of_all, is_of_design, is_virtual}
 use Rattle.def_grammar.specs.Top.{die_area, end_design, extension, gcell_grid, header, kept, properties, row, tracks, units}
-use Rattle.name_groups.specs.Groups.{of_name}
 use Rattle.design_tables.specs.Listings.{AreTablesOf, Listing, SameListing, is_member, listed, marks_in, marks_named, marks_under, unlisted, with_marks}
-use Rattle.design_tables.specs.Lookups.{Finds, FindsAll, entries_of, is_number, is_section}
+use Rattle.design_tables.specs.Lookups.{Finds, FindsAll, entries_of, ids_with, is_number, is_section}
 use Rattle.design_tables.specs.Marks.{entry_mark, entry_marks, marks_of, same_role, terminal_marks, terminals_of}
-use Rattle.design_tables.specs.Standing.{ids_with}
 use Rattle.design_tables.specs.declared.role.Mark.{Mark}
 use Rattle.design_tables.specs.declared.role.Role.{Role}
 use Rattle.design_tables.specs.declared.role.Role.TheVariants as roles
@@ -56,7 +53,7 @@ module _ {X : Type 0} (test : X → Bool) where
   some_step true r n h = sym (grind arith)
   some_step false r n h = grind (arith, h)
 
-  some_counted : (xs : List X) → list_any test xs ≡ ltb 0 (count_by test xs)
+  pub some_counted : (xs : List X) → list_any test xs ≡ ltb 0 (count_by test xs)
   some_counted [] = refl
   some_counted (x ∷ xs) = some_step (test x) (list_any test xs) (count_by test xs) (some_counted xs) ∙ ap (ltb 0) (sym (sum_by-cons (λ y. cond (test y) 1 0) x xs))
 

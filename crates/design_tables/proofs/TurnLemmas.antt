@@ -1,12 +1,12 @@
 -- A change that was committed is the change back.
-use Rattle.std.proofs.Common.{◌≡◌, ℕ, Bool, true, false, if◌then◌else◌, ◌||◌, List, [], ◌∷◌, ◌++◌, refl, sym, ap, ap₂, ◌∙◌, Option, Some, None}
+use Rattle.std.proofs.Common.{◌≡◌, ℕ, Bool, true, false, if◌then◌else◌, ◌||◌, List, [], ◌∷◌, ◌++◌, refl, sym, ap, ◌∙◌, Some, None}
 use Rattle.std.specs.Str.{bytes_eq}
 use Rattle.design_model.specs.declared.identifier.StmtId.{StmtId}
 use Rattle.def_grammar.specs.Records.{Record}
 use Rattle.design_tables.specs.Changes.{or_else_listed}
-use Rattle.design_tables.specs.Listings.{AreTablesOf, Listing, found, has_name, listed, or_unlisted}
+use Rattle.design_tables.specs.Listings.{Listing, found, has_name, listed, or_unlisted}
 use Rattle.design_tables.specs.Prepared.{AreApart, HasNames, IsBetween, exchanged, set_named}
-use Rattle.design_tables.proofs.ListingLemmas.{bytes_eq_sym, found_none, found_some, has_set, listed_both, listed_set, own_name, same_name}
+use Rattle.design_tables.proofs.ListingLemmas.{bytes_eq_sym, found_none, has_set, listed_both, listed_set, own_name, same_name}
 
 abbrev Table : Type 0
 Table = List (List ℕ × Listing)

@@ -1,9 +1,9 @@
 -- Changes of tables: statements that go out of a text, and others that are put in.
-use Rattle.std.specs.Prelude.{◌≡◌, ℕ, ◌-◌, ◌==◌, Bool, true, false, not, List, [], ◌∷◌, ◌++◌, count_by, filter, flat_map, map, Option, Some, None, sum_by}
+use Rattle.std.specs.Prelude.{◌≡◌, ℕ, ◌-◌, ◌==◌, Bool, true, false, not, List, [], count_by, filter, Option, Some, None}
 use Rattle.std.specs.List.{list_any}
 use Rattle.design_model.specs.declared.identifier.StmtId.{StmtId}
 use Rattle.def_grammar.specs.Records.{Record}
-use Rattle.design_tables.specs.Listings.{AreTablesOf, Listing, has_name, is_member, listed, marks_named, with_marks}
+use Rattle.design_tables.specs.Listings.{Listing, has_name, is_member, listed, marks_named, with_marks}
 use Rattle.design_tables.specs.Lookups.{is_number}
 use Rattle.design_tables.specs.declared.role.Mark.{Mark}
 

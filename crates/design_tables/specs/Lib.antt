@@ -5,5 +5,4 @@ pub mod Lookups
 pub mod MarkViews
 pub mod Marks
 pub mod Prepared
-pub mod Standing
 pub mod TableViews

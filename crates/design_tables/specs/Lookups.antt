@@ -1,5 +1,5 @@
 -- What look-ups find among statements with their numbers.
-use Rattle.std.specs.Prelude.{◌≡◌, ◌==◌, ℕ, Bool, true, false, not, ◌&&◌, ◌||◌, List, filter, Option, Some, None}
+use Rattle.std.specs.Prelude.{◌≡◌, ◌==◌, ℕ, Bool, true, false, not, ◌&&◌, ◌||◌, List, filter, map, Option, Some, None}
 use Rattle.std.specs.List.{filter_map, list_any}
 use Rattle.std.specs.Str.{bytes_eq}
 use Rattle.design_model.specs.declared.identifier.StmtId.{StmtId}
@@ -9,7 +9,9 @@ use Rattle.def_grammar.specs.Located.{is_entry}
 use Rattle.def_grammar.specs.Records.{Entry, Record, end_section, entry_of, section_of, top}
 use Rattle.def_grammar.specs.Terminals.{Terminal, is_of_all, is_of_design, is_virtual}
 use Rattle.def_grammar.specs.Top.{header}
-use Rattle.design_tables.specs.Marks.{terminals_of}
+use Rattle.design_tables.specs.Marks.{same_role, terminals_of}
+use Rattle.design_tables.specs.declared.role.Mark.{Mark}
+use Rattle.design_tables.specs.declared.role.Role.{Role}
 
 abbrev pub is_number : StmtId → StmtId → Bool
 is_number a b = a.0 == b.0
@@ -29,6 +31,10 @@ FindsAll test xs ids = (id : StmtId) → list_any (is_number id) ids ≡ numbers
 
 abbrev pub is_section : Section → Section → Bool
 is_section s t = bytes_eq (section_word s) (section_word t)
+
+-- the numbers of the marks that have a role
+abbrev pub ids_with : Role → List Mark → List StmtId
+ids_with role ms = map (λ (m : Mark). m.id) (filter (λ (m : Mark). same_role m.role role) ms)
 
 -- the entry of a name in a section
 abbrev pub is_named_entry : Section → List ℕ → Record → Bool

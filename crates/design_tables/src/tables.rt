@@ -7,9 +7,8 @@ ghost use Rattle.def_reader.specs.StatementViews.{record_view};
 ghost use Rattle.design_model.specs.EnumWords.{section_word};
 ghost use Rattle.design_model.specs.declared.identifier.StmtId.{StmtId as TheStmtId};
 ghost use Rattle.design_tables.specs.Listings.{AreTablesOf, listed};
-ghost use Rattle.design_tables.specs.Lookups.{Finds, FindsAll, entries_of, is_design_pin, is_end, is_header, is_named_entry, is_of, is_star_pin, lists};
+ghost use Rattle.design_tables.specs.Lookups.{Finds, FindsAll, entries_of, ids_with, is_design_pin, is_end, is_header, is_named_entry, is_of, is_star_pin, lists};
 ghost use Rattle.design_tables.specs.Marks.{same_role};
-ghost use Rattle.design_tables.specs.Standing.{ids_with};
 
 use crate::names::NameTable;
 use crate::role::{Mark, Role};
@@ -36,7 +35,7 @@ pub struct Numbers<'a> {
 impl<'a> Model for Numbers<'a> {
     ghost use Rattle.std.specs.Prelude.{List};
     ghost use Rattle.design_model.specs.declared.identifier.StmtId.{StmtId as TheStmtId};
-    ghost use Rattle.design_tables.specs.Standing.{ids_with};
+    ghost use Rattle.design_tables.specs.Lookups.{ids_with};
 
     ghost Value = { List TheStmtId };
 

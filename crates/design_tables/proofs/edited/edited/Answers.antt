@@ -1,4 +1,4 @@
-use Rattle.std.proofs.Common.{[], map}
+use Rattle.std.proofs.Common.{map}
 use Rattle.std.specs.Prelude.{flat_map}
 use Rattle.design_tables.specs.Changes.{has_number, is_gone}
 use Rattle.design_tables.specs.Listings.{marks_in}

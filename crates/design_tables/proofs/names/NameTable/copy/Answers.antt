@@ -1,7 +1,6 @@
-use Rattle.std.proofs.Common.{◌≡◌, ◌++◌, ◌∷◌, [], sym, ap, ◌∙◌, if◌then◌else◌}
-use Rattle.std.specs.Str.{bytes_eq}
+use Rattle.std.proofs.Common.{◌++◌, ◌∷◌, [], sym, ap, ◌∙◌}
 use Rattle.design_tables.specs.Changes.{is_gone, or_else_listed, without}
-use Rattle.design_tables.specs.Listings.{found, has_name, listed, unlisted}
+use Rattle.design_tables.specs.Listings.{found, has_name, listed}
 use Rattle.design_tables.proofs.ListingLemmas.{copied_there, has_is, has_last, known_name, listed_both, listed_one, none_of, placed}
 use Rattle.design_tables.proofs.names.NameTable.copy.Goals as goal
 

@@ -1,10 +1,6 @@
-use Rattle.std.proofs.Common.{◌≡◌, ◌++◌, ℕ, List, [], map, take}
-use Rattle.std.specs.Prelude.{flat_map}
-use Rattle.design_model.specs.declared.identifier.StmtId.{StmtId}
+use Rattle.std.proofs.Common.{◌++◌, ℕ, List, [], map, take}
 use Rattle.design_tables.specs.Changes.{IsEdited, is_gone}
-use Rattle.design_tables.specs.Listings.{marks_in}
 use Rattle.design_tables.specs.MarkViews.{name_mark_view}
-use Rattle.design_tables.specs.TableViews.{numbered_view}
 use Rattle.design_tables.specs.declared.role.Mark.{Mark}
 use Rattle.design_tables.proofs.EditLemmas.{numbered}
 use Rattle.design_tables.proofs.names.NameTable.take_out.Given as goal

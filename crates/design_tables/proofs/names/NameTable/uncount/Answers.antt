@@ -1,4 +1,4 @@
-use Rattle.std.proofs.Common.{◌≡◌, Some, None, map, sym, ap, ◌∙◌}
+use Rattle.std.proofs.Common.{◌≡◌, Some, map, ap, ◌∙◌}
 use Rattle.std.specs.Option.{option_map}
 use Rattle.design_tables.specs.Listings.{found, has_name, listed}
 use Rattle.design_tables.specs.Prepared.{set_named}

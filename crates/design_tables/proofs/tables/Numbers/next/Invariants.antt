@@ -1,5 +1,5 @@
 use Rattle.std.proofs.Common.{◌≡◌, length}
-use Rattle.design_tables.specs.Standing.{ids_with}
+use Rattle.design_tables.specs.Lookups.{ids_with}
 use Rattle.design_tables.proofs.tables.Numbers.next.Given as goal
 
 abbrev pub invariant-loop-mark : goal.invariant-loop-mark
