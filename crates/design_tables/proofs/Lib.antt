@@ -6,6 +6,7 @@ mod KeyLemmas
 mod KeyedLemmas
 mod ListingLemmas
 mod MarkLemmas
+mod MarkRows
 mod RecordLemmas
 mod TableLemmas
 mod TurnLemmas

@@ -1,8 +1,7 @@
 //! How statements have to do with names.
 
-ghost use Rattle.std.specs.Prelude.{◌≡◌, ◌∷◌, ◌++◌, [], flat_map, map, IfOk, MatchOption, OnOk, Some};
+ghost use Rattle.std.specs.Prelude.{◌≡◌, ◌++◌, [], flat_map, map, IfOk, MatchOption, OnOk, Some};
 ghost use Rattle.std.specs.Option.{option_map, option_to_list};
-ghost use Rattle.def_grammar.specs.Terminals.{Terminal as TheTerminal};
 ghost use Rattle.def_reader.specs.EntryViews.{entry_view};
 ghost use Rattle.def_reader.specs.SeenViews.{key_view};
 ghost use Rattle.def_reader.specs.StatementViews.{record_view};

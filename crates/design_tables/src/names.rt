@@ -1,6 +1,6 @@
 //! A table of names, with the marks of statements under each.
 
-ghost use Rattle.std.specs.Prelude.{◌≡◌, ◌∷◌, ◌||◌, [], ℕ, Bool, List, IfOk, IfSome, MatchOption, OnOk, Some, count_by, if◌then◌else◌};
+ghost use Rattle.std.specs.Prelude.{◌≡◌, ◌∷◌, ◌||◌, [], ℕ, List, IfOk, OnOk, Some, count_by, if◌then◌else◌};
 ghost use Rattle.std.specs.Option.{option_map};
 ghost use Rattle.std.specs.Str.{bytes_eq};
 ghost use Rattle.def_reader.specs.StatementViews.{record_view};

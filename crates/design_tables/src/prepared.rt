@@ -1,11 +1,11 @@
 //! Changes of tables, prepared beside them and committed by an exchange.
 
-ghost use Rattle.std.specs.Prelude.{◌≡◌, ◌<◌, ◌∷◌, ◌++◌, [], ℕ, List, IfErr, IfOk, OnOk, codes, false, length, map, true};
+ghost use Rattle.std.specs.Prelude.{◌≡◌, ◌<◌, ◌++◌, ℕ, List, IfErr, IfOk, OnOk, false, map, true};
 ghost use Rattle.std.specs.List.{list_any};
 ghost use Rattle.def_grammar.specs.Records.{Record};
 ghost use Rattle.def_reader.specs.StatementViews.{record_view};
 ghost use Rattle.design_model.specs.declared.identifier.StmtId.{StmtId as TheStmtId};
-ghost use Rattle.design_tables.specs.Listings.{AreTablesOf, has_name, listed};
+ghost use Rattle.design_tables.specs.Listings.{AreTablesOf, listed};
 ghost use Rattle.design_tables.specs.Marks.{key_mark};
 ghost use Rattle.design_tables.specs.Prepared.{AreApart, AreKeyed, HasNames, IsBetween, IsKept, count_in, exchanged, is_repeated, is_twice, lacks_units};
 ghost use Rattle.design_tables.specs.TableViews.{numbered_view};

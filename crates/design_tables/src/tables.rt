@@ -1,14 +1,11 @@
 //! Tables of the statements of a text, and what they find.
 
-ghost use Rattle.std.specs.Prelude.{◌≡◌, ◌≤◌, ◌∷◌, ◌++◌, [], ℕ, Bool, List, IfOk, MatchOption, OnOk, Some, filter, length, map};
-ghost use Rattle.std.specs.List.{list_any};
+ghost use Rattle.std.specs.Prelude.{◌≡◌, ◌∷◌, ◌++◌, [], ℕ, List, MatchOption, OnOk, Some, length};
 ghost use Rattle.def_grammar.specs.Records.{Record};
 ghost use Rattle.def_reader.specs.StatementViews.{record_view};
-ghost use Rattle.design_model.specs.EnumWords.{section_word};
 ghost use Rattle.design_model.specs.declared.identifier.StmtId.{StmtId as TheStmtId};
 ghost use Rattle.design_tables.specs.Listings.{AreTablesOf, listed};
 ghost use Rattle.design_tables.specs.Lookups.{Finds, FindsAll, entries_of, ids_with, is_design_pin, is_end, is_header, is_named_entry, is_of, is_star_pin, lists};
-ghost use Rattle.design_tables.specs.Marks.{same_role};
 
 use crate::names::NameTable;
 use crate::role::{Mark, Role};
