@@ -1,5 +1,5 @@
 -- A table of the names that a change has to do with, before the table that it was made of, is the table after the change.
-use Rattle.std.proofs.Common.{◌≡◌, ℕ, ◌+◌, Bool, true, false, cond, if◌then◌else◌, not, ◌&&◌, ◌||◌, List, [], ◌∷◌, ◌++◌, filter, map, refl, sym, ap, ap₂, ◌∙◌, arith}
+use Rattle.std.proofs.Common.{◌≡◌, ℕ, ◌+◌, Bool, true, false, cond, if◌then◌else◌, not, ◌&&◌, List, [], ◌∷◌, ◌++◌, filter, map, refl, sym, ap, ap₂, ◌∙◌, arith}
 use Rattle.std.specs.Prelude.{count_by, flat_map, sum_by}
 use Rattle.std.specs.List.{list_any}
 use Rattle.std.specs.Str.{bytes_eq}
@@ -14,7 +14,7 @@ use Rattle.design_tables.specs.Prepared.{IsKept}
 use Rattle.design_tables.specs.declared.role.Mark.{Mark}
 use Rattle.design_tables.specs.declared.role.Role.{Role}
 use Rattle.design_tables.proofs.CountLemmas.{count_both}
-use Rattle.design_tables.proofs.ListingLemmas.{found_none, found_some, listed_both, none_more}
+use Rattle.design_tables.proofs.ListingLemmas.{found_none, found_some, listed_both, none_more, or_both, or_true}
 use Rattle.design_tables.proofs.MarkLemmas.{named_both, with_both}
 use Rattle.design_tables.proofs.TableLemmas.{same_with, under_both}
 
@@ -58,15 +58,6 @@ none_pass : {X : Type 0} (xs : List X) → count_by (λ x. false) xs ≡ 0
 none_pass [] = refl
 none_pass (x ∷ xs) = sum_by-cons (λ y. 0) x xs ∙ ap (λ k. 0 + k) (none_pass xs) ∙ omega arith
 
-two : (a b : Bool) → (a || b) ≡ false → (a ≡ false) × (b ≡ false)
-two false false e = (refl, refl)
-two true b e = cc
-two false true e = cc
-
-or_yes : (a b : Bool) → b ≡ true → (a || b) ≡ true
-or_yes true b e = refl
-or_yes false b e = e
-
 and_none : (a b : Bool) → (a && (false && b)) ≡ false
 and_none true b = refl
 and_none false b = refl
@@ -83,15 +74,15 @@ module _ (gone : StmtId → Bool) (p test : Mark → Bool) (n : List ℕ) where
       ap (count_by left) (named_both n (marks_in x) (flat_map marks_in xs))
       ∙ count_both left (marks_named n (marks_in x)) (marks_under n xs)
       ∙ ap₂ (λ a b. a + b)
-        (counts_agree left (λ m. false) x (λ role. ap (λ b. p (record { role = role; id = x.0 }) && (not b && test (record { role = role; id = x.0 }))) own ∙ and_none (p (record { role = role; id = x.0 })) (test (record { role = role; id = x.0 }))) n
-        ∙ none_pass (marks_named n (marks_in x)))
-        (none_left xs (λ id has. h id (or_yes (is_number id x.0) (has_number xs id) has)))
+      (counts_agree left (λ m. false) x (λ role. ap (λ b. p (record { role = role; id = x.0 }) && (not b && test (record { role = role; id = x.0 }))) own ∙ and_none (p (record { role = role; id = x.0 })) (test (record { role = role; id = x.0 }))) n
+      ∙ none_pass (marks_named n (marks_in x)))
+      (none_left xs (λ id has. h id (or_true (is_number id x.0) (has_number xs id) has)))
 
   -- and each mark of one that is kept is
   all_left : (xs : List (StmtId × Record)) → list_any (λ (x : StmtId × Record). gone x.0) xs ≡ false → count_by left (marks_under n xs) ≡ count_by (λ m. p m && test m) (marks_under n xs)
   all_left [] h = refl
   all_left (x ∷ xs) h =
-      let own = two (gone x.0) (list_any (λ (y : StmtId × Record). gone y.0) xs) h in
+      let own = or_both (gone x.0) (list_any (λ (y : StmtId × Record). gone y.0) xs) h in
       ap (count_by left) (named_both n (marks_in x) (flat_map marks_in xs))
       ∙ count_both left (marks_named n (marks_in x)) (marks_under n xs)
       ∙ ap₂ (λ a b. a + b) (counts_agree left (λ m. p m && test m) x (λ role. ap (λ b. p (record { role = role; id = x.0 }) && (not b && test (record { role = role; id = x.0 }))) own.0) n) (all_left xs own.1)
@@ -151,7 +142,7 @@ module _ (xs out kept : List (StmtId × Record)) (is : IsKept xs out kept) where
             (same_with (marks_under n put) (less (count_by is_member (marks_under n out)) (without (has_number out) (listed n names))) (with_marks (marks_under n kept) unlisted) (left_is_kept n))
         by false h =
             let same : with_marks (marks_under n put) (with_marks (marks_under n kept) unlisted) ≡ with_marks (marks_under n kept) unlisted =
-                ap (λ ms. with_marks ms (with_marks (marks_under n kept) unlisted)) (e.apart n h).1 ∙ none_more (with_marks (marks_under n kept) unlisted) in
+            ap (λ ms. with_marks ms (with_marks (marks_under n kept) unlisted)) (e.apart n h).1 ∙ none_more (with_marks (marks_under n kept) unlisted) in
             rw (found_none new n h, same) (unchanged (e.apart n h).0)
 
 -- places that are made leave what stands under names

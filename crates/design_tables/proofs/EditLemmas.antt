@@ -17,7 +17,7 @@ use Rattle.design_tables.specs.declared.role.Mark.{Mark}
 use Rattle.design_tables.specs.declared.role.Role.{Role}
 use Rattle.design_tables.specs.declared.role.Role.TheVariants as roles
 use Rattle.design_tables.specs.declared.tables.Numbered.{Numbered}
-use Rattle.design_tables.proofs.ListingLemmas.{found_none, found_some, named_one, none_more, own_name, same_name}
+use Rattle.design_tables.proofs.ListingLemmas.{found_none, found_some, named_one, none_more, or_both, own_name, same_name}
 use Rattle.design_tables.proofs.MarkLemmas.{named_both, with_both}
 
 abbrev pub numbered : StmtId → List (List ℕ × Role) → List (List ℕ × Mark)
@@ -29,11 +29,11 @@ pub next_mark : (id : StmtId) (all : List NameMark) (i : ℕ) (d : NameMark) (be
 next_mark id all i d before below =
     append_assoc before (numbered id (map name_mark_view (take i all))) _
     ∙ ap (λ ms. before ++ ms)
-      (sym (
-      ap (λ ms. numbered id (map name_mark_view ms)) (take_more all i d below)
-      ∙ ap (numbered id) (map-append name_mark_view (take i all) (get_or all i d ∷ []))
-      ∙ map-append (λ (m : List ℕ × Role). (m.0, record { role = m.1; id = id })) (map name_mark_view (take i all)) (name_mark_view (get_or all i d) ∷ [])
-      ))
+    (sym (
+    ap (λ ms. numbered id (map name_mark_view ms)) (take_more all i d below)
+    ∙ ap (numbered id) (map-append name_mark_view (take i all) (get_or all i d ∷ []))
+    ∙ map-append (λ (m : List ℕ × Role). (m.0, record { role = m.1; id = id })) (map name_mark_view (take i all)) (name_mark_view (get_or all i d) ∷ [])
+    ))
 
 pub next_statement : (all : List Numbered) (i : ℕ) (d : Numbered) → i < length all
     → flat_map marks_in (map numbered_view (take i all)) ++ marks_in (numbered_view (get_or all i d)) ≡ flat_map marks_in (map numbered_view (take (i + 1) all))
@@ -50,11 +50,6 @@ less_none l = ap (λ k. record { marks = l.marks; entries = k }) (omega arith)
 -- nothing goes out and nothing is put in
 edited_none : (gone : StmtId → Bool) (l : Listing) → edited gone [] [] l ≡ without gone l
 edited_none gone l = none_more (less 0 (without gone l)) ∙ less_none (without gone l)
-
-or_both : (a b : Bool) → (a || b) ≡ false → (a ≡ false) × (b ≡ false)
-or_both false false e = (refl, refl)
-or_both true b e = cc
-or_both false true e = cc
 
 or_other : (a b : Bool) → (a || b) ≡ true → a ≡ false → b ≡ true
 or_other false b e f = e

@@ -11,11 +11,7 @@ use Rattle.design_tables.specs.Listings.{Listing, has_name, listed, or_unlisted}
 use Rattle.design_tables.specs.ListingViews.{listing_view, named_view}
 use Rattle.design_tables.specs.Prepared.{AreApart, HasNames, exchanged, set_named}
 use Rattle.design_tables.specs.declared.names.Listing as code
-use Rattle.design_tables.proofs.ListingLemmas.{found_is, has_is, has_set, is_key, own_name, set_is}
-
-or_true : (a b : Bool) → b ≡ true → (a || b) ≡ true
-or_true true b e = refl
-or_true false b e = e
+use Rattle.design_tables.proofs.ListingLemmas.{found_is, has_is, has_set, is_key, or_true, own_name, set_is}
 
 abbrev Entries : Type 0 → Type 0
 Entries A = List (Vec ℕ A × code.Listing A)

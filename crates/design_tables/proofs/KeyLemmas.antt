@@ -40,8 +40,8 @@ module _ (n : List ℕ) where
   own_alone role member star design component e =
       count_both (has_role n role) (option_to_list (entry_mark e)) (entry_marks (Some e))
       ∙ ap (λ k. count_by (has_role n role) (option_to_list (entry_mark e)) + k)
-        (count_both (has_role n role) ((section_word (section_of e), roles.Member) ∷ []) (flat_map terminal_marks (terminals_of e))
-        ∙ ap₂ (λ a b. a + b) (no_role n role (section_word (section_of e)) roles.Member member) (no_terminals n role star design component (terminals_of e)))
+      (count_both (has_role n role) ((section_word (section_of e), roles.Member) ∷ []) (flat_map terminal_marks (terminals_of e))
+      ∙ ap₂ (λ a b. a + b) (no_role n role (section_word (section_of e)) roles.Member member) (no_terminals n role star design component (terminals_of e)))
       ∙ omega arith
 
   no_entry : (s : Section) (o : Option (List ℕ)) → count_by (has_role n roles.Statement) (option_to_list (option_map (λ (name : List ℕ). (name, roles.Entry s)) o)) ≡ cond (same_words (n ∷ []) (entry_key s o)) 1 0

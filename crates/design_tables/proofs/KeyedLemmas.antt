@@ -117,8 +117,8 @@ module _ (xs out kept put : List (StmtId × Record)) (is : IsKept xs out kept) (
     once key some none = ⊎_elim
         (λ zero. once_kept key some zero)
         (λ (x : (x : StmtId × Record) × (same_words key (key_of x.1) ≡ true) × (is_repeated new x ≡ false)).
-            let same : key ≡ key_of x.0.1 = same_key key (key_of x.0.1) x.1 in
-            rw same (once_put (key_of x.0.1) (rw (← same) some) (key_mark x.0.1) (counts_of x.0.1) x.2))
+        let same : key ≡ key_of x.0.1 = same_key key (key_of x.0.1) x.1 in
+        rw same (once_put (key_of x.0.1) (rw (← same) some) (key_mark x.0.1) (counts_of x.0.1) x.2))
         (first_put key put none)
 
     abbrev unit_key : Key
@@ -181,6 +181,6 @@ module _ (xs out kept put : List (StmtId × Record)) (is : IsKept xs out kept) (
       by true has =
           let none : has_none (Some (listed (codes "UNITS") new)) ≡ true = ap has_none (sym (found_some new (codes "UNITS") has)) ∙ lacks in
           let no_key : list_any (same_words key) (keys_of (kept ++ put)) ≡ false =
-              some_counted (same_words key) (keys_of (kept ++ put)) ∙ ap (ltb 0) (sym (here (codes "UNITS") roles.Statement key (word_counts (codes "UNITS")) has)) ∙ zero (count_in (codes "UNITS") roles.Statement new) none in
+          some_counted (same_words key) (keys_of (kept ++ put)) ∙ ap (ltb 0) (sym (here (codes "UNITS") roles.Statement key (word_counts (codes "UNITS")) has)) ∙ zero (count_in (codes "UNITS") roles.Statement new) none in
           true≢false (sym after.units ∙ no_key)
       by false none = true≢false (sym lacks ∙ ap has_none (found_none new (codes "UNITS") none))

@@ -19,6 +19,15 @@ use Rattle.design_tables.specs.declared.role.Mark.{Mark}
 pub same_name : (a b : List ℕ) → bytes_eq a b ≡ true → a ≡ b
 same_name a b t = grind (arith, bytes_eq-Decides)
 
+pub or_true : (a b : Bool) → b ≡ true → (a || b) ≡ true
+or_true true b e = refl
+or_true false b e = e
+
+pub or_both : (a b : Bool) → (a || b) ≡ false → (a ≡ false) × (b ≡ false)
+or_both false false e = (refl, refl)
+or_both true b e = cc
+or_both false true e = cc
+
 pub none_of : {X : Type 0} (o : Option X) (b : Bool) → b ≡ false → b ≡ is_some o → o ≡ None
 none_of None b f e = refl
 none_of (Some x) b f e = cc

@@ -1,14 +1,13 @@
 -- Worked rows of the definitions, by computing.
 use Rattle.std.proofs.Common.{◌≡◌, List, ℕ, [], ◌∷◌, false, length, refl, codes, Some, None}
-use Rattle.std.specs.Prelude.{count_by}
 use Rattle.design_model.specs.declared.identifier.StmtId.{StmtId}
 use Rattle.design_model.specs.declared.mode.Section.TheVariants.{Components, Fills, Nets, SpecialNets}
 use Rattle.design_model.specs.EnumWords.{section_word}
 use Rattle.def_grammar.specs.Nets.{is_net, must_join}
-use Rattle.def_grammar.specs.Records.{Entry, Record, component, end_section, entry, net, skipped, special_net, top}
+use Rattle.def_grammar.specs.Records.{Record, component, end_section, entry, net, skipped, special_net, top}
 use Rattle.def_grammar.specs.Terminals.{Terminal}
 use Rattle.def_grammar.specs.Top.{end_design, header, kept, properties, units}
-use Rattle.design_tables.specs.Listings.{is_member, marks_under, unlisted, with_marks}
+use Rattle.design_tables.specs.Listings.{marks_under, unlisted, with_marks}
 use Rattle.design_tables.specs.Lookups.{Finds, entries_of, is_end, is_header, is_named_entry, is_of, lists}
 use Rattle.design_tables.specs.Marks.{marks_of}
 use Rattle.design_tables.specs.Prepared.{keys_of}
@@ -61,7 +60,7 @@ text =
 
 -- all that has to do with u1; and the word of a section that is a component's name too
 under_a_name : (marks_under (codes "u1") text
-      ≡ record { role = roles.Entry Components; id = id 1 } ∷ record { role = roles.Entry Nets; id = id 2 } ∷ record { role = roles.Component; id = id 2 } ∷ record { role = roles.Component; id = id 2 } ∷ [])
+    ≡ record { role = roles.Entry Components; id = id 1 } ∷ record { role = roles.Entry Nets; id = id 2 } ∷ record { role = roles.Component; id = id 2 } ∷ record { role = roles.Component; id = id 2 } ∷ [])
     × ((with_marks (marks_under (codes "NETS") text) unlisted).marks ≡ record { role = roles.Entry Components; id = id 4 } ∷ []) × ((with_marks (marks_under (codes "NETS") text) unlisted).entries ≡ 2)
 unfolding section_word
 under_a_name = (refl, refl, refl)

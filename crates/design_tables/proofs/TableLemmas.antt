@@ -44,7 +44,7 @@ pub one_added : (xs : List (StmtId × Record)) (x : StmtId × Record) (old new :
 one_added xs x old new are added n =
     let ms = marks_named n (marks_in x) in
     let all : with_marks (marks_under n (xs ++ x ∷ [])) unlisted ≡ with_marks ms (with_marks (marks_under n xs) unlisted) =
-        ap (λ ks. with_marks ks unlisted) (under_both n xs (x ∷ []) ∙ ap (λ ks. marks_under n xs ++ ks) (under_one n x)) ∙ sym (with_both (marks_under n xs) ms unlisted) in
+    ap (λ ks. with_marks ks unlisted) (under_both n xs (x ∷ []) ∙ ap (λ ks. marks_under n xs ++ ks) (under_one n x)) ∙ sym (with_both (marks_under n xs) ms unlisted) in
     rw (added n, all) (same_with ms (listed n old) (with_marks (marks_under n xs) unlisted) (are n))
 
 -- where as many pass, some do
@@ -160,8 +160,8 @@ module _ (s : Section) where
   of_entry e =
       count_both counts (option_to_list (entry_mark e)) (entry_marks (Some e))
       ∙ ap₂ (λ a b. a + b) (own_counted e (name_of e))
-        (sum_by-cons (λ m. cond (counts m) 1 0) (section_word (section_of e), roles.Member) (flat_map terminal_marks (terminals_of e))
-        ∙ member_step (bytes_eq (section_word (section_of e)) word) (in_section e) 0 _ (bytes_eq_sym (section_word (section_of e)) word) (no_terminals word roles.Member refl refl refl (terminals_of e)))
+      (sum_by-cons (λ m. cond (counts m) 1 0) (section_word (section_of e), roles.Member) (flat_map terminal_marks (terminals_of e))
+      ∙ member_step (bytes_eq (section_word (section_of e)) word) (in_section e) 0 _ (bytes_eq_sym (section_word (section_of e)) word) (no_terminals word roles.Member refl refl refl (terminals_of e)))
       ∙ omega arith
 
   of_record : (r : Record) → count_by counts (marks_of r) ≡ counted (entry_of r)

@@ -6,7 +6,7 @@ use Rattle.def_grammar.specs.Records.{Record}
 use Rattle.design_tables.specs.Changes.{or_else_listed}
 use Rattle.design_tables.specs.Listings.{Listing, found, has_name, listed, or_unlisted}
 use Rattle.design_tables.specs.Prepared.{AreApart, HasNames, IsBetween, exchanged, set_named}
-use Rattle.design_tables.proofs.ListingLemmas.{bytes_eq_sym, found_none, has_set, listed_both, listed_set, own_name, same_name}
+use Rattle.design_tables.proofs.ListingLemmas.{bytes_eq_sym, found_none, has_set, listed_both, listed_set, or_true, own_name, same_name}
 
 abbrev Table : Type 0
 Table = List (List ℕ × Listing)
@@ -22,10 +22,6 @@ has_names n (c ∷ cs) es = has_names n cs (set_named c.0 c.1 es) ∙ has_set es
 apart_change : (cs es : Table) → AreApart cs → AreApart (exchanged cs es).0
 apart_change [] es h = tt
 apart_change (c ∷ cs) es h = (has_change c.0 cs (set_named c.0 c.1 es) ∙ h.0, apart_change cs (set_named c.0 c.1 es) h.1)
-
-or_true : (a b : Bool) → b ≡ true → (a || b) ≡ true
-or_true true b e = refl
-or_true false b e = e
 
 first_known : (c : List ℕ × Listing) (cs es : Table) → HasNames (c ∷ cs) es → has_name c.0 es ≡ true
 first_known c cs es known = known c.0 (by (bytes_eq c.0 c.0) (own_name c.0))

@@ -17,10 +17,7 @@ use std::alloc::{AllocError, Allocator};
 use std::hash::BuildHasherDefault;
 
 /// The numbers of statements.
-fn ids_of<A: Allocator + Copy>(
-    alloc: A,
-    statements: &[Numbered<'_>],
-) -> Result<Ids<A>, AllocError>
+fn ids_of<A: Allocator + Copy>(alloc: A, statements: &[Numbered<'_>]) -> Result<Ids<A>, AllocError>
     ensures { IfOk result (λ ids. (id : TheStmtId) → is_gone ids.keys id ≡ has_number (map numbered_view statements.now) id) }
 {
     let mut ids = IndexSet::with_hasher(alloc, BuildHasherDefault::new());

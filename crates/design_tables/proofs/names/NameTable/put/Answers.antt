@@ -17,7 +17,7 @@ returns-clause-put g c =
           let had = w.in-Some.listing.now in
           let view = c.self.view_is in
           let found_at : found name (map named_view es) ≡ Some (listing_view had) =
-              found_is name es ∙ ap (option_map listing_view) (looked_up _ _ w.in-Some.listing w.in-Some.is c.get_mut.ensures.value) in
+          found_is name es ∙ ap (option_map listing_view) (looked_up _ _ w.in-Some.listing w.in-Some.is c.get_mut.ensures.value) in
           let set : map named_view (c.get_mut.follows.lender l).entries ≡ set_named name (listing_view l) (map named_view es) = ap (map named_view) (c.get_mut.follows.holds l).0 ∙ set_is name l es in
           rw (w.result-is, w.self-inside-is) (on_ok w.push.result
           (λ put. listed_put c.args.self.now (map named_view es) (map named_view (c.get_mut.follows.lender l).entries) name c.args.mark (listing_view had) (listing_view l) (λ n. ap (λ t. listed n t) view ∙ c.in_ok-make_place.ensures.same n) found_at put set)

@@ -28,7 +28,7 @@ returns-clause-counted g c = λ n.
           let l = w.uncount.new.self in
           let had = w.in-Some.listing.now in
           let found_at : found name (map named_view es) ≡ Some (listing_view had) =
-              found_is name es ∙ ap (option_map listing_view) (looked_up _ _ w.in-Some.listing w.in-Some.is c.get_mut.ensures.value) in
+          found_is name es ∙ ap (option_map listing_view) (looked_up _ _ w.in-Some.listing w.in-Some.is c.get_mut.ensures.value) in
           let set : map named_view (c.get_mut.follows.lender l).entries ≡ set_named name (listing_view l) (map named_view es) = ap (map named_view) (c.get_mut.follows.holds l).0 ∙ set_is name l es in
           rw w.self-inside-is (counted_set c.args.self.now (map named_view es) (map named_view (c.get_mut.follows.lender l).entries) n name (listing_view had) (listing_view l) c.self.view_is found_at w.uncount.ensures set)
       | in-None w ↦
