@@ -113,7 +113,7 @@ pub fn net_entry<'a, L: LookUps>(lookups: &'a L, name: &[u8]) -> Option<(Stateme
 }
 
 /// Whether a statement is an entry that lists a terminal.
-fn lists_terminal(statement: &Statement<'_>, owner: &[u8], pin: &[u8]) -> bool
+pub fn lists_terminal(statement: &Statement<'_>, owner: &[u8], pin: &[u8]) -> bool
     ensures { result ≡ of_entry (lists owner.now pin.now) (entry_of (record_view statement.now)) }
 {
     let terminal = Named { owner, pin };

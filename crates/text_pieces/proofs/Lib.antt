@@ -3,6 +3,7 @@ mod Found
 mod Going
 mod Ids
 mod JoinedPieces
+mod LentPieces
 mod Neighbours
 mod Opened
 mod PlacedPieces

@@ -15,6 +15,7 @@
 #![tactic(auto)]
 
 mod chunks;
+pub mod lent;
 mod opening;
 pub mod prepared;
 mod table;

@@ -31,7 +31,7 @@ use std::marker::Model;
 /// A text as the pieces of its statements, and the bytes behind the last of them.
 #[derive(Drop)]
 pub struct TextPieces<A: Allocator = Global> {
-    table: PieceTable<A>,
+    pub(crate) table: PieceTable<A>,
     tail: Vec<u8, A>,
     len: usize,
 }

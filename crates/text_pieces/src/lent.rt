@@ -1,0 +1,35 @@
+//! Pieces that are lent.
+
+ghost use Rattle.text_pieces.specs.Lent.{Lends};
+
+use crate::text::TextPieces;
+use design_model::identifier::StmtId;
+use design_model::mode::Mode;
+use piece_laws::chains::chains_lead;
+use piece_laws::pieces::texts_are_read;
+use std::alloc::Allocator;
+
+/// A statement with the blanks and comments before it, the mode in which it stands, and where these bytes begin in the text.
+#[derive(Clone, Copy)]
+pub struct LentPiece<'t> {
+    pub bytes: &'t [u8],
+    pub mode: Mode,
+    pub at: usize,
+}
+
+impl<A: Allocator + Copy> TextPieces<A> {
+    /// The piece of a statement: it reads by itself in its mode, and lies in the text.
+    pub fn piece(&self, id: StmtId) -> Option<LentPiece<'_>>
+        ensures { Lends self.now id result }
+    {
+        texts_are_read();
+        chains_lead();
+        let at = self.table.start_of(id)?;
+        let piece = &self.table.pieces[id.0];
+        Some(LentPiece {
+            bytes: &piece.bytes,
+            mode: piece.mode,
+            at,
+        })
+    }
+}
