@@ -1,0 +1,13 @@
+//! The text of a design in pieces, with its tables by name.
+//!
+//! Begin with `DesignText::open`. It keeps the pieces of a text's statements under numbers, and tables of what each statement has to
+//! do with names. A `DesignText` answers the look-ups of an edit (`def_splice::lookups::LookUps`) by the tables, and reads no
+//! statement for them but those that it gives. What it gives lies in the text, with tokens over the bytes of the statement alone.
+//!
+//! It is seen as `Content` of `specs/DesignTexts`. Its invariant is `IsDesignText`: the text reads as a design, and the tables are
+//! those of its statements under their numbers.
+//!
+//! Bytes of statements are lent. `open` answers `ReadError`, the fault of the text or want of memory; look-ups take none.
+#![tactic(auto)]
+
+pub mod text;

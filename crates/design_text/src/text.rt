@@ -1,0 +1,75 @@
+//! The text of a design.
+
+ghost use Rattle.std.specs.Prelude.{◌≡◌, IfSome, List, Ok};
+ghost use Rattle.std.specs.Option.{option_map};
+ghost use Rattle.statement_model.specs.Form.{spell};
+ghost use Rattle.def_grammar.specs.Components.{Component, component_form};
+ghost use Rattle.def_grammar.specs.Records.{Record, component, entry, read_def};
+ghost use Rattle.lefdef_tokens.specs.Views.{pieces_of, words_of};
+ghost use Rattle.def_reader.specs.Lent.{StatementAt};
+ghost use Rattle.def_reader.specs.StatementViews.{record_view};
+ghost use Rattle.def_splice.specs.Lying.{LiesIn, lying_statement};
+ghost use Rattle.design_text.specs.DesignTexts.{IsNumbered, statement_under, text_of};
+
+use def_reader::read_statement::read_statement;
+use def_reader::statement::Statement;
+use def_splice::lying::Lying;
+use design_model::identifier::StmtId;
+use design_tables::Tables;
+use piece_laws::keys::{fresh_is_once, keys_are_apart};
+use piece_laws::pieces::pieces_are_found;
+use statement_reader::laws::records_are_read;
+use std::alloc::{Allocator, Global};
+use std::marker::Model;
+use text_pieces::text::TextPieces;
+
+/// The pieces of a text that reads, and the tables of its statements under their numbers.
+#[derive(Drop)]
+pub struct DesignText<A: Allocator + Copy = Global> {
+    pub(crate) pieces: TextPieces<A>,
+    pub(crate) tables: Tables<A>,
+}
+
+impl<A: Allocator + Copy> Model for DesignText<A> {
+    ghost use Rattle.design_text.specs.DesignTexts.{Content, IsDesignText};
+
+    ghost Value = { Content };
+
+    ghost view = { λ t. record { pieces = t.pieces; names = t.tables } };
+
+    ghost invariant = { λ t. IsDesignText (record { pieces = t.pieces; names = t.tables }) };
+}
+
+impl<A: Allocator + Copy> DesignText<A> {
+    /// A law: what is known of the statements and the tables.
+    pub(crate) fn statements_are_known(&self)
+        ensures { (design : List Record) → read_def (text_of self.now) ≡ Ok design → IsNumbered self.now design }
+    {
+        records_are_read::<Statement<'_>>();
+        keys_are_apart();
+        fresh_is_once();
+        self.pieces.statements_are_numbered();
+    }
+
+    /// The statement of a number. It alone is read.
+    pub(crate) fn found(&self, id: StmtId) -> Option<(Statement<'_>, Lying<'_>)>
+        ensures gives { option_map lying_statement result ≡ statement_under self.now id }
+        ensures lent { IfSome result (λ x. StatementAt (pieces_of x.1.tokens) x.0) }
+        ensures spelled { IfSome result (λ x. (c : Component) → record_view x.0 ≡ entry (component c) → words_of x.1.tokens ≡ spell component_form c) }
+        ensures lies { IfSome result (λ x. LiesIn (text_of self.now) x.1) }
+    {
+        pieces_are_found();
+        let piece = self.pieces.piece(id)?;
+        let Ok(found) = read_statement(piece.mode, piece.bytes, 0) else {
+            unreachable!()
+        };
+        let Some(read) = found else {
+            unreachable!()
+        };
+        let tokens = Lying {
+            tokens: read.tokens,
+            at: piece.at,
+        };
+        Some((read.statement, tokens))
+    }
+}
