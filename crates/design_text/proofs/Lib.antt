@@ -1,1 +1,6 @@
+mod EntryLists
+mod FoundNumbers
+mod FoundStatements
+mod KeptKeys
 mod ReadPieces
+mod SectionEnds

@@ -4,7 +4,8 @@ use Rattle.std.specs.List.{zip}
 use Rattle.design_model.specs.declared.identifier.StmtId.{StmtId}
 use Rattle.statement_model.specs.Tokens.{Token}
 use Rattle.def_grammar.specs.Located.{located}
-use Rattle.def_grammar.specs.Records.{Record, key_of, read_def}
+use Rattle.def_grammar.specs.Records.{Record, entry_of, key_of, read_def}
+use Rattle.edit_rules.specs.NetEdits.{lists}
 use Rattle.piece_laws.specs.KeyLaws.{StandOnce}
 use Rattle.text_pieces.specs.Chunks.{AreOnce}
 use Rattle.text_pieces.specs.Content as pieces
@@ -12,6 +13,7 @@ use Rattle.text_pieces.specs.Lent.{numbered_statements}
 use Rattle.text_pieces.specs.Statements.{look_up, statements_of}
 use Rattle.text_pieces.specs.Tables.{ids_of}
 use Rattle.design_tables.specs.Listings.{AreTablesOf, Listing}
+use Rattle.def_splice.specs.LookupViews.{of_entry}
 
 -- the pieces of the text, and what stands under each name
 pub record Content : Type 0 where
@@ -49,3 +51,7 @@ pub record IsNumbered (c : Content) (design : List Record) : Type 0 where
 abbrev pub says_one : (Record → Bool) → Option (List Token × Record) → Bool
 says_one test None = false
 says_one test (Some x) = test x.1
+
+-- an entry that lists this pin of this owner
+abbrev pub is_listing : List ℕ → List ℕ → Record → Bool
+is_listing owner pin r = of_entry (lists owner pin) (entry_of r)

@@ -10,4 +10,5 @@
 //! Bytes of statements are lent. `open` answers `ReadError`, the fault of the text or want of memory; look-ups take none.
 #![tactic(auto)]
 
+mod look_ups;
 pub mod text;
