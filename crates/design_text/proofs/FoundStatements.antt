@@ -3,6 +3,7 @@ use Rattle.std.proofs.Common.{◌≡◌, ◌≢◌, ◌≤◌, ◌+◌, ◌&&◌
 use Rattle.std.specs.Prelude.{◌==◌, count_by, MatchOption}
 use Rattle.std.specs.List.{list_any, zip}
 use Rattle.std.proofs.lemmas.Bool.{cases_Bool, cases_eq, or_parts}
+use Rattle.std.proofs.lemmas.List.{length-map}
 use Rattle.std.proofs.lemmas.List.Sums.{sum_by-cons}
 use Rattle.design_model.specs.declared.identifier.StmtId.{StmtId}
 use Rattle.statement_model.specs.Tokens.{Token}
@@ -154,3 +155,6 @@ module _ (test : Record → Bool) where
     none_is finds =
         let none : list_any passes (zip (numbers_of c) (said statements)) ≡ false = ap (λ (rs : List Record). list_any passes (zip (numbers_of c) rs)) k.said ∙ finds in
         sym (ap (first_where test) k.located ∙ none_where (numbers_of c) statements k.many none)
+
+pub many_are : (c : Content) (design : List Record) → IsNumbered c design → length (numbers_of c) ≡ length design
+many_are c design k = k.many ∙ sym (length-map (statements_of (text_of c)) (λ (x : List Token × Record). x.1)) ∙ ap length k.said
