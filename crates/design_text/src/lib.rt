@@ -11,4 +11,6 @@
 #![tactic(auto)]
 
 mod look_ups;
+mod opening;
+mod statements;
 pub mod text;

@@ -11,13 +11,12 @@ ghost use Rattle.def_reader.specs.StatementViews.{record_view};
 ghost use Rattle.def_splice.specs.Lying.{LiesIn, lying_statement};
 ghost use Rattle.design_text.specs.DesignTexts.{IsNumbered, statement_under, text_of};
 
-use def_reader::read_statement::read_statement;
+use crate::statements::statement_of;
 use def_reader::statement::Statement;
 use def_splice::lying::Lying;
 use design_model::identifier::StmtId;
 use design_tables::Tables;
 use piece_laws::keys::{fresh_is_once, keys_are_apart};
-use piece_laws::pieces::pieces_are_found;
 use statement_reader::laws::records_are_read;
 use std::alloc::{Allocator, Global};
 use std::marker::Model;
@@ -58,18 +57,6 @@ impl<A: Allocator + Copy> DesignText<A> {
         ensures spelled { IfSome result (λ x. (c : Component) → record_view x.0 ≡ entry (component c) → words_of x.1.tokens ≡ spell component_form c) }
         ensures lies { IfSome result (λ x. LiesIn (text_of self.now) x.1) }
     {
-        pieces_are_found();
-        let piece = self.pieces.piece(id)?;
-        let Ok(found) = read_statement(piece.mode, piece.bytes, 0) else {
-            unreachable!()
-        };
-        let Some(read) = found else {
-            unreachable!()
-        };
-        let tokens = Lying {
-            tokens: read.tokens,
-            at: piece.at,
-        };
-        Some((read.statement, tokens))
+        statement_of(&self.pieces, id)
     }
 }

@@ -5,7 +5,7 @@ use Rattle.lefdef_tokens.specs.Views.{pieces_of}
 use Rattle.def_reader.specs.StatementViews.{record_view}
 use Rattle.def_splice.specs.Lying.{moved_tokens}
 use Rattle.design_text.proofs.ReadPieces.{has_no_fault, is_some, pieces_are, says_it, spelled}
-use Rattle.design_text.proofs.text.DesignText.found.Goals as goal
+use Rattle.design_text.proofs.statements.statement_of.Goals as goal
 
 pub unreachable-requires : goal.unreachable-requires
 unreachable-requires g c =
@@ -28,7 +28,7 @@ returns-clause-gives g c =
     let reads = rw c.in-Some.is at c.in-Ok.ensures.reads in
     let says = says_it c.pieces_are_found.ensures piece.mode l.after piece.bytes.now l.rec l.piece read reads.2 in
     let pieces = pieces_are c.pieces_are_found.ensures piece.mode l.after piece.bytes.now l.rec l.piece read cuts in
-    rw (← c.self.view_is) (ap₂ (λ (ps : List Token) (r : Record). Some (moved_tokens piece.at ps, r)) pieces says ∙ sym l.numbered)
+    (ap₂ (λ (ps : List Token) (r : Record). Some (moved_tokens piece.at ps, r)) pieces says ∙ sym l.numbered)
 
 pub returns-clause-spelled : goal.returns-clause-spelled
 returns-clause-spelled g c = λ x is.

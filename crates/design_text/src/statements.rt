@@ -1,0 +1,47 @@
+//! Statements of a text in pieces.
+
+ghost use Rattle.std.specs.Prelude.{◌≡◌, IfSome};
+ghost use Rattle.std.specs.Option.{option_map};
+ghost use Rattle.statement_model.specs.Form.{spell};
+ghost use Rattle.def_grammar.specs.Components.{Component, component_form};
+ghost use Rattle.def_grammar.specs.Records.{component, entry};
+ghost use Rattle.lefdef_tokens.specs.Views.{pieces_of, words_of};
+ghost use Rattle.def_reader.specs.Lent.{StatementAt};
+ghost use Rattle.def_reader.specs.StatementViews.{record_view};
+ghost use Rattle.def_splice.specs.Lying.{LiesIn, lying_statement};
+ghost use Rattle.text_pieces.specs.Content.{text_of};
+ghost use Rattle.text_pieces.specs.Lent.{numbered_statements};
+ghost use Rattle.text_pieces.specs.Statements.{look_up};
+
+use def_reader::read_statement::read_statement;
+use def_reader::statement::Statement;
+use def_splice::lying::Lying;
+use design_model::identifier::StmtId;
+use piece_laws::pieces::pieces_are_found;
+use std::alloc::Allocator;
+use text_pieces::text::TextPieces;
+
+/// The statement of a number, read from its piece alone.
+pub(crate) fn statement_of<A: Allocator + Copy>(
+    pieces: &TextPieces<A>,
+    id: StmtId,
+) -> Option<(Statement<'_>, Lying<'_>)>
+    ensures gives { option_map lying_statement result ≡ look_up id (numbered_statements pieces.now) }
+    ensures lent { IfSome result (λ x. StatementAt (pieces_of x.1.tokens) x.0) }
+    ensures spelled { IfSome result (λ x. (c : Component) → record_view x.0 ≡ entry (component c) → words_of x.1.tokens ≡ spell component_form c) }
+    ensures lies { IfSome result (λ x. LiesIn (text_of pieces.now) x.1) }
+{
+    pieces_are_found();
+    let piece = pieces.piece(id)?;
+    let Ok(found) = read_statement(piece.mode, piece.bytes, 0) else {
+        unreachable!()
+    };
+    let Some(read) = found else {
+        unreachable!()
+    };
+    let tokens = Lying {
+        tokens: read.tokens,
+        at: piece.at,
+    };
+    Some((read.statement, tokens))
+}
