@@ -1,6 +1,8 @@
 mod EntryLists
+mod Filling
 mod FoundNumbers
 mod FoundStatements
 mod KeptKeys
+mod Opened
 mod ReadPieces
 mod SectionEnds

@@ -1,8 +1,6 @@
-use Rattle.std.proofs.Common.{◌≡◌, ◌∙◌, Some, List, sym, ap, ap₂}
+use Rattle.std.proofs.Common.{◌∙◌, Some, List, sym, ap₂}
 use Rattle.statement_model.specs.Tokens.{Token}
 use Rattle.def_grammar.specs.Records.{Record}
-use Rattle.lefdef_tokens.specs.Views.{pieces_of}
-use Rattle.def_reader.specs.StatementViews.{record_view}
 use Rattle.def_splice.specs.Lying.{moved_tokens}
 use Rattle.design_text.proofs.ReadPieces.{has_no_fault, is_some, pieces_are, says_it, spelled}
 use Rattle.design_text.proofs.statements.statement_of.Goals as goal

@@ -1,7 +1,5 @@
-use Rattle.std.proofs.Common.{◌≡◌, ◌∙◌, length, sym, ap, arith}
+use Rattle.std.proofs.Common.{◌∙◌, sym, ap, arith}
 use Rattle.std.specs.List.{zip}
-use Rattle.design_tables.specs.Lookups.{entries_of}
-use Rattle.edit_rules.specs.SectionEdits.{entries_in}
 use Rattle.design_text.specs.DesignTexts.{Content, numbers_of, text_of}
 use Rattle.design_text.proofs.EntryLists.{counted, few_in_text}
 use Rattle.design_text.proofs.FoundStatements.{many_are}

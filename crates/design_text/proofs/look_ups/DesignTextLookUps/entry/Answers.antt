@@ -1,4 +1,4 @@
-use Rattle.std.proofs.Common.{◌≡◌, ◌∙◌, sym, ap}
+use Rattle.std.proofs.Common.{◌∙◌, sym, ap}
 use Rattle.std.specs.List.{zip}
 use Rattle.def_grammar.specs.Located.{located}
 use Rattle.design_tables.specs.Lookups.{is_named_entry}

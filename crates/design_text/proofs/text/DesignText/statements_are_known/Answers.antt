@@ -1,4 +1,4 @@
-use Rattle.std.proofs.Common.{[], ◌≡◌, ◌∙◌, List, Ok, map, sym, subst}
+use Rattle.std.proofs.Common.{[], ◌≡◌, ◌∙◌, List, map, sym, subst}
 use Rattle.std.specs.List.{zip}
 use Rattle.design_model.specs.declared.mode.Mode.TheVariants.{Top}
 use Rattle.statement_model.specs.Tokens.{tokens}
