@@ -1,5 +1,5 @@
 -- What tables find among numbered statements, as what comes first among them.
-use Rattle.std.proofs.Common.{◌≡◌, ◌≢◌, ◌≤◌, ◌+◌, ◌&&◌, ◌||◌, ℕ, suc, Bool, true, false, cond, List, [], ◌∷◌, length, map, Option, Some, None, Ok, refl, sym, ap, ap₂, subst, ◌∙◌, ⊎_elim, inl, inr, arith}
+use Rattle.std.proofs.Common.{◌≡◌, ◌≢◌, ◌≤◌, ◌+◌, ◌&&◌, ◌||◌, ℕ, Bool, true, false, cond, List, [], ◌∷◌, length, Option, Some, None, refl, sym, ap, ap₂, subst, ◌∙◌, ⊎_elim, inl, inr, arith}
 use Rattle.std.specs.Prelude.{◌==◌, count_by, MatchOption}
 use Rattle.std.specs.List.{list_any, zip}
 use Rattle.std.proofs.lemmas.Bool.{cases_Bool, cases_eq, or_parts}
@@ -15,7 +15,7 @@ use Rattle.text_pieces.specs.Statements.{look_up, statements_of}
 use Rattle.design_tables.specs.Lookups.{Finds, FindsAll, is_number, numbers_one}
 use Rattle.def_splice.specs.LookupViews.{first_where}
 use Rattle.def_splice.proofs.SearchSteps.{said}
-use Rattle.design_text.specs.DesignTexts.{Content, IsNumbered, numbers_of, says_one, statement_under, text_of}
+use Rattle.design_text.specs.DesignTexts.{Content, IsNumbered, numbers_of, statement_under, text_of}
 
 pub same : (n : ℕ) → (n == n) ≡ true
 same n = grind arith

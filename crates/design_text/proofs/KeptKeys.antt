@@ -13,8 +13,8 @@ use Rattle.statement_model.specs.Grammar.{Key}
 use Rattle.statement_model.specs.Reading.{same_words}
 use Rattle.statement_model.specs.Tokens.{Token}
 use Rattle.def_grammar.specs.Components.{Component}
-use Rattle.def_grammar.specs.Located.{component_at, entry_at, is_entry, is_named}
-use Rattle.def_grammar.specs.Records.{Record, blockage, component, component_of, end_section, entry, entry_key, entry_of, group, in_properties, key_of, name_of, net, pin, region, rule, section_of, skipped, special_net, top, via}
+use Rattle.def_grammar.specs.Located.{component_at, entry_at, is_named}
+use Rattle.def_grammar.specs.Records.{Record, blockage, component, component_of, end_section, entry, entry_key, group, in_properties, key_of, name_of, net, pin, region, rule, section_of, skipped, special_net, top, via}
 use Rattle.def_grammar.specs.Top.{header, plain}
 use Rattle.piece_laws.specs.KeyLaws.{StandOnce}
 use Rattle.design_tables.specs.Lookups.{is_named_entry}

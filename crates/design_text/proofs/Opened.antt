@@ -1,5 +1,5 @@
 -- A text that is opened.
-use Rattle.std.proofs.Common.{◌≡◌, ◌≤◌, ℕ, false, List, [], length, map, Result, Ok, Err, IsOk, refl, sym, ap, subst, ◌∙◌, arith}
+use Rattle.std.proofs.Common.{◌≡◌, ◌≤◌, ℕ, false, List, [], length, Result, Ok, Err, IsOk, refl, sym, ap, subst, ◌∙◌, arith}
 use Rattle.std.specs.Prelude.{nat_lt}
 use Rattle.std.specs.List.{zip}
 use Rattle.std.proofs.lemmas.Bool.Decides.{nat_tests}
@@ -8,13 +8,11 @@ use Rattle.design_model.specs.declared.fault.Fault as fault
 use Rattle.design_model.specs.declared.fault.ReadError.{ReadError}
 use Rattle.design_model.specs.declared.fault.ReadError.TheVariants.{Fault, Memory}
 use Rattle.design_model.specs.declared.mode.Mode.TheVariants.{Top}
-use Rattle.statement_model.specs.Reading.{read_from, read_text}
+use Rattle.statement_model.specs.Reading.{read_text}
 use Rattle.statement_model.specs.Tokens.{tokens}
 use Rattle.statement_reader.specs.ReadingLaws.{RecordsAreLocated}
 use Rattle.def_grammar.specs.Records.{Record, def, read_def}
-use Rattle.def_reader.specs.TextViews.{ReadsText}
 use Rattle.piece_laws.specs.KeyLaws.{KeysAreApart}
-use Rattle.piece_laws.specs.Pieces.{keyless}
 use Rattle.text_pieces.specs.Content as pieces
 use Rattle.text_pieces.specs.Content.{Opens, read_keyless}
 use Rattle.text_pieces.specs.Tables.{ids_of}
@@ -45,9 +43,9 @@ reads_keyless keys text design fits reads =
     rw few (keys Top [] (tokens text) design (tokens_read text design reads)).0
 
 -- so its pieces have no fault
-pub failed : (S : Type 0) → KeysAreApart def → (text : List ℕ) (error : ReadError) → length text ≤ MAX_TEXT → IsOk (read_def text) → Opens text (Err error) → ReadsText {S = S} text (Err error)
-failed S keys text Memory fits reads opens = tt
-failed S keys text (Fault f) fits reads opens =
+pub only_memory : KeysAreApart def → (text : List ℕ) (error : ReadError) → length text ≤ MAX_TEXT → IsOk (read_def text) → Opens text (Err error) → error ≡ Memory
+only_memory keys text Memory fits reads opens = refl
+only_memory keys text (Fault f) fits reads opens =
     let found = has_records (read_def text) reads in
     let e = sym (reads_keyless keys text found.0 fits found.1) ∙ opens in
     absurd (cc)

@@ -1,5 +1,5 @@
 -- A statement that is read from its piece alone.
-use Rattle.std.proofs.Common.{◌≡◌, ◌+◌, ℕ, List, [], ◌++◌, length, Option, Some, None, Result, Ok, Err, refl, sym, ap, ◌∙◌, append-nil}
+use Rattle.std.proofs.Common.{◌≡◌, ◌+◌, ℕ, List, [], length, Option, Some, None, Result, Ok, Err, refl, sym, ap, ◌∙◌, append-nil}
 use Rattle.design_model.specs.declared.fault.Fault.{Fault}
 use Rattle.design_model.specs.declared.mode.Mode.{Mode}
 use Rattle.design_model.specs.declared.mode.Mode.TheVariants.{Top, In, Props, After}
@@ -8,10 +8,10 @@ use Rattle.statement_model.specs.Tokens.{Token, left_from, lex, tokens}
 use Rattle.statement_model.specs.Tokens.Open.{between}
 use Rattle.statement_model.specs.Boundaries.{cut, statement_at, words}
 use Rattle.statement_model.specs.Form.{spell}
-use Rattle.statement_model.specs.Reading.{read_at, read_form}
+use Rattle.statement_model.specs.Reading.{read_at}
 use Rattle.statement_reader.specs.declared.grammar.Read.{Read}
 use Rattle.statement_reader.proofs.Steps.{is_cut}
-use Rattle.lefdef_tokens.specs.Views.{pieces_of, words_of}
+use Rattle.lefdef_tokens.specs.Views.{pieces_of}
 use Rattle.def_grammar.specs.Components.{Component, component_form}
 use Rattle.def_grammar.specs.Records.{Record, component, def, entries_form, entry, statement}
 use Rattle.piece_laws.specs.PieceLaws.{PiecesAreFound}
