@@ -10,7 +10,9 @@
 //! Bytes of statements are lent. `open` answers `ReadError`, the fault of the text or want of memory; look-ups take none.
 #![tactic(auto)]
 
+pub mod entries;
 mod look_ups;
 mod opening;
 mod statements;
 pub mod text;
+mod writing;
