@@ -1,9 +1,8 @@
 -- Tables that are filled with the statements of a text in pieces, number by number.
-use Rattle.std.proofs.Common.{◌≡◌, ◌≢◌, ◌<◌, ℕ, suc, List, [], ◌∷◌, ◌++◌, length, map, Option, Some, None, refl, sym, ap, ap₂, subst, inl, inr, ◌∙◌, append_assoc, append-nil, arith}
+use Rattle.std.proofs.Common.{◌≡◌, ◌≢◌, ◌<◌, ℕ, suc, List, [], ◌∷◌, ◌++◌, length, map, Option, Some, None, refl, sym, ap, ap₂, subst, ◌∙◌, append_assoc, append-nil, arith}
 use Rattle.std.specs.Prelude.{◌==◌, if◌then◌else◌}
 use Rattle.std.specs.List.{zip}
 use Rattle.std.specs.Option.{option_map}
-use Rattle.std.proofs.lemmas.Bool.{cases_Bool}
 use Rattle.std.proofs.lemmas.List.{length-map, map-append}
 use Rattle.design_model.specs.declared.identifier.StmtId.{StmtId}
 use Rattle.statement_model.specs.Tokens.{Token}
@@ -15,7 +14,7 @@ use Rattle.text_pieces.specs.Statements.{look_up, statements_of}
 use Rattle.text_pieces.specs.Tables.{ids_of}
 use Rattle.design_tables.specs.Listings.{AreTablesOf, Listing}
 use Rattle.design_text.specs.DesignTexts.{numbered_records}
-use Rattle.design_text.proofs.FoundStatements.{differ, same}
+use Rattle.design_text.proofs.FoundStatements.{differ, look_map, same}
 
 abbrev Numbered : Type 0
 Numbered = List (StmtId × Record)
@@ -59,11 +58,6 @@ after_is id (x ∷ xs) after h = rw (differ x.0 id.0 (λ e. h.0 (sym e))) (after
 look_past : (id : StmtId) (r : Record) (before after : Numbered) → IsAbsent id (numbers before) → look_up id (before ++ (id, r) ∷ after) ≡ Some r
 look_past id r [] after h = rw (same id.0) refl
 look_past id r (x ∷ xs) after h = rw (differ (x.0).0 id.0 (λ e. h.0 (sym e))) (look_past id r xs after h.1)
-
-look_said : (id : StmtId) (ids : List StmtId) (xs : List (List Token × Record)) → look_up id (zip ids (map (λ (x : List Token × Record). x.1) xs)) ≡ option_map (λ (x : List Token × Record). x.1) (look_up id (zip ids xs))
-look_said id [] xs = refl
-look_said id (i ∷ is) [] = refl
-look_said id (i ∷ is) (x ∷ xs) = elim (cases_Bool (i.0 == id.0)) [ inl is_it ↦ rw is_it refl | inr other ↦ rw other (look_said id is xs) ]
 
 numbers_zip : (ids : List StmtId) (rs : List Record) → length ids ≡ length rs → numbers (zip ids rs) ≡ ids
 numbers_zip [] [] many = refl
@@ -119,7 +113,7 @@ module _ (c : Content) (many : length (ids_of c.table) ≡ length (statements_of
     apart = absent_before id (numbers front) (numbers n.later) so_once
 
     says : Some n.rec ≡ option_map (λ (x : List Token × Record). x.1) (look_up id (numbered_statements c))
-    says = sym (look_past id n.rec front n.later apart) ∙ ap (look_up id) (sym n.whole) ∙ look_said id ids (statements_of (text_of c))
+    says = sym (look_past id n.rec front n.later apart) ∙ ap (look_up id) (sym n.whole) ∙ look_map (λ (x : List Token × Record). x.1) id ids (statements_of (text_of c))
 
     after : id_after id ids ≡ first_id (numbers n.later)
     after = ap (id_after id) split ∙ after_is id (numbers front) (numbers n.later) apart

@@ -1,7 +1,8 @@
 -- What tables find among numbered statements, as what comes first among them.
-use Rattle.std.proofs.Common.{◌≡◌, ◌≢◌, ◌≤◌, ◌+◌, ◌&&◌, ◌||◌, ℕ, Bool, true, false, cond, List, [], ◌∷◌, length, Option, Some, None, refl, sym, ap, ap₂, subst, ◌∙◌, ⊎_elim, inl, inr, arith}
+use Rattle.std.proofs.Common.{◌≡◌, ◌≢◌, ◌≤◌, ◌+◌, ◌&&◌, ◌||◌, ℕ, Bool, true, false, cond, List, [], ◌∷◌, length, map, Option, Some, None, refl, sym, ap, ap₂, subst, ◌∙◌, ⊎_elim, inl, inr, arith}
 use Rattle.std.specs.Prelude.{◌==◌, count_by, MatchOption}
 use Rattle.std.specs.List.{list_any, zip}
+use Rattle.std.specs.Option.{option_map}
 use Rattle.std.proofs.lemmas.Bool.{cases_Bool, cases_eq, or_parts}
 use Rattle.std.proofs.lemmas.List.{length-map}
 use Rattle.std.proofs.lemmas.List.Sums.{sum_by-cons}
@@ -26,6 +27,11 @@ differ a b h = grind arith
 fails : (a b : Bool) → b ≡ false → (a && b) ≡ false
 fails true b h = h
 fails false b h = refl
+
+pub look_map : {X Y : Type 0} (f : X → Y) (id : StmtId) (ids : List StmtId) (xs : List X) → look_up id (zip ids (map f xs)) ≡ option_map f (look_up id (zip ids xs))
+look_map f id [] xs = refl
+look_map f id (i ∷ is) [] = refl
+look_map f id (i ∷ is) (x ∷ xs) = elim (cases_Bool (i.0 == id.0)) [ inl is_it ↦ rw is_it refl | inr other ↦ rw other (look_map f id is xs) ]
 
 abbrev Located : Type 0
 Located = List (List Token × Record)

@@ -1,4 +1,5 @@
 mod EntryLists
+mod EntryPlaces
 mod Filling
 mod FoundNumbers
 mod FoundStatements
