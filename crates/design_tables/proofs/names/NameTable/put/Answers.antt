@@ -14,7 +14,7 @@ returns-in-Some-clause-there g c =
     let name = c.args.name.now in
     let l = c.push.new.self in
     let at : found name old ≡ Some (listing_view c.in-Some.listing.now) =
-        found_is name es ∙ ap (option_map listing_view) (looked_up _ _ c.in-Some.listing c.in-Some.is c.get_mut.ensures.value) in
+    found_is name es ∙ ap (option_map listing_view) (looked_up _ _ c.in-Some.listing c.in-Some.is c.get_mut.ensures.value) in
     let set : map named_view (c.get_mut.follows.lender l).entries ≡ set_named name (listing_view l) old = ap (map named_view) (c.get_mut.follows.holds l).0 ∙ set_is name l es in
     rw (← c.self.view_is) (on_ok c.push.result
     (λ put n. ap (has_name n) set ∙ has_set old n name (listing_view l) ∙ known_name old n name (found_has old name (listing_view c.in-Some.listing.now) at))
