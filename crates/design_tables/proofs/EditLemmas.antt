@@ -1,29 +1,26 @@
 -- Tables of the names that a change has to do with.
 use Rattle.std.proofs.Common.{◌≡◌, ◌<◌, ℕ, ◌+◌, Bool, true, false, cond, if◌then◌else◌, not, ◌||◌, List, [], ◌∷◌, ◌++◌, get_or, length, take, filter, map, refl, sym, ap, ap₂, ◌∙◌, arith, append_assoc}
-use Rattle.std.specs.Prelude.{count_by, flat_map}
+use Rattle.std.specs.Prelude.{count_by}
 use Rattle.std.specs.Str.{bytes_eq}
 use Rattle.std.proofs.lemmas.List.{append-nil, map-append, take_more}
-use Rattle.std.proofs.lemmas.List.Concat.{flat_map-append}
 use Rattle.std.proofs.lemmas.List.Elements.{filter_agree}
 use Rattle.std.proofs.lemmas.List.Sums.{sum_by-append}
 use Rattle.design_model.specs.declared.identifier.StmtId.{StmtId}
 use Rattle.design_tables.specs.Changes.{IsEdited, edited, less, or_else_listed, without}
-use Rattle.design_tables.specs.Listings.{Listing, found, has_name, is_member, listed, marks_in, marks_named, unlisted, with_marks}
+use Rattle.design_tables.specs.Listings.{Listing, found, has_name, is_member, listed, marks_named, unlisted, with_marks}
 use Rattle.design_tables.specs.Marks.{same_role}
 use Rattle.design_tables.specs.MarkViews.{name_mark_view}
-use Rattle.design_tables.specs.TableViews.{numbered_view}
 use Rattle.design_tables.specs.declared.marks.NameMark.{NameMark}
 use Rattle.design_tables.specs.declared.role.Mark.{Mark}
 use Rattle.design_tables.specs.declared.role.Role.{Role}
 use Rattle.design_tables.specs.declared.role.Role.TheVariants as roles
-use Rattle.design_tables.specs.declared.tables.Numbered.{Numbered}
 use Rattle.design_tables.proofs.ListingLemmas.{found_none, found_some, named_one, none_more, or_both, own_name, same_name}
 use Rattle.design_tables.proofs.MarkLemmas.{named_both, with_both}
 
 abbrev pub numbered : StmtId → List (List ℕ × Role) → List (List ℕ × Mark)
 numbered id ms = map (λ (m : List ℕ × Role). (m.0, record { role = m.1; id = id })) ms
 
--- the next mark of a statement, and the next statement
+-- the next mark of a statement
 pub next_mark : (id : StmtId) (all : List NameMark) (i : ℕ) (d : NameMark) (before : List (List ℕ × Mark)) → i < length all
     → (before ++ numbered id (map name_mark_view (take i all))) ++ ((get_or all i d).name.now, record { role = (get_or all i d).role; id = id }) ∷ [] ≡ before ++ numbered id (map name_mark_view (take (i + 1) all))
 next_mark id all i d before below =
@@ -34,15 +31,6 @@ next_mark id all i d before below =
     ∙ ap (numbered id) (map-append name_mark_view (take i all) (get_or all i d ∷ []))
     ∙ map-append (λ (m : List ℕ × Role). (m.0, record { role = m.1; id = id })) (map name_mark_view (take i all)) (name_mark_view (get_or all i d) ∷ [])
     ))
-
-pub next_statement : (all : List Numbered) (i : ℕ) (d : Numbered) → i < length all
-    → flat_map marks_in (map numbered_view (take i all)) ++ marks_in (numbered_view (get_or all i d)) ≡ flat_map marks_in (map numbered_view (take (i + 1) all))
-next_statement all i d below = sym (
-    ap (λ xs. flat_map marks_in (map numbered_view xs)) (take_more all i d below)
-    ∙ ap (flat_map marks_in) (map-append numbered_view (take i all) (get_or all i d ∷ []))
-    ∙ flat_map-append marks_in (map numbered_view (take i all)) (numbered_view (get_or all i d) ∷ [])
-    ∙ ap (λ ms. flat_map marks_in (map numbered_view (take i all)) ++ ms) (append-nil (marks_in (numbered_view (get_or all i d))))
-    )
 
 less_none : (l : Listing) → less 0 l ≡ l
 less_none l = ap (λ k. record { marks = l.marks; entries = k }) (omega arith)

@@ -1,5 +1,5 @@
 -- Names of a table, and what stands under them.
-use Rattle.std.proofs.Common.{◌≡◌, ℕ, Bool, true, false, cond, if◌then◌else◌, ◌||◌, List, [], ◌∷◌, ◌++◌, map, refl, sym, ap, ap₂, ◌∙◌, Option, Some, None, is_some, Result, Ok, Err, Bor, MutBor, arith, true≢false}
+use Rattle.std.proofs.Common.{◌≡◌, ℕ, Bool, true, false, cond, if◌then◌else◌, ◌||◌, List, [], ◌∷◌, ◌++◌, map, refl, sym, ap, ap₂, ◌∙◌, Option, Some, None, is_some, Result, Ok, Err, Bor, MutBor, arith}
 use Rattle.std.specs.Prelude.{OnOk}
 use Rattle.std.specs.Map.{lookup, set_value}
 use Rattle.std.specs.Option.{option_copied_mut, option_map}
@@ -166,12 +166,6 @@ module _ {X : Type 0} where
   pub looked_none : (o : Option (MutBor X)) (p : Option X) → o ≡ None → option_copied_mut o ≡ p → p ≡ None
   looked_none o p is value = sym value ∙ ap option_copied_mut is
 
-pub never : {P : Type 0} (before es : List (List ℕ × Listing)) (name : List ℕ) → has_name name es ≡ (has_name name before || bytes_eq name name) → has_name name es ≡ false → P
-never before es name there none =
-    let own = own_name name in
-    let stands : (has_name name before || bytes_eq name name) ≡ true = grind arith in
-    absurd (true≢false (sym stands ∙ sym there ∙ none))
-
 pub has_set : (es : List (List ℕ × Listing)) (n name : List ℕ) (l : Listing) → has_name n (set_named name l es) ≡ has_name n es
 has_set [] n name l = refl
 has_set (e ∷ es) n name l = by (bytes_eq name e.0) (has_set es n name l)
@@ -245,3 +239,21 @@ copied_there es n name l there = by (found n es) refl (bytes_eq n name) refl
 pub on_ok_both : {X E P Q R : Type 0} (r : Result X E) → (P → Q → R) → OnOk r P → OnOk r Q → OnOk r R
 on_ok_both (Ok x) f p q = f p q
 on_ok_both (Err e) f p q = p
+
+-- one mark under a name that has no place
+pub listed_new : (es : List (List ℕ × Listing)) (n name : List ℕ) (m : Mark) → has_name name es ≡ false
+    → or_else_listed (found n es) (if bytes_eq n name then with_marks (m ∷ []) unlisted else unlisted) ≡ with_marks (marks_named n ((name, m) ∷ [])) (listed n es)
+listed_new es n name m none = by (bytes_eq name n) refl ∙ ap (λ ms. with_marks ms (listed n es)) (sym (named_one n name m))
+  where
+    or_nothing : (o : Option Listing) → or_else_listed o unlisted ≡ or_unlisted o
+    or_nothing None = refl
+    or_nothing (Some l) = refl
+
+    by : (b : Bool) → bytes_eq name n ≡ b → or_else_listed (found n es) (if bytes_eq n name then with_marks (m ∷ []) unlisted else unlisted) ≡ with_marks (if b then m ∷ [] else []) (listed n es)
+    by true is =
+        let absent : found n es ≡ None = found_none es n (ap (λ k. has_name k es) (sym (same_name name n is)) ∙ none) in
+        let here : bytes_eq n name ≡ true = bytes_eq_sym n name ∙ is in
+        rw (absent, here) refl
+    by false is =
+        let other : bytes_eq n name ≡ false = bytes_eq_sym n name ∙ is in
+        ap (λ b. or_else_listed (found n es) (if b then with_marks (m ∷ []) unlisted else unlisted)) other ∙ or_nothing (found n es) ∙ sym (none_more (listed n es))

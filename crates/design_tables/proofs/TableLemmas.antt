@@ -73,10 +73,6 @@ module _ (n : List ℕ) (role : Role) (test : StmtId → Bool) where
   abbrev pub holds : Mark → Bool
   holds m = same_role m.role role && test m.id
 
-  named_step : (b : Bool) (m : List ℕ × Role) (id : StmtId) (rest : List Mark) (later : Bool) → list_any holds rest ≡ (test id && later)
-      → list_any holds (if b then record { role = m.1; id = id } ∷ rest else rest) ≡ (test id && ((b && same_role m.1 role) || later))
-  named_step b m id rest later h = grind (arith, h)
-
   marks_held : (id : StmtId) (ms : List (List ℕ × Role)) → list_any holds (marks_named n (map (λ (m : List ℕ × Role). (m.0, record { role = m.1; id = id })) ms)) ≡ (test id && list_any (has_role n role) ms)
   marks_held id [] = sym (grind arith)
   marks_held id (m ∷ ms) = grind (arith, marks_held id ms)

@@ -47,6 +47,15 @@ impl<A: Allocator + Copy> Listing<A> {
         Ok(())
     }
 
+    /// One mark.
+    fn one(alloc: A, mark: Mark) -> Result<Listing<A>, AllocError>
+        ensures { IfOk result (λ l. listing_view l ≡ with_marks (mark ∷ []) unlisted) }
+    {
+        let mut listing = Listing::new(alloc)?;
+        listing.push(mark)?;
+        Ok(listing)
+    }
+
     /// Counts one entry less.
     pub fn uncount(&mut self)
         ensures { listing_view self.new ≡ less 1 (listing_view self.old) }
@@ -185,11 +194,15 @@ impl<A: Allocator + Copy> NameTable<A> {
         ensures there { OnOk result ((n : List ℕ) → has_name n self.new ≡ (has_name n self.old || bytes_eq n name.now)) }
         ensures put { OnOk result ((n : List ℕ) → listed n self.new ≡ with_marks (marks_named n ((name.now, mark) ∷ [])) (listed n self.old)) }
     {
-        self.make_place(name)?;
         match self.names.get_mut(name) {
-            Some(listing) => listing.push(mark),
-            None => Ok(()),
+            Some(listing) => return listing.push(mark),
+            None => {}
         }
+        let alloc = self.allocator();
+        let listing = Listing::one(alloc, mark)?;
+        let name = Vec::from_slice(alloc, name)?;
+        self.names.insert(name, listing)?;
+        Ok(())
     }
 
     /// Puts the marks of a statement under their names. A refused growth may leave some of them put.
