@@ -1,0 +1,12 @@
+mod ChangeLemmas
+mod CountLemmas
+mod EditLemmas
+mod ExchangeLemmas
+mod KeyLemmas
+mod KeyedLemmas
+mod ListingLemmas
+mod MarkLemmas
+mod MarkRows
+mod RecordLemmas
+mod TableLemmas
+mod TurnLemmas

@@ -1,0 +1,219 @@
+//! A table of names, with the marks of statements under each.
+
+ghost use Rattle.std.specs.Prelude.{◌≡◌, ◌∷◌, ◌||◌, [], ℕ, List, IfOk, OnOk, Some, count_by, if◌then◌else◌};
+ghost use Rattle.std.specs.Option.{option_map};
+ghost use Rattle.std.specs.Str.{bytes_eq};
+ghost use Rattle.def_reader.specs.StatementViews.{record_view};
+ghost use Rattle.design_tables.specs.ListingViews.{listing_view};
+ghost use Rattle.design_tables.specs.Changes.{is_gone, less, or_else_listed, without};
+ghost use Rattle.design_tables.specs.Marks.{same_role};
+ghost use Rattle.design_tables.specs.Listings.{found, has_name, listed, marks_in, marks_named, unlisted, with_marks};
+
+use crate::marks::marks_of;
+use crate::role::{Mark, Role};
+use def_reader::statement::Statement;
+use design_model::identifier::StmtId;
+use indexmap::{IndexMap, IndexSet};
+use std::alloc::{AllocError, Allocator, Global};
+use std::hash::{BuildHasherDefault, FoldHasher};
+use std::marker::Model;
+
+/// What stands under a name: marks of statements, and how many entries the section of this word has. These are only counted, as a
+/// section can have all statements of a text.
+#[derive(Drop)]
+pub(crate) struct Listing<A: Allocator> {
+    pub marks: Vec<Mark, A>,
+    pub entries: usize,
+}
+
+impl<A: Allocator + Copy> Listing<A> {
+    /// Nothing, with room for one mark: most names have no more.
+    pub fn new(alloc: A) -> Result<Listing<A>, AllocError>
+        ensures { IfOk result (λ l. listing_view l ≡ unlisted) }
+    {
+        let marks = Vec::with_capacity(alloc, 1)?;
+        Ok(Listing { marks, entries: 0 })
+    }
+
+    /// Puts one more mark behind the others, or counts one more entry. More than fit into a number are refused as memory is.
+    pub fn push(&mut self, mark: Mark) -> Result<(), AllocError>
+        ensures { OnOk result (listing_view self.new ≡ with_marks (mark ∷ []) (listing_view self.old)) }
+    {
+        if mark.role.is(Role::Member) {
+            self.entries = self.entries.checked_add(1).ok_or(AllocError)?;
+        } else {
+            self.marks.push(mark)?;
+        }
+        Ok(())
+    }
+
+    /// One mark.
+    fn one(alloc: A, mark: Mark) -> Result<Listing<A>, AllocError>
+        ensures { IfOk result (λ l. listing_view l ≡ with_marks (mark ∷ []) unlisted) }
+    {
+        let mut listing = Listing::new(alloc)?;
+        listing.push(mark)?;
+        Ok(listing)
+    }
+
+    /// Counts one entry less.
+    pub fn uncount(&mut self)
+        ensures { listing_view self.new ≡ less 1 (listing_view self.old) }
+    {
+        self.entries = self.entries.saturating_sub(1);
+    }
+
+    /// The same without the marks of statements of these numbers.
+    pub fn without(&self, alloc: A, gone: &Ids<A>) -> Result<Listing<A>, AllocError>
+        ensures { IfOk result (λ l. listing_view l ≡ without (is_gone gone.now.keys) (listing_view self.now)) }
+    {
+        let mut marks = Vec::with_capacity(alloc, self.marks.len())?;
+        for mark in self.marks.as_slice() {
+            if !gone.contains(&mark.id.0) {
+                marks.push(*mark)?;
+            }
+        }
+        let entries = self.entries;
+        Ok(Listing { marks, entries })
+    }
+
+    /// How many marks have a role.
+    pub fn count(&self, role: Role) -> usize
+        ensures { result ≡ count_by (λ m. same_role m.role role) (listing_view self.now).marks }
+    {
+        let mut count = 0;
+        for mark in self.marks.as_slice() {
+            if mark.role.is(role) {
+                count += 1;
+            }
+        }
+        count
+    }
+}
+
+/// Numbers of statements.
+pub(crate) type Ids<A> = IndexSet<usize, BuildHasherDefault<FoldHasher>, A>;
+
+/// Names with what stands under them, in the order in which they came.
+#[derive(Drop)]
+pub(crate) struct NameTable<A: Allocator + Copy = Global> {
+    pub names: IndexMap<Vec<u8, A>, Listing<A>, BuildHasherDefault<FoldHasher>, A>,
+}
+
+impl<A: Allocator + Copy> Model for NameTable<A> {
+    ghost use Rattle.std.specs.Prelude.{List, ℕ, map};
+    ghost use Rattle.design_tables.specs.Listings.{Listing as TheListing};
+    ghost use Rattle.design_tables.specs.ListingViews.{named_view};
+
+    ghost Value = { List (List ℕ × TheListing) };
+
+    ghost view = { λ t. map named_view t.names.entries };
+}
+
+impl<A: Allocator + Copy> NameTable<A> {
+    /// No names. It takes no memory.
+    pub fn new(alloc: A) -> NameTable<A>
+        ensures { result ≡ [] }
+    {
+        NameTable {
+            names: IndexMap::with_hasher(alloc, BuildHasherDefault::new()),
+        }
+    }
+
+    /// Where it has its memory from.
+    pub fn allocator(&self) -> A {
+        *self.names.allocator()
+    }
+
+    /// What stands under a name, where it has a place.
+    pub fn get(&self, name: &[u8]) -> Option<&Listing<A>>
+        ensures { option_map (λ l. listing_view l.now) result ≡ found name.now self.now }
+    {
+        self.names.get(name)
+    }
+
+    /// Makes a place for a name, under which nothing stands, unless it has one.
+    pub fn make_place(&mut self, name: &[u8]) -> Result<(), AllocError>
+        ensures same { (n : List ℕ) → listed n self.new ≡ listed n self.old }
+        ensures there { OnOk result ((n : List ℕ) → has_name n self.new ≡ (has_name n self.old || bytes_eq n name.now)) }
+    {
+        if self.names.contains_key(name) {
+            return Ok(());
+        }
+        let alloc = self.allocator();
+        let name = Vec::from_slice(alloc, name)?;
+        let listing = Listing::new(alloc)?;
+        self.names.insert(name, listing)?;
+        Ok(())
+    }
+
+    /// What stands under a name without the marks of statements of these numbers.
+    fn left_of(&self, name: &[u8], gone: &Ids<A>) -> Result<Listing<A>, AllocError>
+        ensures { IfOk result (λ l. listing_view l ≡ without (is_gone gone.now.keys) (listed name.now self.now)) }
+    {
+        let alloc = self.allocator();
+        match self.get(name) {
+            Some(listing) => listing.without(alloc, gone),
+            None => Listing::new(alloc),
+        }
+    }
+
+    /// Makes a place for a name that has none, and puts there what another table has under it, without the marks of statements of
+    /// these numbers.
+    pub fn copy(
+        &mut self,
+        from: &NameTable<A>,
+        gone: &Ids<A>,
+        name: &[u8],
+    ) -> Result<(), AllocError>
+        ensures copied { OnOk result ((n : List ℕ) → listed n self.new ≡ or_else_listed (found n self.old) (if bytes_eq n name.now then without (is_gone gone.now.keys) (listed name.now from.now) else unlisted)) }
+        ensures there { OnOk result ((n : List ℕ) → has_name n self.new ≡ (has_name n self.old || bytes_eq n name.now)) }
+    {
+        if self.names.contains_key(name) {
+            return Ok(());
+        }
+        let listing = from.left_of(name, gone)?;
+        let name = Vec::from_slice(self.allocator(), name)?;
+        self.names.insert(name, listing)?;
+        Ok(())
+    }
+
+    /// Counts one entry less of the section of a word.
+    pub fn uncount(&mut self, word: &[u8])
+        ensures names { (n : List ℕ) → has_name n self.new ≡ has_name n self.old }
+        ensures counted { (n : List ℕ) → listed n self.new ≡ (if bytes_eq word.now n then less 1 (listed n self.old) else listed n self.old) }
+    {
+        match self.names.get_mut(word) {
+            Some(listing) => listing.uncount(),
+            None => {}
+        }
+    }
+
+    /// Puts a mark under a name.
+    pub fn put(&mut self, name: &[u8], mark: Mark) -> Result<(), AllocError>
+        ensures there { OnOk result ((n : List ℕ) → has_name n self.new ≡ (has_name n self.old || bytes_eq n name.now)) }
+        ensures put { OnOk result ((n : List ℕ) → listed n self.new ≡ with_marks (marks_named n ((name.now, mark) ∷ [])) (listed n self.old)) }
+    {
+        match self.names.get_mut(name) {
+            Some(listing) => return listing.push(mark),
+            None => {}
+        }
+        let alloc = self.allocator();
+        let listing = Listing::one(alloc, mark)?;
+        let name = Vec::from_slice(alloc, name)?;
+        self.names.insert(name, listing)?;
+        Ok(())
+    }
+
+    /// Puts the marks of a statement under their names. A refused growth may leave some of them put.
+    pub fn add(&mut self, id: StmtId, statement: &Statement<'_>) -> Result<(), AllocError>
+        ensures { OnOk result ((n : List ℕ) → listed n self.new ≡ with_marks (marks_named n (marks_in (id, record_view statement.now))) (listed n self.old)) }
+    {
+        let marks = marks_of(self.allocator(), statement)?;
+        for mark in marks.as_slice() {
+            let role = mark.role;
+            self.put(mark.name, Mark { role, id })?;
+        }
+        Ok(())
+    }
+}

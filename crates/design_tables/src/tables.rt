@@ -1,0 +1,158 @@
+//! Tables of the statements of a text, and what they find.
+
+ghost use Rattle.std.specs.Prelude.{◌≡◌, ◌∷◌, ◌++◌, [], ℕ, List, MatchOption, OnOk, Some, length};
+ghost use Rattle.def_grammar.specs.Records.{Record};
+ghost use Rattle.def_reader.specs.StatementViews.{record_view};
+ghost use Rattle.design_model.specs.declared.identifier.StmtId.{StmtId as TheStmtId};
+ghost use Rattle.design_tables.specs.Listings.{AreTablesOf, listed};
+ghost use Rattle.design_tables.specs.Lookups.{Finds, FindsAll, entries_of, ids_with, is_design_pin, is_end, is_header, is_named_entry, is_of, is_star_pin, lists};
+
+use crate::names::NameTable;
+use crate::role::{Mark, Role};
+use def_reader::statement::Statement;
+use design_model::identifier::StmtId;
+use design_model::mode::Section;
+use std::alloc::{AllocError, Allocator, Global};
+use std::marker::Model;
+
+/// A statement with its number.
+#[derive(Clone, Copy)]
+pub struct Numbered<'t> {
+    pub id: StmtId,
+    pub statement: Statement<'t>,
+}
+
+/// The numbers of statements that have to do with a name in one way, one after the other.
+#[derive(Drop)]
+pub struct Numbers<'a> {
+    marks: &'a [Mark],
+    role: Role,
+}
+
+impl<'a> Model for Numbers<'a> {
+    ghost use Rattle.std.specs.Prelude.{List};
+    ghost use Rattle.design_model.specs.declared.identifier.StmtId.{StmtId as TheStmtId};
+    ghost use Rattle.design_tables.specs.Lookups.{ids_with};
+
+    ghost Value = { List TheStmtId };
+
+    ghost view = { λ n. ids_with n.role n.marks.now };
+}
+
+impl<'a> Numbers<'a> {
+    /// The next number.
+    pub fn next(&mut self) -> Option<StmtId>
+        ensures { MatchOption result ((self.old ≡ []) × (self.new ≡ [])) (λ id. self.old ≡ id ∷ self.new) }
+    {
+        while let Some((mark, rest)) = self.marks.split_first() {
+            self.marks = rest;
+            if mark.role.is(self.role) {
+                return Some(mark.id);
+            }
+        }
+        None
+    }
+}
+
+/// What stands in a text under each name.
+#[derive(Drop)]
+pub struct Tables<A: Allocator + Copy = Global> {
+    pub(crate) names: NameTable<A>,
+}
+
+impl<A: Allocator + Copy> Model for Tables<A> {
+    ghost use Rattle.std.specs.Prelude.{List, ℕ};
+    ghost use Rattle.design_tables.specs.Listings.{Listing};
+
+    ghost Value = { List (List ℕ × Listing) };
+
+    ghost view = { λ t. t.names };
+}
+
+impl<A: Allocator + Copy> Tables<A> {
+    /// Tables of no statements. It takes no memory.
+    pub fn new(alloc: A) -> Tables<A>
+        ensures { AreTablesOf [] result }
+    {
+        Tables {
+            names: NameTable::new(alloc),
+        }
+    }
+
+    /// Puts one more statement in, under a number. Where memory is refused it may be put in part.
+    pub fn add(&mut self, id: StmtId, statement: &Statement<'_>) -> Result<(), AllocError>
+        ensures { (xs : List (TheStmtId × Record)) → AreTablesOf xs self.old → OnOk result (AreTablesOf (xs ++ (id, record_view statement.now) ∷ []) self.new) }
+    {
+        self.names.add(id, statement)
+    }
+
+    /// The marks under a name.
+    fn marks(&self, name: &[u8]) -> &[Mark]
+        ensures { result.now ≡ (listed name.now self.now).marks }
+    {
+        match self.names.get(name) {
+            Some(listing) => listing.marks.as_slice(),
+            None => &[],
+        }
+    }
+
+    /// The numbers of the statements that have a role under a name.
+    fn numbers(&self, name: &[u8], role: Role) -> Numbers<'_>
+        ensures { result ≡ ids_with role (listed name.now self.now).marks }
+    {
+        let marks = self.marks(name);
+        Numbers { marks, role }
+    }
+
+    /// The entry of a section by its name.
+    pub fn find(&self, section: Section, name: &[u8]) -> Option<StmtId>
+        ensures { (xs : List (TheStmtId × Record)) → AreTablesOf xs self.now → Finds (is_named_entry section name.now) xs result }
+    {
+        self.numbers(name, Role::Entry(section)).next()
+    }
+
+    /// The header of a section.
+    pub fn header(&self, section: Section) -> Option<StmtId>
+        ensures { (xs : List (TheStmtId × Record)) → AreTablesOf xs self.now → Finds (is_header section) xs result }
+    {
+        self.numbers(section.word(), Role::Statement).next()
+    }
+
+    /// The `END` of a section.
+    pub fn end(&self, section: Section) -> Option<StmtId>
+        ensures { (xs : List (TheStmtId × Record)) → AreTablesOf xs self.now → Finds (is_end section) xs result }
+    {
+        self.numbers(section.word(), Role::SectionEnd).next()
+    }
+
+    /// How many entries a section has.
+    pub fn entries_in(&self, section: Section) -> usize
+        ensures { (xs : List (TheStmtId × Record)) → AreTablesOf xs self.now → result ≡ length (entries_of section xs) }
+    {
+        match self.names.get(section.word()) {
+            Some(listing) => listing.entries,
+            None => 0,
+        }
+    }
+
+    /// The entries of NETS and SPECIALNETS that list a pin of a component by its name, one as often as it lists one.
+    pub fn nets_of(&self, component: &[u8]) -> Numbers<'_>
+        ensures { (xs : List (TheStmtId × Record)) → AreTablesOf xs self.now → FindsAll (lists (is_of component.now)) xs result }
+    {
+        self.numbers(component, Role::Component)
+    }
+
+    /// Those that list the pins of a name of all components.
+    pub fn nets_by_star(&self, pin: &[u8]) -> Numbers<'_>
+        ensures { (xs : List (TheStmtId × Record)) → AreTablesOf xs self.now → FindsAll (lists (is_star_pin pin.now)) xs result }
+    {
+        self.numbers(pin, Role::StarPin)
+    }
+
+    /// Those that list a pin of the design.
+    pub fn nets_of_design_pin(&self, pin: &[u8]) -> Numbers<'_>
+        ensures { (xs : List (TheStmtId × Record)) → AreTablesOf xs self.now → FindsAll (lists (is_design_pin pin.now)) xs result }
+    {
+        self.numbers(pin, Role::DesignPin)
+    }
+}
