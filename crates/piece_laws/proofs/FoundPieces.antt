@@ -1,5 +1,5 @@
 -- A statement that is read from a position on is a piece by itself.
-use Rattle.std.proofs.Common.{◌≡◌, ℕ, ◌+◌, ◌-◌, List, [], ◌∷◌, ◌++◌, length, map, take, drop, Some, Result, Ok, refl, sym, ap, ◌∙◌, subst, append_assoc, zero-add, arith, take_at, slice_range}
+use Rattle.std.proofs.Common.{◌≡◌, ℕ, ◌+◌, ◌-◌, List, [], ◌∷◌, ◌++◌, length, map, take, drop, Some, Result, Ok, refl, sym, ap, ◌∙◌, subst, append_assoc, add_assoc, zero-add, arith, take_at, slice_range}
 use Rattle.design_model.specs.declared.fault.Fault.{Fault}
 use Rattle.statement_model.specs.Tokens.{Token, Lexed, lex, tokens, left_from}
 use Rattle.statement_model.specs.Tokens.Open.{between}
@@ -34,21 +34,35 @@ front_is text from to front rest is long =
     let size : length front ≡ to - from = omega arith in
     ap (take (to - from)) is ∙ take_at front rest (to - from) size
 
+-- where tokens end that are as many places further on
+pub end_moved : (k place : ℕ) (ps : List Token) → end_after (k + place) (map (moved_token k) ps) ≡ k + end_after place ps
+end_moved k place [] = refl
+end_moved k place (p ∷ ps) = ap (λ (n : ℕ). end_after n (map (moved_token k) ps)) (add_assoc k p.pos (length p.bytes)) ∙ end_moved k (p.pos + length p.bytes) ps
+
+own_end : (own ps : List Token) (k n : ℕ) → map (moved_token k) own ≡ ps → (span_of ps).hi ≡ k + n → (span_of own).hi ≡ n
+own_end [] ps k n is at = let none : (span_of ps).hi ≡ 0 = ap (λ (qs : List Token). (span_of qs).hi) (sym is) in omega (arith, at, none)
+own_end (q ∷ qs) ps k n is at =
+    let there : k + end_after (q.pos + length q.bytes) qs ≡ k + n =
+        sym (end_moved k (q.pos + length q.bytes) qs) ∙ sym (ap (λ (m : ℕ). end_after m (map (moved_token k) qs)) (add_assoc k q.pos (length q.bytes))) ∙ ap (λ (rs : List Token). (span_of rs).hi) is ∙ at in
+    omega (arith, there)
+
 module _ {M R : Type 0} (g : Grammar M R) where
   -- bytes that are read from a place on as one statement are a piece
   piece_is : (m after : M) (bytes : List ℕ) (from to : ℕ) (ps : List Token) (rec : R) → lex from between bytes ≡ record { pieces = ps; end = Ok to } → IsClosed (state_after from between bytes)
-      → cut (g.ending m) [] ps ≡ Some (ps, []) → read_form g m ps ≡ Ok (rec, after) → IsPiece g m bytes rec after
-  piece_is m after bytes from to ps rec is closed one says =
+      → (span_of ps).hi ≡ to → cut (g.ending m) [] ps ≡ Some (ps, []) → read_form g m ps ≡ Ok (rec, after) → IsPiece g m bytes rec after
+  piece_is m after bytes from to ps rec is closed at one says =
       let here : moved from (tokens bytes) ≡ record { pieces = ps; end = Ok to } = sym (lexed_at bytes from) ∙ is in
       let own = (tokens bytes).pieces in
       let end = end_at from to (tokens bytes).end (ap (λ (l : Lexed). l.end) here) in
       let all_read : (tokens bytes).end ≡ Ok (length bytes) = end.1 ∙ ap (λ (k : ℕ). Ok k) (end_is bytes 0 end.0 between end.1 ∙ zero-add (length bytes)) in
       let moved_is : map (moved_token from) own ≡ ps = ap (λ (l : Lexed). l.pieces) here in
       let first : cut (g.ending m) [] (map (moved_token from) own) ≡ Some (ps, []) = rw moved_is one in
+      let long : to ≡ from + length bytes = end_is bytes from to between (ap (λ (l : Lexed). l.end) is) in
       let words_are : words own ≡ words ps = sym (moved_words from own) ∙ ap words moved_is in
       record {
         statement = own;
         tokens = record { pieces = refl; end = all_read; closed = closed_first bytes from closed };
+        ends = own_end own ps from (length bytes) moved_is (at ∙ long);
         one = cut_back (g.ending m) from [] own ps first;
         says = rw words_are (read_formed g m ps own (whole (g.form m) (words ps)) (rec, after) says);
       }
@@ -65,7 +79,7 @@ module _ {M R : Type 0} (g : Grammar M R) where
       let to : pos + length part.front ≡ end = part.place ∙ sym last.3 ∙ at in
       let own : lex pos between part.front ≡ record { pieces = p ∷ run; end = Ok (end_of last.1) } = part.read ∙ ap (λ (ps : List Token). record { pieces = ps; end = Ok (end_of last.1) }) (sym last.2) in
       subst (λ (bytes : List ℕ). IsPiece g m bytes rec after) (sym (front_is text pos end part.front part.rest part.whole to))
-      (piece_is m after part.front pos (end_of last.1) (p ∷ run) rec own part.left.0 one says)
+      (piece_is m after part.front pos (end_of last.1) (p ∷ run) rec own part.left.0 last.3 one says)
 
   some_cut : (m after : M) (text : List ℕ) (pos start end : ℕ) (ps rest : List Token) (r : Result ℕ Fault) (rec : R)
       → lex pos between (drop pos text) ≡ record { pieces = ps ++ rest; end = r }

@@ -1,11 +1,12 @@
 -- Pieces of a text, each of which is read by itself.
-use Rattle.std.specs.Prelude.{◌≡◌, ℕ, List, [], ◌∷◌, ◌++◌, Some, None, Ok}
+use Rattle.std.specs.Prelude.{◌≡◌, ℕ, List, [], ◌∷◌, ◌++◌, length, Some, None, Ok}
 use Rattle.std.specs.List.{concat}
 use Rattle.statement_model.specs.Tokens.{Token, tokens}
 use Rattle.statement_model.specs.Boundaries.{cut}
 use Rattle.statement_model.specs.Grammar.{Grammar}
 use Rattle.statement_model.specs.Reading.{read_form, read_at}
 use Rattle.lefdef_tokens.specs.Laws.{BeginsApart}
+use Rattle.lefdef_tokens.specs.TokenViews.{span_of}
 use Rattle.splicing_laws.specs.SplicingLaws.{AreTokens}
 
 -- the same grammar for texts that may say everything more than once, and need say nothing
@@ -18,11 +19,12 @@ AreApart [] rest = Unit {0}
 AreApart (p ∷ ps) rest = BeginsApart (concat ps ++ rest) × AreApart ps rest
 
 module _ {M R : Type 0} (g : Grammar M R) where
-  -- bytes that are one statement, with the blanks and comments before it: where it stands it says this, and the next one
-  -- stands there
+  -- bytes that are one statement, with the blanks and comments before it and nothing behind it: where it stands it says this,
+  -- and the next one stands there
   pub record IsPiece (m : M) (bytes : List ℕ) (rec : R) (after : M) : Type 0 where
     pub statement : List Token
     pub tokens : AreTokens bytes statement
+    pub ends : (span_of statement).hi ≡ length bytes
     pub one : cut (g.ending m) [] statement ≡ Some (statement, [])
     pub says : read_form g m statement ≡ Ok (rec, after)
 

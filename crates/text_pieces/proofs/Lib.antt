@@ -1,0 +1,15 @@
+mod Exchanges
+mod Found
+mod Going
+mod Ids
+mod JoinedPieces
+mod Neighbours
+mod Opened
+mod PlacedPieces
+mod ReadPieces
+mod Shown
+mod Slots
+mod Storing
+mod Turning
+mod Weights
+mod WritingSteps

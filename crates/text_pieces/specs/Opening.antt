@@ -1,0 +1,72 @@
+-- How far a text is opened.
+use Rattle.std.specs.Prelude.{◌≡◌, ◌≤◌, ◌<◌, ℕ, true, false, List, [], ◌∷◌, ◌++◌, length, map, drop, slice_index_or, Option, Some, None, Result, Ok, Err, MatchResult, MatchOption}
+use Rattle.std.specs.List.{concat, slice_range}
+use Rattle.design_model.specs.declared.fault.Fault as fault
+use Rattle.design_model.specs.declared.fault.ReadError.{ReadError}
+use Rattle.design_model.specs.declared.fault.ReadError.TheVariants.{Fault, Memory}
+use Rattle.design_model.specs.declared.identifier.StmtId.{StmtId}
+use Rattle.design_model.specs.declared.mode.Mode.{Mode}
+use Rattle.design_model.specs.declared.mode.Mode.TheVariants.{Top}
+use Rattle.statement_model.specs.Tokens.{left_from, tokens}
+use Rattle.statement_model.specs.Reading.{read_at, read_from}
+use Rattle.lefdef_tokens.specs.Laws.{BeginsApart}
+use Rattle.def_grammar.specs.Records.{Record, def}
+use Rattle.piece_laws.specs.Pieces.{keyless, AreApart, AreChained, IsPiece, modes_from}
+use Rattle.text_pieces.specs.Chunks.{Numbers, shown, all_ids, AreOnce}
+use Rattle.text_pieces.specs.Tables.{Kept, slot, kept_at, AreChunks}
+use Rattle.text_pieces.specs.Content.{bytes_of}
+use Rattle.text_pieces.specs.declared.opening.Part.{Part}
+
+-- from a position on stands a piece, in a mode and leading to another, and a blank or the end comes after it
+abbrev pub PieceAt : Mode → List ℕ → ℕ → ℕ × Mode → Type 0
+PieceAt mode text pos found = (pos < found.0) × (found.0 ≤ length text) × ((rec : Record) × IsPiece def mode (slice_range text pos found.0) rec found.1) × BeginsApart (drop found.0 text)
+
+-- from a position on comes this piece; or none, or a fault
+abbrev pub NextPiece : Mode → List ℕ → ℕ → Result (Option (ℕ × Mode)) fault.Fault → Type 0
+NextPiece mode text pos r =
+    MatchResult r
+    (λ found. MatchOption found (read_at def mode (left_from text pos) ≡ Ok None) (PieceAt mode text pos))
+    (λ f. read_at def mode (left_from text pos) ≡ Err f)
+
+-- what is kept under a number stays
+abbrev pub StaysKept : List (Option Kept) → List (Option Kept) → Type 0
+StaysKept old new = (n : ℕ) (k : Kept) → slice_index_or old n None ≡ Some k → slice_index_or new n None ≡ Some k
+
+-- a piece is kept under a number that was free
+pub record Stores (old new : List (Option Kept)) (k : Kept) (id : StmtId) : Type 0 where
+  pub free : slot old id ≡ None
+  pub held : slot new id ≡ Some k
+  pub stays : StaysKept old new
+
+-- its number comes behind others
+abbrev pub StoresBehind : List (Option Kept) → List (Option Kept) → Kept → List StmtId → List StmtId → Type 0
+StoresBehind old new k before after = (id : StmtId) × (after ≡ before ++ id ∷ []) × Stores old new k id
+
+-- the statements of a text up to a position are read as these pieces, and lead to a mode
+pub record AreRead (text : List ℕ) (ks : List Kept) (mode : Mode) (pos : ℕ) : Type 0 where
+  pub recs : List Record
+  pub chained : AreChained def Top (bytes_of ks) recs mode
+  pub modes : map (λ k. k.mode) ks ≡ modes_from def Top recs
+  pub left : List ℕ
+  pub whole : text ≡ concat (bytes_of ks) ++ left
+  pub at : pos ≡ length (concat (bytes_of ks))
+  pub apart : AreApart (bytes_of ks) left
+
+-- they are kept under numbers, in chunks
+pub record IsOpened (text : List ℕ) (front : List Numbers) (slots : List (Option Kept)) (mode : Mode) (pos : ℕ) : Type 0 where
+  pub read : AreRead text (map (kept_at slots) (all_ids front)) mode pos
+  pub chunks : AreChunks slots 0 front
+  pub once : AreOnce (all_ids front)
+
+-- a chunk more is read, or the fault of the text
+abbrev pub ReadsChunk : {A : Type 0} → List ℕ → Mode → ℕ → ℕ → List (Option Kept) → List (Option Kept) → Result (Part A) ReadError → Type 0
+ReadsChunk text mode from number old new (Ok part) =
+    (front : List Numbers) → length front ≡ number → IsOpened text front old mode from → IsOpened text (front ++ shown part.chunk ∷ []) new part.mode part.pos
+ReadsChunk text mode from number old new (Err (Fault f)) =
+    (front : List Numbers) → length front ≡ number → IsOpened text front old mode from → read_from (keyless def) (Top, []) (tokens text) ≡ Err f
+ReadsChunk text mode from number old new (Err Memory) = Unit {0}
+
+-- where it is the last, no statement is left
+abbrev pub EndsLast : {A : Type 0} → List ℕ → ℕ → Result (Part A) ReadError → Type 0
+EndsLast text from (Ok part) = (part.pos ≤ length text) × (part.is_last ≡ true → read_at def part.mode (left_from text part.pos) ≡ Ok None) × (part.is_last ≡ false → from < part.pos)
+EndsLast text from (Err e) = Unit {0}

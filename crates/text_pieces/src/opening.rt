@@ -1,0 +1,108 @@
+//! Opening a text: its statements are read once, each into a piece of its own.
+
+ghost use Rattle.std.specs.Prelude.{◌≡◌, ◌≤◌, IfOk, length, map, option_map};
+ghost use Rattle.text_pieces.specs.Opening.{EndsLast, NextPiece, ReadsChunk, StoresBehind};
+ghost use Rattle.text_pieces.specs.Tables.{kept};
+
+use crate::chunks::Chunk;
+use crate::table::Piece;
+use def_reader::read_statement::read_statement;
+use design_model::fault::{Fault, ReadError};
+use design_model::identifier::StmtId;
+use design_model::mode::Mode;
+use piece_laws::chains::{chains_join, chains_lead};
+use piece_laws::pieces::{pieces_are_read, statements_are_pieces, statements_end_before_blanks};
+use slab::Slab;
+use std::alloc::{AllocError, Allocator, Global};
+
+/// How many statements a chunk has where a text is opened: about as many as a text of a million has chunks, so that a search
+/// goes over as many numbers as lengths.
+pub(crate) const CHUNK: usize = 1000;
+
+/// A chunk that was read, the mode and the position after its last statement, and whether no statement is left there.
+#[derive(Drop)]
+pub(crate) struct Part<A: Allocator = Global> {
+    pub(crate) chunk: Chunk<A>,
+    pub(crate) mode: Mode,
+    pub(crate) pos: usize,
+    pub(crate) is_last: bool,
+}
+
+/// The next statement from a position on: the position after its last byte, and the mode after it.
+fn next_piece(mode: Mode, text: &[u8], pos: usize) -> Result<Option<(usize, Mode)>, Fault>
+    requires { pos ≤ length text.now }
+    ensures { NextPiece mode text.now pos result }
+{
+    statements_are_pieces();
+    statements_end_before_blanks();
+    let Some(read) = read_statement(mode, text, pos)? else {
+        return Ok(None);
+    };
+    Ok(Some((read.end, read.place)))
+}
+
+/// Keeps a copy of bytes as a piece, and puts its number behind others.
+pub(crate) fn store<A: Allocator + Copy>(
+    alloc: A,
+    pieces: &mut Slab<Piece<A>, A>,
+    ids: &mut Vec<StmtId, A>,
+    bytes: &[u8],
+    mode: Mode,
+    chunk: usize,
+) -> Result<(), AllocError>
+    ensures { IfOk result (λ _. StoresBehind (map (option_map kept) pieces.old.slots) (map (option_map kept) pieces.new.slots) (record { mode = mode; bytes = bytes.now; chunk = chunk }) ids.old.items ids.new.items) }
+{
+    let bytes = Vec::from_slice(alloc, bytes)?;
+    pieces.reserve(1)?;
+    let id = pieces.insert_reserved(Piece { bytes, mode, chunk });
+    ids.push(StmtId(id))?;
+    Ok(())
+}
+
+/// Reads the statements of a text from a position on, as many as a chunk has or as there are, and keeps their pieces.
+pub(crate) fn read_chunk<A: Allocator + Copy>(
+    alloc: A,
+    text: &[u8],
+    from: usize,
+    first: Mode,
+    number: usize,
+    pieces: &mut Slab<Piece<A>, A>,
+) -> Result<Part<A>, ReadError>
+    requires { from ≤ length text.now }
+    ensures reads { ReadsChunk text.now first from number (map (option_map kept) pieces.old.slots) (map (option_map kept) pieces.new.slots) result }
+    ensures last { EndsLast text.now from result }
+{
+    pieces_are_read();
+    chains_join();
+    chains_lead();
+    let mut ids = Vec::new(alloc);
+    let mut mode = first;
+    let mut pos = from;
+    'statements: while ids.len() < CHUNK {
+        let Some((end, after)) = next_piece(mode, text, pos)? else {
+            let chunk = Chunk {
+                ids,
+                len: pos - from,
+            };
+            return Ok(Part {
+                chunk,
+                mode,
+                pos,
+                is_last: true,
+            });
+        };
+        store(alloc, pieces, &mut ids, &text[pos..end], mode, number)?;
+        mode = after;
+        pos = end;
+    }
+    let chunk = Chunk {
+        ids,
+        len: pos - from,
+    };
+    Ok(Part {
+        chunk,
+        mode,
+        pos,
+        is_last: false,
+    })
+}

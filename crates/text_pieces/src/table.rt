@@ -1,0 +1,157 @@
+//! Pieces under the numbers of their statements, in chunks.
+
+ghost use Rattle.std.specs.Prelude.{◌≡◌, ◌<◌, ◌≤◌, ◌+◌, MatchOption, length, map, take};
+ghost use Rattle.design_model.specs.declared.TheConstants.{MAX_TEXT};
+ghost use Rattle.text_pieces.specs.Chunks.{IsAbsent, all_ids, first_id, id_after, id_before};
+ghost use Rattle.text_pieces.specs.Tables.{AreHome, IsTable, Stands, StandsAt, ids_of, kept, kept_at, piece_at, start_in, table_of, weight};
+
+use crate::chunks::{Chunk, first_from, last_before, place_in};
+use design_model::identifier::StmtId;
+use design_model::mode::Mode;
+use slab::Slab;
+use std::alloc::{Allocator, Global};
+
+/// A statement with the blanks and comments before it, the mode in which it stands, and the chunk that has its number.
+#[derive(Drop)]
+pub(crate) struct Piece<A: Allocator = Global> {
+    pub(crate) bytes: Vec<u8, A>,
+    pub(crate) mode: Mode,
+    pub(crate) chunk: usize,
+}
+
+/// Pieces under the numbers of their statements. Those whose number is in no chunk don't stand in the text.
+#[derive(Drop)]
+pub(crate) struct PieceTable<A: Allocator = Global> {
+    pub(crate) pieces: Slab<Piece<A>, A>,
+    pub(crate) chunks: Vec<Chunk<A>, A>,
+}
+
+impl<A: Allocator> PieceTable<A> {
+    /// The chunk in which a statement stands, and its place in it.
+    fn place(&self, id: StmtId) -> Option<(usize, usize)>
+        requires { IsTable (table_of self.now) }
+        ensures { MatchOption result (IsAbsent id (ids_of (table_of self.now))) (λ x. StandsAt (table_of self.now) id x.0 x.1) }
+    {
+        let chunk = self.pieces.get(id.0)?.chunk;
+        let place = place_in(&self.chunks.get(chunk)?.ids, id)?;
+        Some((chunk, place))
+    }
+
+    /// The piece of a statement.
+    pub(crate) fn piece(&self, id: StmtId) -> Option<&Piece<A>>
+        requires { IsTable (table_of self.now) }
+        ensures { MatchOption result (IsAbsent id (ids_of (table_of self.now))) (λ p. (kept p.now ≡ kept_at (table_of self.now).slots id) × Stands id (ids_of (table_of self.now))) }
+    {
+        let _place = self.place(id)?;
+        Some(&self.pieces[id.0])
+    }
+
+    /// How many bytes the pieces of some numbers have.
+    fn weight(&self, ids: &[StmtId], chunk: usize) -> usize
+        requires kept { AreHome (table_of self.now).slots chunk ids.now }
+        requires fits { weight (table_of self.now).slots ids.now ≤ MAX_TEXT }
+        ensures { result ≡ weight (table_of self.now).slots ids.now }
+    {
+        let mut sum = 0;
+        for id in ids {
+            sum += self.pieces[id.0].bytes.len();
+        }
+        sum
+    }
+
+    /// How many bytes the pieces of the chunks before one have.
+    fn weight_before(&self, end: usize) -> usize
+        requires table { IsTable (table_of self.now) }
+        requires within { end ≤ length (table_of self.now).chunks }
+        ensures { result ≡ weight (table_of self.now).slots (all_ids (take end (table_of self.now).chunks)) }
+    {
+        let mut sum = 0;
+        for k in 0..end {
+            sum += self.chunks[k].len;
+        }
+        sum
+    }
+
+    /// Where the piece of a statement begins.
+    pub(crate) fn start_of(&self, id: StmtId) -> Option<usize>
+        requires { IsTable (table_of self.now) }
+        ensures { result ≡ start_in (table_of self.now).slots 0 id (ids_of (table_of self.now)) }
+    {
+        let (chunk, place) = self.place(id)?;
+        let ids = self.chunks[chunk].ids.as_slice();
+        Some(self.weight_before(chunk) + self.weight(&ids[..place], chunk))
+    }
+
+    /// The statement whose piece has a position, among some numbers of which the first's piece begins at a position, and where
+    /// its piece begins.
+    fn at_in(
+        &self,
+        ids: &[StmtId],
+        chunk: usize,
+        from: usize,
+        pos: usize,
+    ) -> Option<(StmtId, usize)>
+        requires kept { AreHome (table_of self.now).slots chunk ids.now }
+        requires fits { from + weight (table_of self.now).slots ids.now ≤ MAX_TEXT }
+        ensures { result ≡ piece_at (table_of self.now).slots from pos ids.now }
+    {
+        let mut start = from;
+        for id in ids {
+            let end = start + self.pieces[id.0].bytes.len();
+            if pos < end {
+                return Some((*id, start));
+            }
+            start = end;
+        }
+        None
+    }
+
+    /// The statement whose piece has a position, and where its piece begins.
+    pub(crate) fn at(&self, pos: usize) -> Option<(StmtId, usize)>
+        requires { IsTable (table_of self.now) }
+        ensures { result ≡ piece_at (table_of self.now).slots 0 pos (ids_of (table_of self.now)) }
+    {
+        let mut start = 0;
+        for k in 0..self.chunks.len() {
+            let chunk = &self.chunks[k];
+            let end = start + chunk.len;
+            if pos < end {
+                return self.at_in(&chunk.ids, k, start, pos);
+            }
+            start = end;
+        }
+        None
+    }
+
+    /// The first statement.
+    pub(crate) fn first(&self) -> Option<StmtId>
+        ensures { result ≡ first_id (ids_of (table_of self.now)) }
+    {
+        first_from(&self.chunks, 0)
+    }
+
+    /// The statement after one.
+    pub(crate) fn next(&self, id: StmtId) -> Option<StmtId>
+        requires { IsTable (table_of self.now) }
+        ensures { result ≡ id_after id (ids_of (table_of self.now)) }
+    {
+        let (chunk, place) = self.place(id)?;
+        let ids = &self.chunks[chunk].ids;
+        if place + 1 < ids.len() {
+            return Some(ids[place + 1]);
+        }
+        first_from(&self.chunks, chunk + 1)
+    }
+
+    /// The statement before one.
+    pub(crate) fn prev(&self, id: StmtId) -> Option<StmtId>
+        requires { IsTable (table_of self.now) }
+        ensures { result ≡ id_before id (ids_of (table_of self.now)) }
+    {
+        let (chunk, place) = self.place(id)?;
+        if place > 0 {
+            return Some(self.chunks[chunk].ids[place - 1]);
+        }
+        last_before(&self.chunks, chunk)
+    }
+}

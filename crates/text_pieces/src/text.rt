@@ -1,0 +1,212 @@
+//! A text in pieces.
+
+ghost use Rattle.std.specs.Prelude.{◌≡◌, ◌<◌, ◌≤◌, ◌+◌, ◌-◌, ◌^◌, Ok, OnErr, OnOk, length, map, nat_le, option_map};
+ghost use Rattle.std.specs.Io.KnownBytes.{Appends};
+ghost use Rattle.counted_devices.specs.Counting.{HasFailed};
+ghost use Rattle.counted_devices.specs.Known.{WritesPart};
+ghost use Rattle.design_model.specs.declared.TheConstants.{MAX_TEXT};
+ghost use Rattle.text_pieces.specs.Chunks.{AreOnce, first_id, id_after, id_before};
+ghost use Rattle.text_pieces.specs.Changes.{IsBetween};
+ghost use Rattle.text_pieces.specs.Content.{Content, Opens, read_keyless, text_of};
+ghost use Rattle.text_pieces.specs.Statements.{bytes_in, lead, lent_bytes, look_up, modes_by_number, number_at, spans_by_number, statements_of};
+ghost use Rattle.text_pieces.specs.Tables.{ids_of};
+
+use crate::chunks::exchange;
+use crate::opening::read_chunk;
+use crate::prepared::PreparedText;
+use crate::table::PieceTable;
+use crate::writing::write_pieces;
+use counted_devices::counted::CountedWrite;
+use counted_devices::output::{MAX_INTERRUPTIONS, WriteFault, write_whole};
+use design_model::MAX_TEXT;
+use design_model::fault::{Fault, FaultCode, ReadError};
+use design_model::identifier::StmtId;
+use design_model::mode::Mode;
+use lefdef_tokens::token_at;
+use piece_laws::pieces::{tails_are_found, tails_may_end, texts_are_read};
+use slab::Slab;
+use std::alloc::{Allocator, Global};
+use std::marker::Model;
+
+/// A text as the pieces of its statements, and the bytes behind the last of them.
+#[derive(Drop)]
+pub struct TextPieces<A: Allocator = Global> {
+    table: PieceTable<A>,
+    tail: Vec<u8, A>,
+    len: usize,
+}
+
+impl<A: Allocator> Model for TextPieces<A> {
+    ghost use Rattle.text_pieces.specs.Content.{Content, IsText};
+    ghost use Rattle.text_pieces.specs.Tables.{table_of};
+
+    ghost Value = { Content };
+
+    ghost view = { λ t. record { table = table_of t.table; tail = t.tail.items; len = t.len } };
+
+    ghost invariant = { λ t. IsText (record { table = table_of t.table; tail = t.tail.items; len = t.len }) };
+}
+
+/// Where the first token of a piece begins.
+fn lead(bytes: &[u8]) -> usize
+    ensures lead { result ≡ lead bytes.now }
+    ensures within { result ≤ length bytes.now }
+{
+    match token_at(bytes, 0) {
+        Ok(Some((token, _))) => token.pos,
+        _ => 0,
+    }
+}
+
+/// Reads all statements of a text that isn't too long.
+fn read_all<A: Allocator + Copy>(alloc: A, text: &[u8]) -> Result<TextPieces<A>, ReadError>
+    requires { length text.now ≤ MAX_TEXT }
+    ensures { Opens text.now result }
+{
+    tails_are_found();
+    tails_may_end();
+    texts_are_read();
+    let mut pieces = Slab::new(alloc);
+    let mut chunks = Vec::new(alloc);
+    let mut mode = Mode::Top;
+    let mut pos = 0;
+    'chunks: loop {
+        match read_chunk(alloc, text, pos, mode, chunks.len(), &mut pieces) {
+            Ok(part) => {
+                mode = part.mode;
+                pos = part.pos;
+                chunks.push(part.chunk)?;
+                if part.is_last {
+                    let tail = Vec::from_slice(alloc, &text[pos..])?;
+                    let table = PieceTable { pieces, chunks };
+                    let len = text.len();
+                    return Ok(TextPieces { table, tail, len });
+                }
+            }
+            Err(error) => return Err(error),
+        }
+    }
+}
+
+impl<A: Allocator + Copy> TextPieces<A> {
+    /// The pieces of a text whose statements can be read. A key may stand more than once, and `UNITS` may be lacking.
+    pub fn open(alloc: A, text: &[u8]) -> Result<TextPieces<A>, ReadError>
+        ensures { Opens text.now result }
+    {
+        if text.len() > MAX_TEXT {
+            return Err(ReadError::Fault(Fault {
+                code: FaultCode::TooLong,
+                pos: 0,
+            }));
+        }
+        read_all(alloc, text)
+    }
+
+    /// How many bytes the text has.
+    pub fn len(&self) -> usize
+        ensures { result ≡ length (text_of self.now) }
+    {
+        self.len
+    }
+
+    /// Whether the text stays within its limit where these bytes give way to so many others.
+    pub fn fits(&self, from: usize, to: usize, put: usize) -> bool
+        requires order { from ≤ to }
+        requires within { to ≤ length (text_of self.now) }
+        ensures { result ≡ nat_le ((length (text_of self.now) - (to - from)) + put) MAX_TEXT }
+    {
+        let stays = self.len - (to - from);
+        put <= MAX_TEXT - stays
+    }
+
+    /// The bytes of a statement, from its first token to its last.
+    pub fn statement(&self, id: StmtId) -> Option<&[u8]>
+        ensures { option_map lent_bytes result ≡ option_map (bytes_in (text_of self.now)) (look_up id (spans_by_number self.now)) }
+    {
+        texts_are_read();
+        let piece = self.table.piece(id)?;
+        Some(&piece.bytes[lead(&piece.bytes)..])
+    }
+
+    /// The mode in which a statement stands.
+    pub fn mode(&self, id: StmtId) -> Option<Mode>
+        ensures { result ≡ look_up id (modes_by_number self.now) }
+    {
+        texts_are_read();
+        let piece = self.table.piece(id)?;
+        Some(piece.mode)
+    }
+
+    /// Where the first token of a statement begins.
+    pub fn offset(&self, id: StmtId) -> Option<usize>
+        ensures { result ≡ option_map (λ s. s.lo) (look_up id (spans_by_number self.now)) }
+    {
+        texts_are_read();
+        let start = self.table.start_of(id)?;
+        Some(start + lead(&self.table.pieces[id.0].bytes))
+    }
+
+    /// The statement that has a position between its first token's start and its last one's end.
+    pub fn find_at(&self, pos: usize) -> Option<StmtId>
+        ensures { result ≡ number_at pos (spans_by_number self.now) }
+    {
+        texts_are_read();
+        let (id, start) = self.table.at(pos)?;
+        let first = start + lead(&self.table.pieces[id.0].bytes);
+        (first <= pos).then_some(id)
+    }
+
+    /// The first statement.
+    pub fn first(&self) -> Option<StmtId>
+        ensures { result ≡ first_id (ids_of self.now.table) }
+    {
+        self.table.first()
+    }
+
+    /// The statement after one.
+    pub fn next(&self, id: StmtId) -> Option<StmtId>
+        ensures { result ≡ id_after id (ids_of self.now.table) }
+    {
+        self.table.next(id)
+    }
+
+    /// The statement before one.
+    pub fn prev(&self, id: StmtId) -> Option<StmtId>
+        ensures { result ≡ id_before id (ids_of self.now.table) }
+    {
+        self.table.prev(id)
+    }
+
+    /// Writes the text.
+    pub fn write_to<W: CountedWrite>(&self, out: &mut W) -> Result<(), WriteFault>
+        requires { W.failed out.old < 2 ^ 63 }
+        ensures ok { OnOk result (Appends (W.contents out.old) (W.contents out.new) (text_of self.now)) }
+        ensures err { OnErr result (WritesPart (W.contents out.old) (W.contents out.new) (text_of self.now)) }
+        ensures failed { OnErr result (HasFailed (W.failed_hard out.old) (W.failed_hard out.new) (W.failed out.old) (W.failed out.new) 33554431) }
+        ensures few { W.failed out.new ≤ W.failed out.old + 33554432 }
+    {
+        let mut patience = MAX_INTERRUPTIONS;
+        write_pieces(&self.table, out, &mut patience)?;
+        write_whole(out, &self.tail, &mut patience)
+    }
+
+    /// A law: the text reads without its keys, and each of its statements has a number of its own.
+    pub fn statements_are_numbered(&self)
+        ensures reads { read_keyless (text_of self.now) ≡ Ok (map (λ x. x.1) (statements_of (text_of self.now))) }
+        ensures all { length (ids_of self.now.table) ≡ length (statements_of (text_of self.now)) }
+        ensures once { AreOnce (ids_of self.now.table) }
+    {
+        texts_are_read();
+        let _ = &self.table;
+    }
+
+    /// Exchanges the two contents of a change, which takes no memory. The same change then leads back.
+    pub fn commit(&mut self, change: &mut PreparedText<A>)
+        requires { (base : Content) × (other : Content) × IsBetween self.old change.old base other }
+        ensures exchanged { (base other : Content) → IsBetween self.old change.old base other → IsBetween self.new change.new other base }
+    {
+        exchange(&mut self.table.chunks, &mut change.changes);
+        std::mem::swap(&mut self.tail, &mut change.tail);
+        std::mem::swap(&mut self.len, &mut change.len);
+    }
+}
