@@ -43,7 +43,7 @@ own_end : (own ps : List Token) (k n : ℕ) → map (moved_token k) own ≡ ps �
 own_end [] ps k n is at = let none : (span_of ps).hi ≡ 0 = ap (λ (qs : List Token). (span_of qs).hi) (sym is) in omega (arith, at, none)
 own_end (q ∷ qs) ps k n is at =
     let there : k + end_after (q.pos + length q.bytes) qs ≡ k + n =
-        sym (end_moved k (q.pos + length q.bytes) qs) ∙ sym (ap (λ (m : ℕ). end_after m (map (moved_token k) qs)) (add_assoc k q.pos (length q.bytes))) ∙ ap (λ (rs : List Token). (span_of rs).hi) is ∙ at in
+    sym (end_moved k (q.pos + length q.bytes) qs) ∙ sym (ap (λ (m : ℕ). end_after m (map (moved_token k) qs)) (add_assoc k q.pos (length q.bytes))) ∙ ap (λ (rs : List Token). (span_of rs).hi) is ∙ at in
     omega (arith, there)
 
 module _ {M R : Type 0} (g : Grammar M R) where
