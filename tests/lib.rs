@@ -1,5 +1,5 @@
 //! Tests that are run and not proved: of sessions and of runs of scripts, of libraries and LEF texts, of names, of tokens, of pins, of
-//! texts that are read again or kept in pieces, of the pieces of wires, rectangles that meet, sets of shapes, and sums of areas by the cells of a grid.
+//! texts that are read again, kept in pieces or asked for their statements, of the pieces of wires, rectangles that meet, sets of shapes, and sums of areas by the cells of a grid.
 //! They try what no case folder can hold and what no program calls.
 #![tactic(auto)]
 
@@ -21,6 +21,7 @@ mod session_calls;
 mod shape_sets;
 mod spoilt_texts;
 mod text_in_pieces;
+mod text_look_ups;
 mod texts;
 mod tokens;
 mod wire_pieces;

@@ -1,0 +1,76 @@
+//! A small DEF text in pieces with its tables, which answers the look-ups of edits.
+
+use counted_devices::counted::Counted;
+use def_splice::lookups::LookUps;
+use design_model::fault::{Fault, FaultCode, ReadError};
+use design_model::mode::Section;
+use design_text::text::DesignText;
+use std::test::Fail;
+
+const TEXT: &[u8] = b"VERSION 5.8 ;\nDESIGN d ;\nUNITS DISTANCE MICRONS 1000 ;\nCOMPONENTS 2 ;\n- u1 INV ;\n# two\n- u2 INV ;\nEND COMPONENTS\nPINS 1 ;\n- a + NET n ;\nEND PINS\nNETS 2 ;\n- n ( PIN a ) ( u1 A ) ;\n- m ( u2 A ) ;\nEND NETS\nEND DESIGN\n";
+
+/// The bytes of an entry and their place.
+fn entry<'t>(text: &'t DesignText, section: Section, name: &[u8]) -> Option<(&'t [u8], usize)> {
+    let entry = text.statement(section, name)?;
+    Some((entry.bytes, entry.pos))
+}
+
+#[test]
+fn entries_by_name(rt: HostRuntime) -> Result<(), Fail> {
+    let text = DesignText::open(rt.alloc(), TEXT)?;
+    assert_eq!(rt; text.len(), TEXT.len());
+    assert_eq!(rt; entry(&text, Section::Components, b"u1"), Some((b"- u1 INV ;".as_slice(), 70)));
+    assert_eq!(rt; entry(&text, Section::Components, b"u2"), Some((b"- u2 INV ;".as_slice(), 87)));
+    assert_eq!(rt; entry(&text, Section::Components, b"n"), None);
+    assert_eq!(rt; entry(&text, Section::Nets, b"m"), Some((b"- m ( u2 A ) ;".as_slice(), 179)));
+    assert_eq!(rt; text.entry(Section::Nets, b"m").is_some(), true);
+    assert_eq!(rt; text.entry(Section::SpecialNets, b"m").is_some(), false);
+    assert_eq!(rt; text.component(b"u2").is_some(), true);
+    assert_eq!(rt; text.component(b"a").is_some(), false);
+    Ok(())
+}
+
+#[test]
+fn sections(rt: HostRuntime) -> Result<(), Fail> {
+    let text = DesignText::open(rt.alloc(), TEXT)?;
+    assert_eq!(rt; text.entries_in(Section::Components), 2);
+    assert_eq!(rt; text.entries_in(Section::Pins), 1);
+    assert_eq!(rt; text.entries_in(Section::SpecialNets), 0);
+    assert_eq!(rt; text.header(Section::Nets).is_some(), true);
+    assert_eq!(rt; text.end(Section::Nets).is_some(), true);
+    assert_eq!(rt; text.header(Section::Groups).is_some(), false);
+    assert_eq!(rt; text.end(Section::Groups).is_some(), false);
+    Ok(())
+}
+
+#[test]
+fn terminals(rt: HostRuntime) -> Result<(), Fail> {
+    let text = DesignText::open(rt.alloc(), TEXT)?;
+    assert_eq!(rt; text.is_listed(b"u1"), true);
+    assert_eq!(rt; text.is_listed(b"PIN"), false);
+    assert_eq!(rt; text.is_connected(b"u1", b"A"), true);
+    assert_eq!(rt; text.is_connected(b"u1", b"B"), false);
+    assert_eq!(rt; text.is_connected(b"PIN", b"a"), true);
+    assert_eq!(rt; text.is_connected(b"PIN", b"A"), false);
+    Ok(())
+}
+
+#[test]
+fn written_text(rt: HostRuntime) -> Result<(), Fail> {
+    let text = DesignText::open(rt.alloc(), TEXT)?;
+    let mut out = Counted::new(Vec::new(rt.alloc()));
+    assert!(rt; text.write_to(&mut out).is_ok());
+    assert_eq!(rt; out.into_inner().as_slice(), TEXT);
+    Ok(())
+}
+
+#[test]
+fn faults(rt: HostRuntime) -> Result<(), Fail> {
+    let none = DesignText::open(rt.alloc(), b"VERSION 5.8 ;\nEND DESIGN\n");
+    let no_units = Fault { code: FaultCode::NoUnits, pos: 25 };
+    assert_eq!(rt; none.err(), Some(ReadError::Fault(no_units)));
+    let twice = DesignText::open(rt.alloc(), b"UNITS DISTANCE MICRONS 1000 ;\nUNITS DISTANCE MICRONS 1000 ;\nEND DESIGN\n");
+    let repeated = Fault { code: FaultCode::Repeated, pos: 30 };
+    assert_eq!(rt; twice.err(), Some(ReadError::Fault(repeated)));
+    Ok(())
+}
