@@ -1,6 +1,6 @@
 //! Pieces that are lent.
 
-ghost use Rattle.text_pieces.specs.Lent.{Lends};
+ghost use Rattle.text_pieces.specs.Lent.{Lends, LendsAlone};
 
 use crate::text::TextPieces;
 use design_model::identifier::StmtId;
@@ -31,5 +31,14 @@ impl<A: Allocator + Copy> TextPieces<A> {
             mode: piece.mode,
             at,
         })
+    }
+    /// The bytes of the piece of a statement, and the mode in which it stands. Its place isn't looked for.
+    pub fn piece_alone(&self, id: StmtId) -> Option<(&[u8], Mode)>
+        ensures { LendsAlone self.now id result }
+    {
+        texts_are_read();
+        chains_lead();
+        let piece = self.table.piece(id)?;
+        Some((&piece.bytes, piece.mode))
     }
 }
