@@ -77,6 +77,9 @@ module _ (c : Content) (many : length (ids_of c.table) ≡ length (statements_of
   abbrev ids : List StmtId
   ids = ids_of c.table
 
+  abbrev record_under : StmtId → Option Record
+  record_under id = option_map (λ (x : List Token × Record). x.1) (look_up id (numbered_statements c))
+
   all_numbers : numbers (numbered_records c) ≡ ids
   all_numbers = numbers_zip ids (map (λ (x : List Token × Record). x.1) (statements_of (text_of c))) (many ∙ sym (length-map (statements_of (text_of c)) (λ (x : List Token × Record). x.1)))
 
@@ -112,7 +115,7 @@ module _ (c : Content) (many : length (ids_of c.table) ≡ length (statements_of
     apart : IsAbsent id (numbers front)
     apart = absent_before id (numbers front) (numbers n.later) so_once
 
-    says : Some n.rec ≡ option_map (λ (x : List Token × Record). x.1) (look_up id (numbered_statements c))
+    says : Some n.rec ≡ record_under id
     says = sym (look_past id n.rec front n.later apart) ∙ ap (look_up id) (sym n.whole) ∙ look_map (λ (x : List Token × Record). x.1) id ids (statements_of (text_of c))
 
     after : id_after id ids ≡ first_id (numbers n.later)
@@ -130,13 +133,13 @@ module _ (c : Content) (many : length (ids_of c.table) ≡ length (statements_of
     n = next_is id f.front f.rest f.whole f.first
 
     -- the number has a statement
-    pub stands : None ≡ look_up id (numbered_statements c) → ⊥
-    stands none = let e = says id f.front n ∙ ap (option_map (λ (x : List Token × Record). x.1)) (sym none) in absurd (cc)
+    pub stands : None ≡ record_under id → ⊥
+    stands none = let e = says id f.front n ∙ sym none in absurd (cc)
 
-    pub goes_on : (ps : List Token) (rec : Record) (new : List (List ℕ × Listing)) (next : Option StmtId) → Some (ps, rec) ≡ look_up id (numbered_statements c)
+    pub goes_on : (rec : Record) (new : List (List ℕ × Listing)) (next : Option StmtId) → Some rec ≡ record_under id
         → ((xs : Numbered) → AreTablesOf xs es → AreTablesOf (xs ++ (id, rec) ∷ []) new) → next ≡ id_after id ids → Filling c new next
-    goes_on ps rec new next found adds is =
-        let e = says id f.front n ∙ ap (option_map (λ (x : List Token × Record). x.1)) (sym found) in
+    goes_on rec new next found adds is =
+        let e = says id f.front n ∙ sym found in
         let it : n.rec ≡ rec = cc in
         record {
           front = f.front ++ (id, rec) ∷ [];

@@ -5,7 +5,7 @@ ghost use Rattle.def_reader.specs.TextViews.{ReadsText};
 ghost use Rattle.design_tables.specs.Listings.{AreTablesOf};
 ghost use Rattle.design_text.specs.DesignTexts.{numbered_records, text_of};
 
-use crate::statements::statement_of;
+use crate::statements::statement_alone;
 use crate::text::DesignText;
 use def_reader::read_def::read_def;
 use def_reader::statement::Statement;
@@ -27,7 +27,7 @@ fn tables_of<A: Allocator + Copy>(
     let mut tables = Tables::new(alloc);
     let mut next = pieces.first();
     while let Some(id) = next {
-        let Some((statement, _)) = statement_of(pieces, id) else {
+        let Some(statement) = statement_alone(pieces, id) else {
             unreachable!()
         };
         tables.add(id, &statement)?;

@@ -3,9 +3,11 @@
 ghost use Rattle.std.specs.Prelude.{◌≡◌, IfSome};
 ghost use Rattle.std.specs.Option.{option_map};
 ghost use Rattle.statement_model.specs.Form.{spell};
+ghost use Rattle.statement_model.specs.Tokens.{tokens};
 ghost use Rattle.def_grammar.specs.Components.{Component, component_form};
-ghost use Rattle.def_grammar.specs.Records.{component, entry};
+ghost use Rattle.def_grammar.specs.Records.{Record, component, def, entry};
 ghost use Rattle.lefdef_tokens.specs.Views.{pieces_of, words_of};
+ghost use Rattle.piece_laws.specs.Pieces.{IsPiece};
 ghost use Rattle.def_reader.specs.Lent.{StatementAt};
 ghost use Rattle.def_reader.specs.StatementViews.{record_view};
 ghost use Rattle.def_splice.specs.Lying.{LiesIn, lying_statement};
@@ -13,15 +15,35 @@ ghost use Rattle.text_pieces.specs.Content.{text_of};
 ghost use Rattle.text_pieces.specs.Lent.{numbered_statements};
 ghost use Rattle.text_pieces.specs.Statements.{look_up};
 
-use def_reader::read_statement::read_statement;
+use def_reader::read_statement::{Read, read_statement};
 use def_reader::statement::Statement;
 use def_splice::lying::Lying;
 use design_model::identifier::StmtId;
+use design_model::mode::Mode;
 use piece_laws::pieces::pieces_are_found;
 use std::alloc::Allocator;
 use text_pieces::text::TextPieces;
 
-/// The statement of a number, read from its piece alone.
+/// The statement that a piece is.
+fn read_piece<'t>(bytes: &'t [u8], mode: Mode) -> Read<'t>
+    requires { (rec : Record) × (after : Mode) × IsPiece def mode bytes.now rec after }
+    ensures says { (rec : Record) → (after : Mode) → IsPiece def mode bytes.now rec after → record_view result.statement ≡ rec }
+    ensures tokens { pieces_of result.tokens ≡ (tokens bytes.now).pieces }
+    ensures spelled { (c : Component) → record_view result.statement ≡ entry (component c) → words_of result.tokens ≡ spell component_form c }
+    ensures lent { StatementAt (pieces_of result.tokens) result.statement }
+    ensures text { result.tokens.text.now ≡ bytes.now }
+{
+    pieces_are_found();
+    let Ok(found) = read_statement(mode, bytes, 0) else {
+        unreachable!()
+    };
+    let Some(read) = found else {
+        unreachable!()
+    };
+    read
+}
+
+/// The statement of a number, read from its piece alone, with its tokens where they lie in the text.
 pub(crate) fn statement_of<A: Allocator + Copy>(
     pieces: &TextPieces<A>,
     id: StmtId,
@@ -31,17 +53,22 @@ pub(crate) fn statement_of<A: Allocator + Copy>(
     ensures spelled { IfSome result (λ x. (c : Component) → record_view x.0 ≡ entry (component c) → words_of x.1.tokens ≡ spell component_form c) }
     ensures lies { IfSome result (λ x. LiesIn (text_of pieces.now) x.1) }
 {
-    pieces_are_found();
     let piece = pieces.piece(id)?;
-    let Ok(found) = read_statement(piece.mode, piece.bytes, 0) else {
-        unreachable!()
-    };
-    let Some(read) = found else {
-        unreachable!()
-    };
+    let read = read_piece(piece.bytes, piece.mode);
     let tokens = Lying {
         tokens: read.tokens,
         at: piece.at,
     };
     Some((read.statement, tokens))
+}
+
+/// The statement of a number, read from its piece alone. Its place isn't looked for.
+pub(crate) fn statement_alone<A: Allocator + Copy>(
+    pieces: &TextPieces<A>,
+    id: StmtId,
+) -> Option<Statement<'_>>
+    ensures { option_map record_view result ≡ option_map (λ x. x.1) (look_up id (numbered_statements pieces.now)) }
+{
+    let (bytes, mode) = pieces.piece_alone(id)?;
+    Some(read_piece(bytes, mode).statement)
 }

@@ -1,5 +1,4 @@
 use Rattle.def_reader.specs.StatementViews.{record_view}
-use Rattle.def_splice.specs.Lying.{lying_tokens}
 use Rattle.design_text.proofs.Filling.{ends, fewer_left, goes_on, stands, starts}
 use Rattle.design_text.proofs.opening.tables_of.Goals as goal
 
@@ -7,7 +6,7 @@ pub unreachable-requires : goal.unreachable-requires
 unreachable-requires g c =
     let s = c.statements_are_numbered.ensures in
     let f = rw c.in-Some.is at c.loop-next.invariant in
-    stands c.args.pieces.now s.all s.once c.loop-next.tables c.in-Some.id f (rw c.in_default-statement_of.is at c.statement_of.ensures.gives)
+    stands c.args.pieces.now s.all s.once c.loop-next.tables c.in-Some.id f (rw c.in_default-statement_alone.is at c.statement_alone.ensures)
 
 pub loop-next-init : goal.loop-next-init
 loop-next-init g c =
@@ -24,9 +23,8 @@ pub loop-next-preserved : goal.loop-next-preserved
 loop-next-preserved g c =
     let s = c.statements_are_numbered.ensures in
     let f = rw c.in-Some.is at c.loop-next.invariant in
-    let found = rw c.in-Some-statement_of.is at c.statement_of.ensures.gives in
-    goes_on c.args.pieces.now s.all s.once c.loop-next.tables c.in-Some.id f (lying_tokens c.in-Some-statement_of.field-0-1) (record_view c.in-Some-statement_of.statement)
-    c.add.new.self c.next-next.result found c.in_ok-add.ensures c.next-next.ensures
+    let found = rw c.in-Some-statement_alone.is at c.statement_alone.ensures in
+    goes_on c.args.pieces.now s.all s.once c.loop-next.tables c.in-Some.id f (record_view c.in-Some-statement_alone.statement) c.add.new.self c.next-next.result found c.in_ok-add.ensures c.next-next.ensures
 
 pub returns : goal.returns
 returns g c =
