@@ -37,9 +37,7 @@ fn read_piece<'t>(bytes: &'t [u8], mode: Mode) -> Read<'t>
     let Ok(found) = read_statement(mode, bytes, 0) else {
         unreachable!()
     };
-    let Some(read) = found else {
-        unreachable!()
-    };
+    let Some(read) = found else { unreachable!() };
     read
 }
 
