@@ -122,7 +122,7 @@ module _ (c : Content) (many : length (ids_of c.table) ≡ length (statements_of
     fewer =
         let now : ids_from id ids ≡ suc (length (numbers n.later)) = ap (ids_from id) split ∙ from_at id (numbers front) (numbers n.later) apart in
         let later : ids_left (id_after id ids) ids ≡ length (numbers n.later) =
-            ap₂ (λ (o : Option StmtId) (l : List StmtId). ids_left o l) after split ∙ left_after id (numbers front) (numbers n.later) so_once in
+        ap₂ (λ (o : Option StmtId) (l : List StmtId). ids_left o l) after split ∙ left_after id (numbers front) (numbers n.later) so_once in
         omega (arith, now, later)
 
   module _ (es : List (List ℕ × Listing)) (id : StmtId) (f : Filling c es (Some id)) where

@@ -52,10 +52,10 @@ module _ (test : Record → Bool) where
       | inr not_so ↦
           let f = one_there is xs (omega (arith, many)) once.1 (rw not_so at h) in
           let apart : i.0 ≢ (f.0).0 = λ e.
-              let it : i ≡ f.0 = ap (λ (k : ℕ). record { 0 = k }) e in
-              let none = absent_number wide f.0 is (said xs) (subst (λ (y : StmtId). IsAbsent y is) it once.0) in
-              let e2 = sym f.1 ∙ none in
-              absurd (cc) in
+          let it : i ≡ f.0 = ap (λ (k : ℕ). record { 0 = k }) e in
+          let none = absent_number wide f.0 is (said xs) (subst (λ (y : StmtId). IsAbsent y is) it once.0) in
+          let e2 = sym f.1 ∙ none in
+          absurd (cc) in
           (f.0, or_true wide (is_number f.0 i && wide x.1) (numbers_one wide (zip is (said xs)) f.0) f.1, rw (differ i.0 (f.0).0 apart) f.2)
     ]
 

@@ -17,10 +17,7 @@ use std::alloc::{AllocError, Allocator};
 use text_pieces::text::TextPieces;
 
 /// The tables of the statements of a text in pieces, under their numbers.
-fn tables_of<A: Allocator + Copy>(
-    alloc: A,
-    pieces: &TextPieces<A>,
-) -> Result<Tables<A>, AllocError>
+fn tables_of<A: Allocator + Copy>(alloc: A, pieces: &TextPieces<A>) -> Result<Tables<A>, AllocError>
     ensures { IfOk result (λ tables. AreTablesOf (numbered_records pieces.now) tables) }
 {
     pieces.statements_are_numbered();

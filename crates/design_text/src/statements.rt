@@ -36,9 +36,7 @@ pub(crate) fn statement_of<A: Allocator + Copy>(
     let Ok(found) = read_statement(piece.mode, piece.bytes, 0) else {
         unreachable!()
     };
-    let Some(read) = found else {
-        unreachable!()
-    };
+    let Some(read) = found else { unreachable!() };
     let tokens = Lying {
         tokens: read.tokens,
         at: piece.at,
