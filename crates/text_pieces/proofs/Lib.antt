@@ -1,3 +1,4 @@
+mod Chains
 mod Exchanges
 mod Found
 mod Going
@@ -7,6 +8,7 @@ mod Neighbours
 mod Opened
 mod PlacedPieces
 mod ReadPieces
+mod Replaced
 mod Shown
 mod Slots
 mod Storing
