@@ -10,6 +10,7 @@ use Rattle.def_grammar.specs.Records.{Record, def}
 use Rattle.piece_laws.specs.Pieces.{AreApart, AreChained, IsPiece, modes_from}
 use Rattle.piece_laws.proofs.Chaining.{piece_leads}
 use Rattle.rereading.specs.Segments.{OldBytes}
+use Rattle.text_pieces.specs.Behind.{old_bytes, segments}
 use Rattle.text_pieces.specs.Content.{bytes_of}
 use Rattle.text_pieces.specs.Tables.{Kept}
 
@@ -66,13 +67,6 @@ chain_part m last (k ∷ ks) ls c =
     let p = parted m last k (ks ++ ls) c in
     let later = chain_part p.after last ks ls p.later in
     (later.0, chain_more m p.after later.0 k ks p.rec p.piece p.mode later.1, later.2)
-
--- old statements behind an edit, and what stands behind the last
-abbrev pub old_bytes : Kept → OldBytes
-old_bytes k = record { bytes = k.bytes; mode = Some k.mode }
-
-abbrev pub segments : List Kept → List ℕ → List OldBytes
-segments ks tail = map old_bytes ks ++ record { bytes = tail; mode = Some After } ∷ []
 
 -- where an old statement goes on, in the mode in which it stands, so do all behind it
 pub goes_on : (m : Mode) (ks : List Kept) (tail : List ℕ) (used : ℕ) (s : OldBytes) → IsChain m ks After → used ≤ length ks → slice_get (segments ks tail) used ≡ Some s

@@ -1,6 +1,7 @@
 mod Chains
 mod Exchanges
 mod Found
+mod FromPlaces
 mod Going
 mod Ids
 mod JoinedPieces

@@ -16,9 +16,10 @@ use Rattle.rereading.specs.Segments.{OldBytes}
 use Rattle.rereading.specs.Segments as behind_edit
 use Rattle.rereading.specs.declared.pieces.NewPiece.{NewPiece}
 use Rattle.rereading.specs.declared.pieces.Reread.{Reread}
+use Rattle.text_pieces.specs.Behind.{segments}
 use Rattle.text_pieces.specs.Content.{bytes_of}
 use Rattle.text_pieces.specs.Tables.{Kept}
-use Rattle.text_pieces.proofs.Chains.{IsChain, apart_behind, apart_join, chain_join, goes_on, old_bytes, segments}
+use Rattle.text_pieces.proofs.Chains.{IsChain, apart_behind, apart_join, chain_join, goes_on}
 use Rattle.text_pieces.proofs.Opened.{after_is}
 
 -- new pieces as they are kept
