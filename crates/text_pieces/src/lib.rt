@@ -14,6 +14,7 @@
 //! statement that can't be read or want of memory, and `write_to` `WriteFault`, where a first part of the text was written.
 #![tactic(auto)]
 
+mod behind;
 mod chunks;
 mod opening;
 pub mod prepared;
