@@ -52,10 +52,11 @@ pub parted_at : (cs : List Numbers) (k i : ℕ) → i ≤ length (ids_at cs k) �
 parted_at cs k i low = ⊎_elim
     (λ below.
     let ids = ids_at cs k in
-    let more = all_ids (drop (k + 1) cs) in
-    (all_ids (take k cs) ++ take i ids,
-    cut_at cs k ∙ ap (λ (l : List StmtId). all_ids (take k cs) ++ l) (chunks_from cs k below ∙ ap (λ (l : List StmtId). l ++ more) (sym (take-append-drop i ids)) ∙ append_assoc (take i ids) (drop i ids) more)
-    ∙ sym (append_assoc (all_ids (take k cs)) (take i ids) (drop i ids ++ more))))
+    let more = all_ids (drop (k + 1) cs) in (
+      all_ids (take k cs) ++ take i ids,
+      cut_at cs k ∙ ap (λ (l : List StmtId). all_ids (take k cs) ++ l) (chunks_from cs k below ∙ ap (λ (l : List StmtId). l ++ more) (sym (take-append-drop i ids)) ∙ append_assoc (take i ids) (drop i ids) more)
+          ∙ sym (append_assoc (all_ids (take k cs)) (take i ids) (drop i ids ++ more)),
+    ))
     (λ past.
     let empty : ids_at cs k ≡ [] = ap (λ (n : Numbers). n.ids) (get_or_past cs k no_numbers past) in
     let gone : drop (k + 1) cs ≡ [] = drop_all (k + 1) cs (omega (arith, past)) in

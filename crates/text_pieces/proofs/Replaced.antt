@@ -1,16 +1,14 @@
 -- Statements that are read again take the place of others.
-use Rattle.std.proofs.Common.{◌≡◌, ◌<◌, ◌≤◌, ◌+◌, ℕ, zero, suc, List, [], ◌∷◌, ◌++◌, length, map, take, drop, Option, Some, None, refl, sym, ap, ap₂, ◌∙◌, subst, ⊎_elim, append_assoc, append-nil, arith, length-append, MatchOption}
+use Rattle.std.proofs.Common.{◌≡◌, ◌≤◌, ℕ, zero, suc, List, [], ◌∷◌, ◌++◌, length, map, take, drop, Option, Some, None, refl, sym, ap, ◌∙◌, subst, append_assoc, append-nil, arith}
 use Rattle.std.specs.List.{concat, slice_get}
-use Rattle.std.proofs.lemmas.Bool.{cases_lt}
-use Rattle.std.proofs.lemmas.List.{drop_all, length-map, map-append, take-append-drop, take_all}
+use Rattle.std.proofs.lemmas.List.{drop_all, map-append, take-append-drop, take_all}
 use Rattle.std.proofs.lemmas.List.Folds.{concat-append}
-use Rattle.std.proofs.lemmas.Option.{slice_get_past}
 use Rattle.design_model.specs.declared.mode.Mode.{Mode}
 use Rattle.design_model.specs.declared.mode.Mode.TheVariants.{Top, After}
 use Rattle.lefdef_tokens.specs.Laws.{BeginsApart}
 use Rattle.def_grammar.specs.Records.{def}
 use Rattle.piece_laws.specs.PieceLaws.{TailsMayEnd}
-use Rattle.piece_laws.specs.Pieces.{AreApart, AreChained, IsTail, modes_from}
+use Rattle.piece_laws.specs.Pieces.{AreApart, IsTail}
 use Rattle.rereading.specs.Rereading.{IsReread, new_bytes, new_modes}
 use Rattle.rereading.specs.Segments.{OldBytes}
 use Rattle.rereading.specs.Segments as behind_edit
@@ -19,7 +17,7 @@ use Rattle.rereading.specs.declared.pieces.Reread.{Reread}
 use Rattle.text_pieces.specs.Behind.{segments}
 use Rattle.text_pieces.specs.Content.{bytes_of}
 use Rattle.text_pieces.specs.Tables.{Kept}
-use Rattle.text_pieces.proofs.Chains.{IsChain, apart_behind, apart_join, chain_join, goes_on}
+use Rattle.text_pieces.proofs.Chains.{IsChain, apart_join, chain_join, goes_on}
 use Rattle.text_pieces.proofs.Opened.{after_is}
 
 -- new pieces as they are kept
@@ -118,21 +116,22 @@ module _ (A : Type 0) (chunk : ℕ) (mid : Mode) (raw : List ℕ) (behind : List
       let left = drop x.used behind in
       let rest_none : x.rest.items ≡ [] = lands.0 in
       let later : x.rest.items ++ behind_edit.bytes_of (drop x.used (segments behind tail)) ≡ concat (bytes_of left) ++ tail =
-          ap (λ (u : List ℕ). u ++ behind_edit.bytes_of (drop x.used (segments behind tail))) rest_none
-          ∙ ap behind_edit.bytes_of (segments_from behind tail x.used low)
-          ∙ segment_bytes left tail in
+      ap (λ (u : List ℕ). u ++ behind_edit.bytes_of (drop x.used (segments behind tail))) rest_none
+      ∙ ap behind_edit.bytes_of (segments_from behind tail x.used low)
+      ∙ segment_bytes left tail in
       let whole : concat (new_bytes x.pieces.items) ≡ raw ++ concat (bytes_of (take x.used behind)) =
-          sym (append-nil (concat (new_bytes x.pieces.items))) ∙ ap (λ (u : List ℕ). concat (new_bytes x.pieces.items) ++ u) (sym rest_none) ∙ is.whole
-          ∙ ap (λ (u : List ℕ). raw ++ u) (segments_up_to behind tail x.used low) in
-      (record {
-        chain = chain_join mid x.mode After (news_of chunk x.pieces.items) left new_chain (subst (λ (n : Mode). IsChain n left After) same on.2);
-        apart = apart_new left tail (subst (AreApart (new_bytes x.pieces.items)) later is.apart) (apart_from behind x.used tail apart);
-        ends = end.ends;
-      },
-      joined_new left tail
-      ∙ ap (λ (u : List ℕ). u ++ (concat (bytes_of left) ++ tail)) whole
-      ∙ append_assoc raw (concat (bytes_of (take x.used behind))) (concat (bytes_of left) ++ tail)
-      ∙ ap (λ (u : List ℕ). raw ++ u) (sym (append_assoc (concat (bytes_of (take x.used behind))) (concat (bytes_of left)) tail) ∙ ap (λ (u : List ℕ). u ++ tail) (sym (parts_joined behind x.used))))
+      sym (append-nil (concat (new_bytes x.pieces.items))) ∙ ap (λ (u : List ℕ). concat (new_bytes x.pieces.items) ++ u) (sym rest_none) ∙ is.whole
+      ∙ ap (λ (u : List ℕ). raw ++ u) (segments_up_to behind tail x.used low) in (
+        record {
+          chain = chain_join mid x.mode After (news_of chunk x.pieces.items) left new_chain (subst (λ (n : Mode). IsChain n left After) same on.2);
+          apart = apart_new left tail (subst (AreApart (new_bytes x.pieces.items)) later is.apart) (apart_from behind x.used tail apart);
+          ends = end.ends;
+        },
+        joined_new left tail
+            ∙ ap (λ (u : List ℕ). u ++ (concat (bytes_of left) ++ tail)) whole
+            ∙ append_assoc raw (concat (bytes_of (take x.used behind))) (concat (bytes_of left) ++ tail)
+            ∙ ap (λ (u : List ℕ). raw ++ u) (sym (append_assoc (concat (bytes_of (take x.used behind))) (concat (bytes_of left)) tail) ∙ ap (λ (u : List ℕ). u ++ tail) (sym (parts_joined behind x.used))),
+      )
 
   all_segments : take x.used (segments behind tail) ≡ segments behind tail → behind_edit.bytes_of (take x.used (segments behind tail)) ≡ concat (bytes_of behind) ++ tail
   all_segments all = ap behind_edit.bytes_of all ∙ segment_bytes behind tail
@@ -144,13 +143,14 @@ module _ (A : Type 0) (chunk : ℕ) (mid : Mode) (raw : List ℕ) (behind : List
       let last : x.mode ≡ After = after_is x.mode (may_end x.mode x.rest.items tail_is) in
       let none : drop x.used (segments behind tail) ≡ [] = drop_all x.used (segments behind tail) past in
       let later : x.rest.items ++ behind_edit.bytes_of (drop x.used (segments behind tail)) ≡ concat (bytes_of []) ++ x.rest.items =
-          ap (λ (ss : List OldBytes). x.rest.items ++ behind_edit.bytes_of ss) none ∙ append-nil x.rest.items in
-      (record {
-        chain = chain_join mid x.mode After (news_of chunk x.pieces.items) [] new_chain (record { recs = []; chained = last; modes = refl });
-        apart = apart_new [] x.rest.items (subst (AreApart (new_bytes x.pieces.items)) later is.apart) tt;
-        ends = subst (λ (n : Mode). IsTail def n x.rest.items) last tail_is;
-      },
-      joined_new [] x.rest.items ∙ is.whole ∙ ap (λ (u : List ℕ). raw ++ u) (all_segments (take_all x.used (segments behind tail) past)))
+      ap (λ (ss : List OldBytes). x.rest.items ++ behind_edit.bytes_of ss) none ∙ append-nil x.rest.items in (
+        record {
+          chain = chain_join mid x.mode After (news_of chunk x.pieces.items) [] new_chain (record { recs = []; chained = last; modes = refl });
+          apart = apart_new [] x.rest.items (subst (AreApart (new_bytes x.pieces.items)) later is.apart) tt;
+          ends = subst (λ (n : Mode). IsTail def n x.rest.items) last tail_is;
+        },
+        joined_new [] x.rest.items ∙ is.whole ∙ ap (λ (u : List ℕ). raw ++ u) (all_segments (take_all x.used (segments behind tail) past)),
+      )
 
 -- statements in front of an edit stay
 pub front_stays : (front later : List Kept) (mid : Mode) (tail was : List ℕ) → IsChain Top front mid → AreApart (bytes_of front) was → BeginsApart (concat (bytes_of later) ++ tail) → EndsText mid later tail → EndsText Top (front ++ later) tail

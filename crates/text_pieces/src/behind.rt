@@ -29,11 +29,10 @@ impl<'t, A: Allocator> Model for Behind<'t, A> {
     ghost view = { λ b. segments (kept_from (table_of b.table.now) b.chunk b.place) b.tail.now };
 
     ghost invariant = { λ b.
-      IsTable (table_of b.table.now)
-      × (b.place ≤ length (ids_at (table_of b.table.now).chunks b.chunk))
-      × (b.count ≡ length (ids_from (table_of b.table.now).chunks b.chunk b.place))
-      × (b.count < 2 ^ 63)
-    };
+        IsTable (table_of b.table.now)
+        × (b.place ≤ length (ids_at (table_of b.table.now).chunks b.chunk))
+        × (b.count ≡ length (ids_from (table_of b.table.now).chunks b.chunk b.place))
+        × (b.count < 2 ^ 63) };
 }
 
 impl<'t, A: Allocator> Segments for Behind<'t, A> {

@@ -1,10 +1,8 @@
-use Rattle.std.proofs.Common.{◌≡◌, ◌∙◌, ℕ, List, Some, sym, ap, ap₂, map}
+use Rattle.std.proofs.Common.{◌∙◌, ℕ, List, Some, sym, ap, map}
 use Rattle.std.specs.Prelude.{option_map}
-use Rattle.design_model.specs.declared.mode.Mode.{Mode}
-use Rattle.rereading.specs.Segments.{OldBytes}
 use Rattle.text_pieces.specs.Behind.{ids_from, old_bytes}
 use Rattle.text_pieces.specs.Chunks.{shown}
-use Rattle.text_pieces.specs.Tables.{Kept, kept, kept_at}
+use Rattle.text_pieces.specs.Tables.{Kept, kept}
 use Rattle.text_pieces.proofs.FromPlaces.{held_from, segment_at}
 use Rattle.text_pieces.proofs.Shown.{is_there, kept_is}
 use Rattle.text_pieces.proofs.behind.BehindSegments.segment.Goals as goal
@@ -24,6 +22,6 @@ returns-clause-at g c =
     let id = c.in-Some.id in
     let own = kept_is b.table.now.pieces.slots id _ c.index-piece.ensures in
     rw (← c.self.view_is) (
-      ap (λ (l : List ℕ). Some (record { bytes = l; mode = Some c.index-piece.result.now.mode })) c.deref.ensures.value
-      ∙ ap (λ (k : Kept). Some (old_bytes k)) (sym own)
-      ∙ sym (segment_at slots (ids_from cs b.chunk b.place) b.tail.now c.args.k id (sym c.in-Some.ensures)))
+    ap (λ (l : List ℕ). Some (record { bytes = l; mode = Some c.index-piece.result.now.mode })) c.deref.ensures.value
+    ∙ ap (λ (k : Kept). Some (old_bytes k)) (sym own)
+    ∙ sym (segment_at slots (ids_from cs b.chunk b.place) b.tail.now c.args.k id (sym c.in-Some.ensures)))

@@ -1,5 +1,4 @@
-use Rattle.std.proofs.Common.{◌≡◌, ◌<◌, ◌≤◌, ◌∙◌, sym, ap, length, map, arith}
-use Rattle.std.proofs.lemmas.List.{length-map}
+use Rattle.std.proofs.Common.{◌<◌, ◌∙◌, sym, ap, length, map, arith}
 use Rattle.text_pieces.specs.Chunks.{Numbers, shown}
 use Rattle.text_pieces.proofs.FromPlaces.{passed_from}
 use Rattle.text_pieces.proofs.Shown.{shown_at}
