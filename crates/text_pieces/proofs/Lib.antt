@@ -12,7 +12,7 @@ mod ReadPieces
 mod Replaced
 mod Shown
 mod Slots
-mod Storing
+mod StoredPieces
 mod Turning
 mod Weights
 mod WritingSteps

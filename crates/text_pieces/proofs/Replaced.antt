@@ -16,16 +16,10 @@ use Rattle.rereading.specs.declared.pieces.NewPiece.{NewPiece}
 use Rattle.rereading.specs.declared.pieces.Reread.{Reread}
 use Rattle.text_pieces.specs.Behind.{segments}
 use Rattle.text_pieces.specs.Content.{bytes_of}
+use Rattle.text_pieces.specs.Storing.{new_kept, news_of}
 use Rattle.text_pieces.specs.Tables.{Kept}
 use Rattle.text_pieces.proofs.Chains.{IsChain, apart_join, chain_join, goes_on}
 use Rattle.text_pieces.proofs.Opened.{after_is}
-
--- new pieces as they are kept
-abbrev pub new_kept : {A : Type 0} → ℕ → NewPiece A → Kept
-new_kept chunk p = record { mode = p.mode; bytes = p.bytes.items; chunk = chunk }
-
-abbrev pub news_of : {A : Type 0} → ℕ → List (NewPiece A) → List Kept
-news_of chunk ps = map (new_kept chunk) ps
 
 bytes_new : (A : Type 0) (chunk : ℕ) (ps : List (NewPiece A)) → bytes_of (news_of chunk ps) ≡ new_bytes ps
 bytes_new A chunk [] = refl

@@ -4,5 +4,6 @@ pub mod Chunks
 pub mod Content
 pub mod Opening
 pub mod Statements
+pub mod Storing
 pub mod Tables
 pub mod Writing

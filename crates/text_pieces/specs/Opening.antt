@@ -28,20 +28,6 @@ NextPiece mode text pos r =
     (λ found. MatchOption found (read_at def mode (left_from text pos) ≡ Ok None) (PieceAt mode text pos))
     (λ f. read_at def mode (left_from text pos) ≡ Err f)
 
--- what is kept under a number stays
-abbrev pub StaysKept : List (Option Kept) → List (Option Kept) → Type 0
-StaysKept old new = (n : ℕ) (k : Kept) → slice_index_or old n None ≡ Some k → slice_index_or new n None ≡ Some k
-
--- a piece is kept under a number that was free
-pub record Stores (old new : List (Option Kept)) (k : Kept) (id : StmtId) : Type 0 where
-  pub free : slot old id ≡ None
-  pub held : slot new id ≡ Some k
-  pub stays : StaysKept old new
-
--- its number comes behind others
-abbrev pub StoresBehind : List (Option Kept) → List (Option Kept) → Kept → List StmtId → List StmtId → Type 0
-StoresBehind old new k before after = (id : StmtId) × (after ≡ before ++ id ∷ []) × Stores old new k id
-
 -- the statements of a text up to a position are read as these pieces, and lead to a mode
 pub record AreRead (text : List ℕ) (ks : List Kept) (mode : Mode) (pos : ℕ) : Type 0 where
   pub recs : List Record

@@ -18,6 +18,7 @@ mod behind;
 mod chunks;
 mod opening;
 pub mod prepared;
+mod storing;
 mod table;
 pub mod text;
 mod writing;
