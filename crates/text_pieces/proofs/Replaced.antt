@@ -16,7 +16,7 @@ use Rattle.rereading.specs.declared.pieces.NewPiece.{NewPiece}
 use Rattle.rereading.specs.declared.pieces.Reread.{Reread}
 use Rattle.text_pieces.specs.Behind.{segments}
 use Rattle.text_pieces.specs.Content.{bytes_of}
-use Rattle.text_pieces.specs.Storing.{new_kept, news_of}
+use Rattle.text_pieces.specs.Storing.{news_of}
 use Rattle.text_pieces.specs.Tables.{Kept}
 use Rattle.text_pieces.proofs.Chains.{IsChain, apart_join, chain_join, goes_on}
 use Rattle.text_pieces.proofs.Opened.{after_is}

@@ -1,10 +1,9 @@
 -- How far a text is opened.
-use Rattle.std.specs.Prelude.{◌≡◌, ◌≤◌, ◌<◌, ℕ, true, false, List, [], ◌∷◌, ◌++◌, length, map, drop, slice_index_or, Option, Some, None, Result, Ok, Err, MatchResult, MatchOption}
+use Rattle.std.specs.Prelude.{◌≡◌, ◌≤◌, ◌<◌, ℕ, true, false, List, [], ◌∷◌, ◌++◌, length, map, drop, Option, None, Result, Ok, Err, MatchResult, MatchOption}
 use Rattle.std.specs.List.{concat, slice_range}
 use Rattle.design_model.specs.declared.fault.Fault as fault
 use Rattle.design_model.specs.declared.fault.ReadError.{ReadError}
 use Rattle.design_model.specs.declared.fault.ReadError.TheVariants.{Fault, Memory}
-use Rattle.design_model.specs.declared.identifier.StmtId.{StmtId}
 use Rattle.design_model.specs.declared.mode.Mode.{Mode}
 use Rattle.design_model.specs.declared.mode.Mode.TheVariants.{Top}
 use Rattle.statement_model.specs.Tokens.{left_from, tokens}
@@ -13,7 +12,7 @@ use Rattle.lefdef_tokens.specs.Laws.{BeginsApart}
 use Rattle.def_grammar.specs.Records.{Record, def}
 use Rattle.piece_laws.specs.Pieces.{keyless, AreApart, AreChained, IsPiece, modes_from}
 use Rattle.text_pieces.specs.Chunks.{Numbers, shown, all_ids, AreOnce}
-use Rattle.text_pieces.specs.Tables.{Kept, slot, kept_at, AreChunks}
+use Rattle.text_pieces.specs.Tables.{Kept, kept_at, AreChunks}
 use Rattle.text_pieces.specs.Content.{bytes_of}
 use Rattle.text_pieces.specs.declared.opening.Part.{Part}
 
