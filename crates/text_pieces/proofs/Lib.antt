@@ -1,5 +1,6 @@
 mod Chains
 mod Exchanges
+mod FaultsBehind
 mod Found
 mod FromPlaces
 mod Going
