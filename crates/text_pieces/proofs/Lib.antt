@@ -1,5 +1,8 @@
+mod Chains
 mod Exchanges
+mod FaultsBehind
 mod Found
+mod FromPlaces
 mod Going
 mod Ids
 mod JoinedPieces
@@ -7,9 +10,10 @@ mod Neighbours
 mod Opened
 mod PlacedPieces
 mod ReadPieces
+mod Replaced
 mod Shown
 mod Slots
-mod Storing
+mod StoredPieces
 mod Turning
 mod Weights
 mod WritingSteps

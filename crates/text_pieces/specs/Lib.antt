@@ -1,7 +1,9 @@
+pub mod Behind
 pub mod Changes
 pub mod Chunks
 pub mod Content
 pub mod Opening
 pub mod Statements
+pub mod Storing
 pub mod Tables
 pub mod Writing

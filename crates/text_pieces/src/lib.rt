@@ -14,9 +14,11 @@
 //! statement that can't be read or want of memory, and `write_to` `WriteFault`, where a first part of the text was written.
 #![tactic(auto)]
 
+mod behind;
 mod chunks;
 mod opening;
 pub mod prepared;
+mod storing;
 mod table;
 pub mod text;
 mod writing;

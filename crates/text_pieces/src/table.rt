@@ -1,8 +1,9 @@
 //! Pieces under the numbers of their statements, in chunks.
 
-ghost use Rattle.std.specs.Prelude.{◌≡◌, ◌<◌, ◌≤◌, ◌+◌, MatchOption, length, map, take};
+ghost use Rattle.std.specs.Prelude.{◌≡◌, ◌<◌, ◌≤◌, ◌+◌, MatchOption, length, map, slice_get, take};
 ghost use Rattle.design_model.specs.declared.TheConstants.{MAX_TEXT};
-ghost use Rattle.text_pieces.specs.Chunks.{IsAbsent, all_ids, first_id, id_after, id_before};
+ghost use Rattle.text_pieces.specs.Behind.{ids_from};
+ghost use Rattle.text_pieces.specs.Chunks.{IsAbsent, all_ids, first_id, id_after, id_before, ids_at};
 ghost use Rattle.text_pieces.specs.Tables.{AreHome, IsTable, Stands, StandsAt, ids_of, kept, kept_at, piece_at, start_in, table_of, weight};
 
 use crate::chunks::{Chunk, first_from, last_before, place_in};
@@ -119,6 +120,24 @@ impl<A: Allocator> PieceTable<A> {
                 return self.at_in(&chunk.ids, k, start, pos);
             }
             start = end;
+        }
+        None
+    }
+
+    /// The statement from a place of a chunk on before which so many others stand there.
+    pub(crate) fn id_from(&self, chunk: usize, place: usize, count: usize) -> Option<StmtId>
+        requires { place ≤ length (ids_at (table_of self.now).chunks chunk) }
+        ensures { result ≡ slice_get (ids_from (table_of self.now).chunks chunk place) count }
+    {
+        let mut place = place;
+        let mut left = count;
+        for k in chunk..self.chunks.len() {
+            let ids = self.chunks[k].ids.as_slice();
+            if left < ids.len() - place {
+                return Some(ids[place + left]);
+            }
+            left -= ids.len() - place;
+            place = 0;
         }
         None
     }
