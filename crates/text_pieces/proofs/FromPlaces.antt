@@ -29,7 +29,7 @@ found_from cs k i n ids d is low =
     ap (λ (l : List StmtId). slice_get (drop i l ++ more) n) (sym is) ∙ get_front (drop i ids) more n below ∙ slice_get-get_or (drop i ids) n d below ∙ ap (λ (y : StmtId). Some y) (get_or-drop i ids n d)
 
 -- the numbers from a chunk on, where there is one
-later_from : (cs : List Numbers) (k : ℕ) → all_ids (drop k cs) ≡ ids_from cs k 0
+pub later_from : (cs : List Numbers) (k : ℕ) → all_ids (drop k cs) ≡ ids_from cs k 0
 later_from cs k = ⊎_elim (λ below. chunks_from cs k below)
     (λ past.
     let none : drop k cs ≡ [] = drop_all k cs past in

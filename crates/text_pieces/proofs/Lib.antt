@@ -7,6 +7,7 @@ mod Going
 mod Ids
 mod JoinedPieces
 mod Neighbours
+mod NewLists
 mod Opened
 mod PlacedPieces
 mod ReadPieces
@@ -14,6 +15,7 @@ mod Replaced
 mod Shown
 mod Slots
 mod StoredPieces
+mod TouchedPieces
 mod Turning
 mod Weights
 mod WritingSteps

@@ -50,7 +50,7 @@ module _ (old new : List (Option Kept)) (stays : StaysKept old new) where
       ∙ ap₂ (λ (ps qs : List Kept). ps ++ qs) (ids_stay k c.ids h.0) (all_stay (suc k) cs h.2)
       ∙ sym (map-append (kept_at old) c.ids (all_ids cs))
 
-home_append : (slots : List (Option Kept)) (k : ℕ) (xs ys : List StmtId) → AreHome slots k xs → AreHome slots k ys → AreHome slots k (xs ++ ys)
+pub home_append : (slots : List (Option Kept)) (k : ℕ) (xs ys : List StmtId) → AreHome slots k xs → AreHome slots k ys → AreHome slots k (xs ++ ys)
 home_append slots k [] ys h i = i
 home_append slots k (x ∷ xs) ys h i = (h.0, h.1, home_append slots k xs ys h.2 i)
 

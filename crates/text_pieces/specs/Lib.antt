@@ -2,8 +2,10 @@ pub mod Behind
 pub mod Changes
 pub mod Chunks
 pub mod Content
+pub mod Lists
 pub mod Opening
 pub mod Statements
 pub mod Storing
 pub mod Tables
+pub mod Touched
 pub mod Writing

@@ -16,6 +16,7 @@
 
 mod behind;
 mod chunks;
+mod lists;
 mod opening;
 pub mod prepared;
 mod storing;
