@@ -11,12 +11,8 @@ use Rattle.piece_laws.proofs.Chaining.{piece_leads}
 use Rattle.rereading.specs.Segments.{OldBytes}
 use Rattle.text_pieces.specs.Behind.{old_bytes, segments}
 use Rattle.text_pieces.specs.Content.{bytes_of}
+use Rattle.text_pieces.specs.Stretches.{IsChain}
 use Rattle.text_pieces.specs.Tables.{Kept}
-
-pub record IsChain (m : Mode) (ks : List Kept) (last : Mode) : Type 0 where
-  pub recs : List Record
-  pub chained : AreChained def m (bytes_of ks) recs last
-  pub modes : map (λ k. k.mode) ks ≡ modes_from def m recs
 
 chain_more : (m after last : Mode) (k : Kept) (ks : List Kept) (r : Record) → IsPiece def m k.bytes r after → k.mode ≡ m → IsChain after ks last → IsChain m (k ∷ ks) last
 chain_more m after last k ks r piece mode c = record {

@@ -1,5 +1,5 @@
 -- Statements that are read again take the place of others.
-use Rattle.std.proofs.Common.{◌≡◌, ◌≤◌, ℕ, zero, suc, List, [], ◌∷◌, ◌++◌, length, map, take, drop, Option, Some, None, refl, sym, ap, ◌∙◌, subst, append_assoc, append-nil, arith}
+use Rattle.std.proofs.Common.{◌≡◌, ◌<◌, ◌≤◌, ℕ, zero, suc, List, [], ◌∷◌, ◌++◌, length, map, take, drop, Option, Some, None, refl, sym, ap, ◌∙◌, subst, append_assoc, append-nil, arith}
 use Rattle.std.specs.List.{concat, slice_get}
 use Rattle.std.proofs.lemmas.List.{drop_all, map-append, take-append-drop, take_all}
 use Rattle.std.proofs.lemmas.List.Folds.{concat-append}
@@ -8,7 +8,7 @@ use Rattle.design_model.specs.declared.mode.Mode.TheVariants.{Top, After}
 use Rattle.lefdef_tokens.specs.Laws.{BeginsApart}
 use Rattle.def_grammar.specs.Records.{def}
 use Rattle.piece_laws.specs.PieceLaws.{TailsMayEnd}
-use Rattle.piece_laws.specs.Pieces.{AreApart, IsTail}
+use Rattle.piece_laws.specs.Pieces.{AreApart, AreChained, IsTail}
 use Rattle.rereading.specs.Rereading.{IsReread, new_bytes, new_modes}
 use Rattle.rereading.specs.Segments.{OldBytes}
 use Rattle.rereading.specs.Segments as behind_edit
@@ -17,11 +17,12 @@ use Rattle.rereading.specs.declared.pieces.Reread.{Reread}
 use Rattle.text_pieces.specs.Behind.{segments}
 use Rattle.text_pieces.specs.Content.{bytes_of}
 use Rattle.text_pieces.specs.Storing.{news_of}
+use Rattle.text_pieces.specs.Stretches.{EndsText, IsChain}
 use Rattle.text_pieces.specs.Tables.{Kept}
-use Rattle.text_pieces.proofs.Chains.{IsChain, apart_join, chain_join, goes_on}
+use Rattle.text_pieces.proofs.Chains.{apart_join, chain_join, goes_on}
 use Rattle.text_pieces.proofs.Opened.{after_is}
 
-bytes_new : (A : Type 0) (chunk : ℕ) (ps : List (NewPiece A)) → bytes_of (news_of chunk ps) ≡ new_bytes ps
+pub bytes_new : (A : Type 0) (chunk : ℕ) (ps : List (NewPiece A)) → bytes_of (news_of chunk ps) ≡ new_bytes ps
 bytes_new A chunk [] = refl
 bytes_new A chunk (p ∷ ps) = ap (λ (l : List (List ℕ)). p.bytes.items ∷ l) (bytes_new A chunk ps)
 
@@ -29,11 +30,11 @@ modes_new : (A : Type 0) (chunk : ℕ) (ps : List (NewPiece A)) → map (λ k. k
 modes_new A chunk [] = refl
 modes_new A chunk (p ∷ ps) = ap (λ (l : List Mode). p.mode ∷ l) (modes_new A chunk ps)
 
-segment_bytes : (ks : List Kept) (tail : List ℕ) → behind_edit.bytes_of (segments ks tail) ≡ concat (bytes_of ks) ++ tail
+pub segment_bytes : (ks : List Kept) (tail : List ℕ) → behind_edit.bytes_of (segments ks tail) ≡ concat (bytes_of ks) ++ tail
 segment_bytes [] tail = append-nil tail
 segment_bytes (k ∷ ks) tail = ap (λ (l : List ℕ). k.bytes ++ l) (segment_bytes ks tail) ∙ sym (append_assoc k.bytes (concat (bytes_of ks)) tail)
 
-segments_from : (ks : List Kept) (tail : List ℕ) (n : ℕ) → n ≤ length ks → drop n (segments ks tail) ≡ segments (drop n ks) tail
+pub segments_from : (ks : List Kept) (tail : List ℕ) (n : ℕ) → n ≤ length ks → drop n (segments ks tail) ≡ segments (drop n ks) tail
 segments_from ks tail zero low = refl
 segments_from [] tail (suc n) low = absurd (omega (arith, low))
 segments_from (k ∷ ks) tail (suc n) low = segments_from ks tail n (omega (arith, low))
@@ -43,13 +44,13 @@ segments_up_to ks tail zero low = refl
 segments_up_to [] tail (suc n) low = absurd (omega (arith, low))
 segments_up_to (k ∷ ks) tail (suc n) low = ap (λ (l : List ℕ). k.bytes ++ l) (segments_up_to ks tail n (omega (arith, low)))
 
-parts_joined : (ks : List Kept) (n : ℕ) → concat (bytes_of ks) ≡ concat (bytes_of (take n ks)) ++ concat (bytes_of (drop n ks))
+pub parts_joined : (ks : List Kept) (n : ℕ) → concat (bytes_of ks) ≡ concat (bytes_of (take n ks)) ++ concat (bytes_of (drop n ks))
 parts_joined ks n =
     ap (λ (l : List Kept). concat (bytes_of l)) (sym (take-append-drop n ks))
     ∙ ap concat (map-append (λ (k : Kept). k.bytes) (take n ks) (drop n ks))
     ∙ concat-append (bytes_of (take n ks)) (bytes_of (drop n ks))
 
-apart_from : (ks : List Kept) (n : ℕ) (t : List ℕ) → AreApart (bytes_of ks) t → AreApart (bytes_of (drop n ks)) t
+pub apart_from : (ks : List Kept) (n : ℕ) (t : List ℕ) → AreApart (bytes_of ks) t → AreApart (bytes_of (drop n ks)) t
 apart_from ks zero t h = h
 apart_from [] (suc n) t h = tt
 apart_from (k ∷ ks) (suc n) t h = apart_from ks n t h.1
@@ -58,21 +59,15 @@ begins_other : (front rest other : List ℕ) → BeginsApart (front ++ rest) →
 begins_other [] rest other h k = k
 begins_other (b ∷ bs) rest other h k = h
 
--- pieces stand apart from what comes after them, whatever it is, if it begins apart
-apart_other : (ps : List (List ℕ)) (rest other : List ℕ) → AreApart ps rest → BeginsApart other → AreApart ps other
+-- pieces stand apart from what comes after them, whatever it is, if it begins apart or there are none
+pub apart_other : (ps : List (List ℕ)) (rest other : List ℕ) → AreApart ps rest → (0 < length ps → BeginsApart other) → AreApart ps other
 apart_other [] rest other h k = tt
-apart_other (p ∷ ps) rest other h k = (begins_other (concat ps) rest other h.0 k, apart_other ps rest other h.1 k)
+apart_other (p ∷ ps) rest other h k = let begins = k (omega arith) in (begins_other (concat ps) rest other h.0 begins, apart_other ps rest other h.1 (λ u. begins))
 
--- pieces from a mode on, and what is behind the last, where a text ends
-pub record EndsText (m : Mode) (ks : List Kept) (tail : List ℕ) : Type 0 where
-  pub chain : IsChain m ks After
-  pub apart : AreApart (bytes_of ks) tail
-  pub ends : IsTail def After tail
-
--- what is behind the last statement: all of it was read again, or nothing
-abbrev pub tail_after : {A : Type 0} → Reread A → List Kept → List ℕ → Option OldBytes → List ℕ
-tail_after x behind tail None = x.rest.items
-tail_after x behind tail (Some s) = tail
+none_left : (ss : List OldBytes) (n : ℕ) → slice_get ss n ≡ None → length ss ≤ n
+none_left [] n e = omega arith
+none_left (s ∷ ss) zero e = absurd (cc)
+none_left (s ∷ ss) (suc n) e = omega (arith, none_left ss n e)
 
 module _ (A : Type 0) (chunk : ℕ) (mid : Mode) (raw : List ℕ) (behind : List Kept) (tail : List ℕ) (x : Reread A) (is : IsReread mid raw (segments behind tail) x) where
   news : List Kept
@@ -85,7 +80,7 @@ module _ (A : Type 0) (chunk : ℕ) (mid : Mode) (raw : List ℕ) (behind : List
     modes = modes_new A chunk x.pieces.items ∙ is.modes;
   }
 
-  abbrev Later : List Kept → List ℕ → Type 0
+  abbrev pub Later : List Kept → List ℕ → Type 0
   Later ks t = EndsText mid (news_of chunk x.pieces.items ++ ks) t × (concat (bytes_of (news_of chunk x.pieces.items ++ ks)) ++ t ≡ raw ++ (concat (bytes_of behind) ++ tail))
 
   joined_new : (ks : List Kept) (t : List ℕ) → concat (bytes_of (news_of chunk x.pieces.items ++ ks)) ++ t ≡ concat (new_bytes x.pieces.items) ++ (concat (bytes_of ks) ++ t)
@@ -101,7 +96,7 @@ module _ (A : Type 0) (chunk : ℕ) (mid : Mode) (raw : List ℕ) (behind : List
       (apart_join (new_bytes x.pieces.items) (bytes_of ks) t h k)
 
   -- an old statement goes on, or what is behind them all
-  landed : EndsText After [] tail → (m : Mode) → IsChain m behind After → AreApart (bytes_of behind) tail → x.used ≤ length behind → (s : OldBytes) → slice_get (segments behind tail) x.used ≡ Some s
+  pub landed : EndsText After [] tail → (m : Mode) → IsChain m behind After → AreApart (bytes_of behind) tail → x.used ≤ length behind → (s : OldBytes) → slice_get (segments behind tail) x.used ≡ Some s
       → Later (drop x.used behind) tail
   landed end m old apart low s at =
       let lands = rw at at is.lands in
@@ -127,29 +122,28 @@ module _ (A : Type 0) (chunk : ℕ) (mid : Mode) (raw : List ℕ) (behind : List
             ∙ ap (λ (u : List ℕ). raw ++ u) (sym (append_assoc (concat (bytes_of (take x.used behind))) (concat (bytes_of left)) tail) ∙ ap (λ (u : List ℕ). u ++ tail) (sym (parts_joined behind x.used))),
       )
 
-  all_segments : take x.used (segments behind tail) ≡ segments behind tail → behind_edit.bytes_of (take x.used (segments behind tail)) ≡ concat (bytes_of behind) ++ tail
-  all_segments all = ap behind_edit.bytes_of all ∙ segment_bytes behind tail
-
-  -- all is read
-  read_out : TailsMayEnd def → length (segments behind tail) ≤ x.used → slice_get (segments behind tail) x.used ≡ None → Later [] x.rest.items
-  read_out may_end past at =
+-- all is read
+module _ (A : Type 0) (chunk : ℕ) (mid : Mode) (raw : List ℕ) (ss : List OldBytes) (x : Reread A) (is : IsReread mid raw ss x) where
+  pub read_out : TailsMayEnd def → slice_get ss x.used ≡ None → EndsText mid (news_of chunk x.pieces.items) x.rest.items × (concat (bytes_of (news_of chunk x.pieces.items)) ++ x.rest.items ≡ raw ++ behind_edit.bytes_of ss)
+  read_out may_end at =
+      let past = none_left ss x.used at in
       let tail_is : IsTail def x.mode x.rest.items = rw at at is.lands in
       let last : x.mode ≡ After = after_is x.mode (may_end x.mode x.rest.items tail_is) in
-      let none : drop x.used (segments behind tail) ≡ [] = drop_all x.used (segments behind tail) past in
-      let later : x.rest.items ++ behind_edit.bytes_of (drop x.used (segments behind tail)) ≡ concat (bytes_of []) ++ x.rest.items =
-      ap (λ (ss : List OldBytes). x.rest.items ++ behind_edit.bytes_of ss) none ∙ append-nil x.rest.items in (
+      let bytes = bytes_new A chunk x.pieces.items in
+      let later : x.rest.items ++ behind_edit.bytes_of (drop x.used ss) ≡ x.rest.items =
+      ap (λ (l : List OldBytes). x.rest.items ++ behind_edit.bytes_of l) (drop_all x.used ss past) ∙ append-nil x.rest.items in (
         record {
-          chain = chain_join mid x.mode After (news_of chunk x.pieces.items) [] new_chain (record { recs = []; chained = last; modes = refl });
-          apart = apart_new [] x.rest.items (subst (AreApart (new_bytes x.pieces.items)) later is.apart) tt;
+          chain = record { recs = is.recs; chained = rw bytes (subst (λ (n : Mode). AreChained def mid (new_bytes x.pieces.items) is.recs n) last is.chained); modes = modes_new A chunk x.pieces.items ∙ is.modes };
+          apart = rw bytes (subst (AreApart (new_bytes x.pieces.items)) later is.apart);
           ends = subst (λ (n : Mode). IsTail def n x.rest.items) last tail_is;
         },
-        joined_new [] x.rest.items ∙ is.whole ∙ ap (λ (u : List ℕ). raw ++ u) (all_segments (take_all x.used (segments behind tail) past)),
+        ap (λ (l : List (List ℕ)). concat l ++ x.rest.items) bytes ∙ is.whole ∙ ap (λ (l : List OldBytes). raw ++ behind_edit.bytes_of l) (take_all x.used ss past),
       )
 
 -- statements in front of an edit stay
-pub front_stays : (front later : List Kept) (mid : Mode) (tail was : List ℕ) → IsChain Top front mid → AreApart (bytes_of front) was → BeginsApart (concat (bytes_of later) ++ tail) → EndsText mid later tail → EndsText Top (front ++ later) tail
-front_stays front later mid tail was chain apart begins ends = record {
+pub front_stays : (front later : List Kept) (mid : Mode) (tail : List ℕ) → IsChain Top front mid → AreApart (bytes_of front) (concat (bytes_of later) ++ tail) → EndsText mid later tail → EndsText Top (front ++ later) tail
+front_stays front later mid tail chain apart ends = record {
   chain = chain_join Top mid After front later chain ends.chain;
-  apart = subst (λ (l : List (List ℕ)). AreApart l tail) (sym (map-append (λ (q : Kept). q.bytes) front later)) (apart_join (bytes_of front) (bytes_of later) tail (apart_other (bytes_of front) was (concat (bytes_of later) ++ tail) apart begins) ends.apart);
+  apart = subst (λ (l : List (List ℕ)). AreApart l tail) (sym (map-append (λ (q : Kept). q.bytes) front later)) (apart_join (bytes_of front) (bytes_of later) tail apart ends.apart);
   ends = ends.ends;
 }

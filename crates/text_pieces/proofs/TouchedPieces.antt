@@ -1,11 +1,35 @@
 -- Pieces that an edit touches.
-use Rattle.std.proofs.Common.{◌≡◌, ◌<◌, ◌≤◌, ◌+◌, ℕ, zero, suc, List, [], ◌∷◌, ◌++◌, length, get_or, map, take, drop, Option, refl, sym, ap, ◌∙◌, subst, arith, length-append}
-use Rattle.std.proofs.lemmas.List.{length-take, take_more}
+use Rattle.std.proofs.Common.{◌≡◌, ◌<◌, ◌≤◌, ◌+◌, ℕ, zero, suc, List, [], ◌∷◌, ◌++◌, length, get_or, map, take, drop, Option, Some, refl, sym, ap, ◌∙◌, subst, arith, length-append}
+use Rattle.std.specs.List.{concat, slice_get}
+use Rattle.std.proofs.lemmas.List.{append-nil, length-take, map-append, take_more}
+use Rattle.std.proofs.lemmas.List.Folds.{concat-append}
+use Rattle.std.proofs.lemmas.Option.{get_or_from_slice_get, slice_get_past, slice_get_within}
 use Rattle.design_model.specs.declared.identifier.StmtId.{StmtId}
+use Rattle.rereading.specs.Segments.{OldBytes}
+use Rattle.rereading.specs.Segments as behind_edit
 use Rattle.text_pieces.specs.Chunks.{Numbers, all_ids, ids_at}
 use Rattle.text_pieces.specs.Tables.{Kept, Table, ids_before, kept_at, weight}
 use Rattle.text_pieces.specs.Touched.{BeginsAt}
 use Rattle.text_pieces.proofs.Weights.{weight_append, weight_within}
+
+-- one segment more
+pub segment_more : (ss : List OldBytes) (n : ℕ) (s : OldBytes) → slice_get ss n ≡ Some s → (n < length ss) × (behind_edit.bytes_of (take (n + 1) ss) ≡ behind_edit.bytes_of (take n ss) ++ s.bytes)
+segment_more ss n s at =
+    let below = slice_get_within ss n s at in
+    let own : get_or ss n s ≡ s = get_or_from_slice_get ss n s s at in
+    (
+      below,
+      ap behind_edit.bytes_of (take_more ss n s below)
+          ∙ ap concat (map-append (λ (o : OldBytes). o.bytes) (take n ss) (get_or ss n s ∷ []))
+          ∙ concat-append (map (λ (o : OldBytes). o.bytes) (take n ss)) ((get_or ss n s).bytes ∷ [])
+          ∙ ap (λ (l : List ℕ). behind_edit.bytes_of (take n ss) ++ l) (append-nil (get_or ss n s).bytes ∙ ap (λ (o : OldBytes). o.bytes) own),
+    )
+
+-- segments from one on
+pub segment_from : (ss : List OldBytes) (p k : ℕ) → slice_get (drop p ss) k ≡ slice_get ss (p + k)
+segment_from ss zero k = ap (slice_get ss) (omega arith)
+segment_from [] (suc p) k = slice_get_past [] k (omega arith) ∙ sym (slice_get_past [] (suc p + k) (omega arith))
+segment_from (s ∷ ss) (suc p) k = segment_from ss p k ∙ ap (slice_get (s ∷ ss)) (let e : suc (p + k) ≡ suc p + k = omega arith in e)
 
 module _ (slots : List (Option Kept)) where
   -- one piece more

@@ -6,6 +6,7 @@ pub mod Lists
 pub mod Opening
 pub mod Statements
 pub mod Storing
+pub mod Stretches
 pub mod Tables
 pub mod Touched
 pub mod Writing

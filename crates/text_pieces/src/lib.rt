@@ -20,6 +20,7 @@ mod lists;
 mod opening;
 pub mod prepared;
 mod storing;
+mod stretch;
 mod table;
 pub mod text;
 mod writing;
