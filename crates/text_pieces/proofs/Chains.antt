@@ -45,7 +45,7 @@ parted_by m last k ks (r ∷ rs) chain modes =
 pub parted : (m last : Mode) (k : Kept) (ks : List Kept) → IsChain m (k ∷ ks) last → Parted m k ks last
 parted m last k ks c = parted_by m last k ks c.recs c.chained c.modes
 
-none_chained : (m last : Mode) (recs : List Record) → AreChained def m [] recs last → m ≡ last
+pub none_chained : (m last : Mode) (recs : List Record) → AreChained def m [] recs last → m ≡ last
 none_chained m last [] chain = chain
 none_chained m last (r ∷ rs) chain = absurd chain
 

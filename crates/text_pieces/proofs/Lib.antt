@@ -3,6 +3,7 @@ mod Exchanges
 mod FaultsBehind
 mod Found
 mod FromPlaces
+mod FullPieces
 mod Going
 mod Ids
 mod JoinedPieces
@@ -15,6 +16,7 @@ mod Replaced
 mod Shown
 mod Slots
 mod StoredPieces
+mod Stretching
 mod TouchedPieces
 mod Turning
 mod Weights
