@@ -64,7 +64,7 @@ pub apart_other : (ps : List (List ℕ)) (rest other : List ℕ) → AreApart ps
 apart_other [] rest other h k = tt
 apart_other (p ∷ ps) rest other h k = let begins = k (omega arith) in (begins_other (concat ps) rest other h.0 begins, apart_other ps rest other h.1 (λ u. begins))
 
-none_left : (ss : List OldBytes) (n : ℕ) → slice_get ss n ≡ None → length ss ≤ n
+pub none_left : (ss : List OldBytes) (n : ℕ) → slice_get ss n ≡ None → length ss ≤ n
 none_left [] n e = omega arith
 none_left (s ∷ ss) zero e = absurd (cc)
 none_left (s ∷ ss) (suc n) e = omega (arith, none_left ss n e)

@@ -1,7 +1,7 @@
 -- A stretch of a text in pieces that is read again.
 use Rattle.std.proofs.Common.{◌≡◌, ◌<◌, ◌≤◌, ◌+◌, ◌-◌, ℕ, zero, suc, List, [], ◌∷◌, ◌++◌, length, map, take, drop, Option, Some, None, Err, refl, sym, ap, ap₂, ◌∙◌, subst, append_assoc, append-nil, arith, length-append, slice_range}
 use Rattle.std.specs.List.{concat, slice_get}
-use Rattle.std.proofs.lemmas.List.{drop_all, drop_at, drop-append-le, drop-drop, length-drop, length-map, length-take, map-append, take_at, take-append-drop, take-append-le}
+use Rattle.std.proofs.lemmas.List.{drop_all, drop_at, drop-append-le, drop-drop, drop-map, length-drop, length-map, length-take, map-append, take_at, take-append-drop, take-append-le}
 use Rattle.std.proofs.lemmas.List.Folds.{concat-append}
 use Rattle.std.proofs.lemmas.Option.{slice_get_within}
 use Rattle.design_model.specs.declared.TheConstants.{MAX_TEXT}
@@ -20,7 +20,7 @@ use Rattle.rereading.specs.Rereading.{IsReread, all_bytes}
 use Rattle.rereading.specs.Segments.{OldBytes, AreFull, BeginApart, mode_at}
 use Rattle.rereading.specs.Segments as behind_edit
 use Rattle.rereading.specs.declared.pieces.Reread.{Reread}
-use Rattle.text_pieces.specs.Behind.{ids_from, kept_from, segments}
+use Rattle.text_pieces.specs.Behind.{ids_from, kept_from, old_bytes, segments}
 use Rattle.text_pieces.specs.Chunks.{Numbers, all_ids, ids_at}
 use Rattle.text_pieces.specs.Content.{Content, IsText, bytes_of, read_keyless, text_of}
 use Rattle.text_pieces.specs.Lists.{ids_left}
@@ -35,7 +35,7 @@ use Rattle.text_pieces.proofs.FromPlaces.{segment_past}
 use Rattle.text_pieces.proofs.FullPieces.{are_full, begin_from, chain_full, full_from, mode_first}
 use Rattle.text_pieces.proofs.Ids.{cut_at, ids_from as chunks_from}
 use Rattle.text_pieces.proofs.Opened.{read_is, weight_is}
-use Rattle.text_pieces.proofs.Replaced.{apart_from, apart_other, front_stays, landed, read_out, segment_bytes, segments_from}
+use Rattle.text_pieces.proofs.Replaced.{apart_from, apart_other, front_stays, landed, none_left, read_out, segment_bytes, segments_from}
 
 -- all numbers are those before a place, and those from it on
 pub split_at : (cs : List Numbers) (k i : ℕ) → k < length cs → all_ids cs ≡ ids_before cs k i ++ ids_from cs k i
@@ -86,6 +86,9 @@ joined_segments n ss =
     ap behind_edit.bytes_of (sym (take-append-drop n ss))
     ∙ ap concat (map-append (λ (s : OldBytes). s.bytes) (take n ss) (drop n ss))
     ∙ concat-append (map (λ (s : OldBytes). s.bytes) (take n ss)) (map (λ (s : OldBytes). s.bytes) (drop n ss))
+
+chain_from : (m last : Mode) (ks : List Kept) (n : ℕ) → IsChain m ks last → (mid : Mode) × IsChain mid (drop n ks) last
+chain_from m last ks n c = let parts = chain_part m last (take n ks) (drop n ks) (subst (λ (l : List Kept). IsChain m l last) (sym (take-append-drop n ks)) c) in (parts.0, parts.2)
 
 -- where a text is parted
 module _ (c : Content) (t : IsText c) (k i : ℕ) (below : k < length c.table.chunks) where
@@ -172,7 +175,7 @@ module _ (c : Content) (t : IsText c) (lo hi : ℕ) (put : List ℕ) (p : Place)
       low_of (suc n) e = omega (arith, b.low (omega (arith, e)))
 
   pub some_segments : 0 < length L
-  some_segments = omega (arith, length-append (map Rattle.text_pieces.specs.Behind.old_bytes K) (record { bytes = c.tail; mode = Some After } ∷ []))
+  some_segments = omega (arith, length-append (map old_bytes K) (record { bytes = c.tail; mode = Some After } ∷ []))
 
   module _ (old : List ℕ) (n : ℕ) (touched : AreTouched L (hi - p.start) old n) where
     abbrev D : List ℕ
@@ -215,3 +218,61 @@ module _ (c : Content) (t : IsText c) (lo hi : ℕ) (put : List ℕ) (p : Place)
         let chain = (chains c t p.chunk p.index b.within).1 in
         let there = fault_behind moves reads mid (bytes_of F) chain.recs (raw ++ D) f chain.chained apart h in
         (there.0, read_is (cut_text c the_cut) fits ∙ ap (λ (l : List ℕ). read_from (keyless def) (Top, []) (tokens l)) (sym cut_is) ∙ there.1)
+
+    module _ (A : Type 0) (x : Reread A) (is : IsReread mid raw (drop n L) x) where
+      abbrev out : ℕ
+      out = n + x.used
+
+      abbrev news : List Kept
+      news = news_of p.chunk x.pieces.items
+
+      abbrev left : List Kept
+      left = map (kept_at c.table.slots) (ids_left c.table.chunks p.chunk p.index (n + x.used))
+
+      abbrev pub Follows : List ℕ → Type 0
+      Follows tail = EndsText mid (news ++ left) tail × (concat (bytes_of (news ++ left)) ++ tail ≡ raw ++ D)
+
+      long_is : length L ≡ length K + 1
+      long_is = omega (arith, length-append (map old_bytes K) (record { bytes = c.tail; mode = Some After } ∷ []), length-map K old_bytes)
+
+      left_is : left ≡ drop (n + x.used) K
+      left_is = sym (drop-map (kept_at c.table.slots) (n + x.used) (ids_from c.table.chunks p.chunk p.index))
+
+      -- an old statement goes on
+      pub lands : (s : OldBytes) → slice_get (drop n L) x.used ≡ Some s → Follows c.tail
+      lands s at =
+          let inside : x.used < length (drop n L) = slice_get_within (drop n L) x.used s at in
+          let low : n ≤ length K = omega (arith, inside, long_is, length-drop n L) in
+          let same : drop n L ≡ segments (drop n K) c.tail = segments_from K c.tail n low in
+          let here = subst (λ (ss : List OldBytes). IsReread mid raw ss x) same is in
+          let chain = chain_from mid After K n (chains c t p.chunk p.index b.within).2 in
+          let end : EndsText After [] c.tail = record { chain = record { recs = []; chained = refl; modes = refl }; apart = tt; ends = t.ends } in
+          let few : x.used ≤ length (drop n K) = omega (arith, inside, long_is, length-drop n L, length-drop n K) in
+          let found = landed A p.chunk mid raw (drop n K) c.tail x here end chain.0 chain.1 (apart_from K n c.tail (back_apart c t p.chunk p.index b.within)) few s (ap (λ (ss : List OldBytes). slice_get ss x.used) (sym same) ∙ at) in
+          let lefts : drop x.used (drop n K) ≡ left = drop-drop x.used n K ∙ sym left_is in
+          let rest : concat (bytes_of (drop n K)) ++ c.tail ≡ D = sym (ap behind_edit.bytes_of same ∙ segment_bytes (drop n K) c.tail) in
+          subst (λ (ks : List Kept). EndsText mid (news ++ ks) c.tail × (concat (bytes_of (news ++ ks)) ++ c.tail ≡ raw ++ D)) lefts (found.0, found.1 ∙ ap (λ (l : List ℕ). raw ++ l) rest)
+
+      -- all is read
+      pub finishes : TailsMayEnd def → slice_get (drop n L) x.used ≡ None → Follows x.rest.items
+      finishes may_end at =
+          let past = none_left (drop n L) x.used at in
+          let none : left ≡ [] = left_is ∙ drop_all (n + x.used) K (omega (arith, past, long_is, length-drop n L)) in
+          let found = read_out A p.chunk mid raw (drop n L) x is may_end at in
+          subst (λ (ks : List Kept). EndsText mid ks x.rest.items × (concat (bytes_of ks) ++ x.rest.items ≡ raw ++ D)) (sym (ap (λ (ks : List Kept). news ++ ks) none ∙ append-nil news)) found
+
+      pub accepted : (tail : List ℕ) → Follows tail → EndsText Top (F ++ (news ++ left)) tail × (concat (bytes_of (F ++ (news ++ left))) ++ tail ≡ cut_text c the_cut)
+      accepted tail e = (
+        front_stays F (news ++ left) mid tail (chains c t p.chunk p.index b.within).1 (subst (AreApart (bytes_of F)) (sym e.1) apart) e.0,
+        ap (λ (l : List (List ℕ)). concat l ++ tail) (map-append (λ (q : Kept). q.bytes) F (news ++ left))
+            ∙ ap (λ (l : List ℕ). l ++ tail) (concat-append (bytes_of F) (bytes_of (news ++ left)))
+            ∙ append_assoc (concat (bytes_of F)) (concat (bytes_of (news ++ left))) tail
+            ∙ ap (λ (l : List ℕ). concat (bytes_of F) ++ l) e.1
+            ∙ cut_is,
+      )
+
+-- how many bytes the text with a cut has
+pub cut_long : (c : Content) (cut : Cut) → cut.lo ≤ cut.hi → cut.hi ≤ length (text_of c) → length (cut_text c cut) ≡ (length (text_of c) - (cut.hi - cut.lo)) + length cut.put
+cut_long c cut order within =
+    let text = text_of c in
+    omega (arith, order, within, length-append (slice_range text 0 cut.lo) (cut.put ++ drop cut.hi text), length-append cut.put (drop cut.hi text), length-drop cut.hi text, length-take (cut.lo - 0) text)

@@ -13,6 +13,7 @@ use std::alloc::{Allocator, Global};
 use std::marker::Model;
 
 /// The statements from a place of a chunk on, and what stands behind the last of them.
+#[derive(Drop)]
 pub(crate) struct Behind<'t, A: Allocator = Global> {
     table: &'t PieceTable<A>,
     tail: &'t [u8],

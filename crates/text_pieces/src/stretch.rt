@@ -1,6 +1,6 @@
 //! Reading a stretch of a text in pieces again.
 
-ghost use Rattle.std.specs.Prelude.{◌≡◌, ◌≤◌, ◌++◌, IfOk, Some, drop, length, take};
+ghost use Rattle.std.specs.Prelude.{◌≡◌, ◌≤◌, ◌++◌, IfOk, MatchOption, Some, drop, length, slice_get, take};
 ghost use Rattle.design_model.specs.declared.mode.Mode.{Mode as ModeValue};
 ghost use Rattle.rereading.specs.Segments.{mode_at};
 ghost use Rattle.text_pieces.specs.Touched.{AreTouched};
@@ -73,4 +73,20 @@ pub(crate) fn first_mode<S: Segments>(segments: &S) -> Mode
         return Mode::Top;
     };
     mode
+}
+
+/// What is to stand behind the last piece after rereading: what stood there, where an old statement goes on, or what was left.
+pub(crate) fn tail_after<S: Segments, A: Allocator + Copy>(
+    alloc: A,
+    segments: &S,
+    used: usize,
+    rest: Vec<u8, A>,
+    tail: &[u8],
+) -> Result<Vec<u8, A>, AllocError>
+    ensures { IfOk result (λ v. MatchOption (slice_get (S.listed segments.now) used) (v.items ≡ rest.items) (λ _. v.items ≡ tail.now)) }
+{
+    match segments.segment(used) {
+        Some(_) => Vec::from_slice(alloc, tail),
+        None => Ok(rest),
+    }
 }

@@ -9,11 +9,14 @@ ghost use Rattle.text_pieces.specs.Chunks.{AreOnce, first_id, id_after, id_befor
 ghost use Rattle.text_pieces.specs.Changes.{IsBetween};
 ghost use Rattle.text_pieces.specs.Content.{Content, Opens, read_keyless, text_of};
 ghost use Rattle.text_pieces.specs.Statements.{bytes_in, lead, lent_bytes, look_up, modes_by_number, number_at, spans_by_number, statements_of};
+ghost use Rattle.text_pieces.specs.Stretches.{ReadsStretch, cut_text};
 ghost use Rattle.text_pieces.specs.Tables.{ids_of};
 
+use crate::behind::Behind;
 use crate::chunks::exchange;
 use crate::opening::read_chunk;
 use crate::prepared::PreparedText;
+use crate::stretch::{Stretch, first_mode, spliced, tail_after, touched};
 use crate::table::PieceTable;
 use crate::writing::write_pieces;
 use counted_devices::counted::CountedWrite;
@@ -22,8 +25,9 @@ use design_model::MAX_TEXT;
 use design_model::fault::{Fault, FaultCode, ReadError};
 use design_model::identifier::StmtId;
 use design_model::mode::Mode;
-use lefdef_tokens::token_at;
-use piece_laws::pieces::{tails_are_found, tails_may_end, texts_are_read};
+use lefdef_tokens::{token_at, tokens_move};
+use piece_laws::pieces::{pieces_are_read, tails_are_found, tails_may_end, texts_are_read};
+use rereading::reread::reread;
 use slab::Slab;
 use std::alloc::{Allocator, Global};
 use std::marker::Model;
@@ -117,6 +121,41 @@ impl<A: Allocator + Copy> TextPieces<A> {
     {
         let stays = self.len - (to - from);
         put <= MAX_TEXT - stays
+    }
+
+    /// Reads again what an edit touches, and as much behind it as is needed.
+    fn stretch(
+        &self,
+        alloc: A,
+        lo: usize,
+        hi: usize,
+        put: &[u8],
+    ) -> Result<Stretch<A>, ReadError>
+        requires order { lo ≤ hi }
+        requires within { hi ≤ length (text_of self.now) }
+        requires fits { length (cut_text self.now (record { lo = lo; hi = hi; put = put.now })) ≤ MAX_TEXT }
+        ensures { ReadsStretch self.now (record { lo = lo; hi = hi; put = put.now }) result }
+    {
+        pieces_are_read();
+        tails_may_end();
+        tokens_move();
+        let at = self.table.first_touched(lo);
+        let behind = Behind::from_place(&self.table, &self.tail, at.chunk, at.index);
+        let mode = first_mode(&behind);
+        let (old, passed) = touched(alloc, &behind, hi - at.start)?;
+        let raw = spliced(alloc, &old, lo - at.start, hi - at.start, put)?;
+        let later = behind.after(passed);
+        let new = reread(alloc, mode, &raw, &later)?;
+        let out = passed + new.used;
+        let tail = tail_after(alloc, &later, new.used, new.rest, &self.tail)?;
+        Ok(Stretch {
+            chunk: at.chunk,
+            index: at.index,
+            out,
+            pieces: new.pieces,
+            tail,
+            reads: new.reads,
+        })
     }
 
     /// The bytes of a statement, from its first token to its last.
