@@ -1,11 +1,14 @@
 -- A stretch of a text in pieces that is read again.
 use Rattle.std.proofs.Common.{◌≡◌, ◌<◌, ◌≤◌, ◌+◌, ◌-◌, ℕ, zero, suc, List, [], ◌∷◌, ◌++◌, length, map, take, drop, Option, Some, None, Err, refl, sym, ap, ap₂, ◌∙◌, subst, append_assoc, append-nil, arith, length-append, slice_range}
+use Rattle.std.specs.Prelude.{MatchOption}
 use Rattle.std.specs.List.{concat, slice_get}
 use Rattle.std.proofs.lemmas.List.{drop_all, drop_at, drop-append-le, drop-drop, drop-map, length-drop, length-map, length-take, map-append, take_at, take-append-drop, take-append-le}
 use Rattle.std.proofs.lemmas.List.Folds.{concat-append}
 use Rattle.std.proofs.lemmas.Option.{slice_get_within}
 use Rattle.design_model.specs.declared.TheConstants.{MAX_TEXT}
 use Rattle.design_model.specs.declared.fault.Fault as fault
+use Rattle.design_model.specs.declared.fault.ReadError.{ReadError}
+use Rattle.design_model.specs.declared.fault.ReadError.TheVariants.{Fault, Memory}
 use Rattle.design_model.specs.declared.mode.Mode.{Mode}
 use Rattle.design_model.specs.declared.mode.Mode.TheVariants.{Top, After}
 use Rattle.design_model.specs.declared.identifier.StmtId.{StmtId}
@@ -16,7 +19,7 @@ use Rattle.lefdef_tokens.specs.Laws.{BeginsApart, TokensMove}
 use Rattle.def_grammar.specs.Records.{def}
 use Rattle.piece_laws.specs.PieceLaws.{PiecesAreRead, TailsMayEnd}
 use Rattle.piece_laws.specs.Pieces.{keyless, AreApart}
-use Rattle.rereading.specs.Rereading.{IsReread, all_bytes}
+use Rattle.rereading.specs.Rereading.{IsReread, Rereads, all_bytes}
 use Rattle.rereading.specs.Segments.{OldBytes, AreFull, BeginApart, mode_at}
 use Rattle.rereading.specs.Segments as behind_edit
 use Rattle.rereading.specs.declared.pieces.Reread.{Reread}
@@ -25,7 +28,7 @@ use Rattle.text_pieces.specs.Chunks.{Numbers, all_ids, ids_at}
 use Rattle.text_pieces.specs.Content.{Content, IsText, bytes_of, read_keyless, text_of}
 use Rattle.text_pieces.specs.Lists.{ids_left}
 use Rattle.text_pieces.specs.Storing.{news_of}
-use Rattle.text_pieces.specs.Stretches.{EndsText, IsChain, cut_text}
+use Rattle.text_pieces.specs.Stretches.{EndsText, IsChain, ReadsStretch, cut_text}
 use Rattle.text_pieces.specs.Tables.{Kept, ids_before, ids_of, kept_at, standing}
 use Rattle.text_pieces.specs.Touched.{AreTouched, BeginsAt}
 use Rattle.text_pieces.specs.declared.table.Place.{Place}
@@ -148,13 +151,13 @@ some_chunks c t = some_of c.table.chunks c.table.slots (record { recs = t.recs; 
 
 -- where a cut is made
 module _ (c : Content) (t : IsText c) (lo hi : ℕ) (put : List ℕ) (p : Place) (b : BeginsAt c.table lo p) (order : lo ≤ hi) (within : hi ≤ length (text_of c)) where
-  abbrev F : List Kept
+  abbrev pub F : List Kept
   F = front c t p.chunk p.index b.within
 
-  abbrev K : List Kept
+  abbrev pub K : List Kept
   K = back c t p.chunk p.index b.within
 
-  abbrev L : List OldBytes
+  abbrev pub L : List OldBytes
   L = segments K c.tail
 
   abbrev the_cut : Cut
@@ -181,7 +184,7 @@ module _ (c : Content) (t : IsText c) (lo hi : ℕ) (put : List ℕ) (p : Place)
     abbrev D : List ℕ
     D = behind_edit.bytes_of (drop n L)
 
-    abbrev raw : List ℕ
+    abbrev pub raw : List ℕ
     raw = take (lo - p.start) old ++ (put ++ drop (hi - p.start) old)
 
     pub room : hi - p.start ≤ length old
@@ -208,7 +211,20 @@ module _ (c : Content) (t : IsText c) (lo hi : ℕ) (put : List ℕ) (p : Place)
     apart : AreApart (bytes_of F) (raw ++ D)
     apart = apart_other (bytes_of F) (behind_edit.bytes_of L) (raw ++ D) (front_apart c t p.chunk p.index b.within) begins
 
-    abbrev mid : Mode
+    -- as many segments as statements, and one
+    pub few_segments : length L ≤ MAX_TEXT + 1
+    few_segments =
+        let ids = ids_from c.table.chunks p.chunk p.index in
+        let all = ap (λ (l : List StmtId). length l) (split_at c.table.chunks p.chunk p.index b.within) in
+        omega (
+        arith, all, few_ids c t,
+        length-append (ids_before c.table.chunks p.chunk p.index) ids,
+        length-append (map old_bytes K) (record { bytes = c.tail; mode = Some After } ∷ []),
+        length-map K old_bytes,
+        length-map ids (kept_at c.table.slots),
+        )
+
+    abbrev pub mid : Mode
     mid = (chains c t p.chunk p.index b.within).0
 
     -- the fault of what is read again
@@ -218,6 +234,10 @@ module _ (c : Content) (t : IsText c) (lo hi : ℕ) (put : List ℕ) (p : Place)
         let chain = (chains c t p.chunk p.index b.within).1 in
         let there = fault_behind moves reads mid (bytes_of F) chain.recs (raw ++ D) f chain.chained apart h in
         (there.0, read_is (cut_text c the_cut) fits ∙ ap (λ (l : List ℕ). read_from (keyless def) (Top, []) (tokens l)) (sym cut_is) ∙ there.1)
+
+    pub refused : (A : Type 0) → TokensMove → PiecesAreRead def → length (cut_text c the_cut) ≤ MAX_TEXT → (e : ReadError) → Rereads {A = A} mid raw (drop n L) (Err e) → ReadsStretch {A = A} c the_cut (Err e)
+    refused A moves reads fits (Fault f) h = faulty moves reads fits f h
+    refused A moves reads fits Memory h = tt
 
     module _ (A : Type 0) (x : Reread A) (is : IsReread mid raw (drop n L) x) where
       abbrev out : ℕ
@@ -270,6 +290,11 @@ module _ (c : Content) (t : IsText c) (lo hi : ℕ) (put : List ℕ) (p : Place)
             ∙ ap (λ (l : List ℕ). concat (bytes_of F) ++ l) e.1
             ∙ cut_is,
       )
+
+      -- by what comes next
+      pub ended : TailsMayEnd def → (o : Option OldBytes) (v : List ℕ) → slice_get (drop n L) x.used ≡ o → MatchOption o (v ≡ x.rest.items) (λ s. v ≡ c.tail) → Follows v
+      ended may_end None v at same = subst Follows (sym same) (finishes may_end at)
+      ended may_end (Some s) v at same = subst Follows (sym same) (lands s at)
 
 -- how many bytes the text with a cut has
 pub cut_long : (c : Content) (cut : Cut) → cut.lo ≤ cut.hi → cut.hi ≤ length (text_of c) → length (cut_text c cut) ≡ (length (text_of c) - (cut.hi - cut.lo)) + length cut.put

@@ -4,6 +4,7 @@ pub mod Chunks
 pub mod Content
 pub mod Lists
 pub mod Opening
+pub mod Preparing
 pub mod Statements
 pub mod Storing
 pub mod Stretches

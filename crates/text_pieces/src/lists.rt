@@ -1,14 +1,18 @@
 //! New lists of numbers for chunks.
 
-ghost use Rattle.std.specs.Prelude.{◌<◌, ◌≤◌, ◌++◌, IfOk, length, map, take};
+ghost use Rattle.std.specs.Prelude.{◌≡◌, ◌<◌, ◌≤◌, ◌++◌, IfOk, length, map, take};
 ghost use Rattle.design_model.specs.declared.TheConstants.{MAX_TEXT};
 ghost use Rattle.text_pieces.specs.Chunks.{all_ids, ids_at, shown_change};
 ghost use Rattle.text_pieces.specs.Lists.{AreLists, ids_left};
-ghost use Rattle.text_pieces.specs.Tables.{AreChunks, AreHome, table_of, weight};
+ghost use Rattle.text_pieces.specs.Preparing.{IsPut, put_bytes};
+ghost use Rattle.text_pieces.specs.Storing.{StaysKept, news_of};
+ghost use Rattle.text_pieces.specs.Tables.{AreChunks, AreHome, IsTable, table_of, weight};
 
 use crate::chunks::{Change, Chunk};
+use crate::storing::store_all;
 use crate::table::PieceTable;
 use design_model::identifier::StmtId;
+use rereading::pieces::NewPiece;
 use std::alloc::{AllocError, Allocator};
 
 /// The lists of the chunks from one on where so many numbers from a place of it on go out. Its own list begins with these numbers.
@@ -46,4 +50,27 @@ pub(crate) fn new_lists<A: Allocator + Copy>(
         place = 0;
     }
     Ok(changes)
+}
+
+/// Keeps new pieces, and makes the lists with which they take the place of so many from a place of a chunk on. What is kept
+/// stays, also where memory is refused.
+pub(crate) fn place_new<A: Allocator + Copy>(
+    alloc: A,
+    table: &mut PieceTable<A>,
+    chunk: usize,
+    index: usize,
+    out: usize,
+    new: Vec<NewPiece<A>, A>,
+) -> Result<Vec<Change<A>, A>, AllocError>
+    requires table { IsTable (table_of table.old) }
+    requires within { chunk < length (table_of table.old).chunks }
+    requires inside { index ≤ length (ids_at (table_of table.old).chunks chunk) }
+    requires fits { length (put_bytes (table_of table.old) chunk index out (news_of chunk new.items)) ≤ MAX_TEXT }
+    ensures put { IfOk result (λ v. IsPut (table_of table.old) (table_of table.new) chunk index out (news_of chunk new.items) (map shown_change v.items)) }
+    ensures chunks { (table_of table.new).chunks ≡ (table_of table.old).chunks }
+    ensures stays { StaysKept (table_of table.old).slots (table_of table.new).slots }
+{
+    let mut head = Vec::from_slice(alloc, &table.chunks[chunk].ids[..index])?;
+    store_all(&mut table.pieces, &mut head, new, chunk)?;
+    new_lists(alloc, table, chunk, index, out, head)
 }

@@ -2,9 +2,45 @@
 
 ghost use Rattle.std.specs.Prelude.{◌≡◌};
 
+ghost use Rattle.text_pieces.specs.Preparing.{unprepared};
+ghost use Rattle.text_pieces.specs.declared.prepared.PrepareError.TheVariants.{Memory as IsMemory};
+
 use crate::chunks::Change;
-use std::alloc::{Allocator, Global};
+use design_model::fault::ReadError;
+use std::alloc::{AllocError, Allocator, Global};
 use std::marker::Model;
+
+/// Why a change of a text is not prepared.
+#[derive(Clone, Copy, Debug, PartialEq, Eq)]
+pub enum PrepareError {
+    /// The places are out of order, or behind the end of the text.
+    Range,
+    /// The text would be too long.
+    TooLong,
+    /// A statement of the text couldn't be read. Which one, reading the text says.
+    Fault,
+    /// Memory was refused.
+    Memory,
+}
+
+impl From<AllocError> for PrepareError {
+    ghost from_gives = { λ _ e. e ≡ IsMemory };
+
+    fn from(_error: AllocError) -> PrepareError {
+        PrepareError::Memory
+    }
+}
+
+impl From<ReadError> for PrepareError {
+    ghost from_gives = { λ r e. e ≡ unprepared r };
+
+    fn from(error: ReadError) -> PrepareError {
+        match error {
+            ReadError::Fault(_) => PrepareError::Fault,
+            ReadError::Memory => PrepareError::Memory,
+        }
+    }
+}
 
 /// A change of a text, which is prepared and isn't made yet; or, once it is made, the change that takes it back.
 #[derive(Drop)]

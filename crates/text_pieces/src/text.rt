@@ -9,13 +9,15 @@ ghost use Rattle.text_pieces.specs.Chunks.{AreOnce, first_id, id_after, id_befor
 ghost use Rattle.text_pieces.specs.Changes.{IsBetween};
 ghost use Rattle.text_pieces.specs.Content.{Content, Opens, read_keyless, text_of};
 ghost use Rattle.text_pieces.specs.Statements.{bytes_in, lead, lent_bytes, look_up, modes_by_number, number_at, spans_by_number, statements_of};
+ghost use Rattle.text_pieces.specs.Preparing.{Prepares, StandsStill};
 ghost use Rattle.text_pieces.specs.Stretches.{ReadsStretch, cut_text};
 ghost use Rattle.text_pieces.specs.Tables.{ids_of};
 
 use crate::behind::Behind;
 use crate::chunks::exchange;
+use crate::lists::place_new;
 use crate::opening::read_chunk;
-use crate::prepared::PreparedText;
+use crate::prepared::{PrepareError, PreparedText};
 use crate::stretch::{Stretch, first_mode, spliced, tail_after, touched};
 use crate::table::PieceTable;
 use crate::writing::write_pieces;
@@ -237,6 +239,41 @@ impl<A: Allocator + Copy> TextPieces<A> {
     {
         texts_are_read();
         let _ = &self.table;
+    }
+
+    /// Prepares the change of the text by which these bytes give way to others. What stands stays, whatever the answer is.
+    pub fn prepare(
+        &mut self,
+        alloc: A,
+        lo: usize,
+        hi: usize,
+        put: &[u8],
+    ) -> Result<PreparedText<A>, PrepareError>
+        ensures prepares { Prepares self.old self.new (record { lo = lo; hi = hi; put = put.now }) result }
+        ensures still { StandsStill self.old self.new }
+    {
+        if lo > hi || hi > self.len {
+            return Err(PrepareError::Range);
+        }
+        if !self.fits(lo, hi, put.len()) {
+            return Err(PrepareError::TooLong);
+        }
+        let stretch = self.stretch(alloc, lo, hi, put)?;
+        let len = self.len - (hi - lo) + put.len();
+        let changes = place_new(
+            alloc,
+            &mut self.table,
+            stretch.chunk,
+            stretch.index,
+            stretch.out,
+            stretch.pieces,
+        )?;
+        Ok(PreparedText {
+            changes,
+            tail: stretch.tail,
+            len,
+            reads: stretch.reads,
+        })
     }
 
     /// Exchanges the two contents of a change, which takes no memory. The same change then leads back.
