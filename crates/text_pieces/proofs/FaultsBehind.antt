@@ -1,16 +1,16 @@
 -- A fault of bytes behind pieces is one of the text.
-use Rattle.std.proofs.Common.{◌≡◌, ℕ, ◌+◌, Bool, true, false, List, [], ◌∷◌, ◌++◌, length, map, None, Result, Ok, Err, refl, sym, ap, ap₂, ◌∙◌, ⊎_elim, add-zero, arith}
+use Rattle.std.proofs.Common.{◌≡◌, ℕ, ◌+◌, true, false, List, [], ◌∷◌, ◌++◌, length, map, None, Result, Ok, Err, refl, sym, ap, ◌∙◌, ⊎_elim, arith}
 use Rattle.std.specs.List.{concat}
 use Rattle.std.proofs.lemmas.Bool.{cases_Bool as cases}
 use Rattle.design_model.specs.declared.fault.Fault.{Fault}
 use Rattle.design_model.specs.declared.mode.Mode.{Mode}
 use Rattle.design_model.specs.declared.mode.Mode.TheVariants.{Top}
-use Rattle.statement_model.specs.Tokens.{Token, Lexed, lex, tokens}
+use Rattle.statement_model.specs.Tokens.{Token, lex, tokens}
 use Rattle.statement_model.specs.Tokens.Open.{between}
 use Rattle.statement_model.specs.Boundaries.{is_whole, words}
 use Rattle.statement_model.specs.Folds.{◌>>◌}
 use Rattle.statement_model.specs.Form.{whole}
-use Rattle.statement_model.specs.Grammar.{Key, Grammar}
+use Rattle.statement_model.specs.Grammar.{Grammar}
 use Rattle.statement_model.specs.Reading.{at_last, read_form, read_from, read_on, read_one, unless_repeated}
 use Rattle.lefdef_tokens.specs.Laws.{moved, moved_end, moved_token, TokensMove}
 use Rattle.def_grammar.specs.Records.{Record, def}

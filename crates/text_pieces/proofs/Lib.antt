@@ -11,6 +11,7 @@ mod Neighbours
 mod NewLists
 mod Opened
 mod PlacedPieces
+mod PutPieces
 mod ReadPieces
 mod Replaced
 mod Shown

@@ -1,11 +1,9 @@
 -- New lists of chunks, one after the other.
-use Rattle.std.proofs.Common.{◌≡◌, ◌≢◌, ◌<◌, ◌≤◌, ◌+◌, ◌-◌, ℕ, zero, suc, List, [], ◌∷◌, ◌++◌, length, get_or, set, map, take, drop, min, ⊎_elim, Option, refl, sym, ap, ap₂, ◌∙◌, subst, append_assoc, append-nil, arith, length-append}
-use Rattle.std.proofs.Math.ListN.{length-set}
+use Rattle.std.proofs.Common.{◌≡◌, ◌≢◌, ◌<◌, ◌≤◌, ◌+◌, ◌-◌, ℕ, zero, suc, List, [], ◌∷◌, ◌++◌, length, set, take, drop, min, ⊎_elim, Option, refl, sym, ap, ap₂, ◌∙◌, subst, append_assoc, append-nil, arith}
 use Rattle.std.proofs.lemmas.List.{drop-append-le, drop-drop, drop-set-lt, drop_all, drop_at, length-drop, take_all, take_more_set}
 use Rattle.std.proofs.lemmas.Bool.{cases_eq}
 use Rattle.design_model.specs.declared.identifier.StmtId.{StmtId}
-use Rattle.text_pieces.specs.Behind.{ids_from}
-use Rattle.text_pieces.specs.Chunks.{Numbers, Replacement, all_ids, exchanged, ids_at, no_numbers, ArePlaces, IsElsewhere}
+use Rattle.text_pieces.specs.Chunks.{Numbers, Replacement, all_ids, exchanged, ids_at, ArePlaces, IsElsewhere}
 use Rattle.text_pieces.specs.Lists.{AreLists, ids_left}
 use Rattle.text_pieces.specs.Tables.{Kept, weight, AreChunks, AreHome}
 use Rattle.text_pieces.proofs.Exchanges.{length-exchanged}

@@ -1,5 +1,5 @@
 -- Statements that are read again take the place of others.
-use Rattle.std.proofs.Common.{◌≡◌, ◌<◌, ◌≤◌, ℕ, zero, suc, List, [], ◌∷◌, ◌++◌, length, map, take, drop, Option, Some, None, refl, sym, ap, ◌∙◌, subst, append_assoc, append-nil, arith}
+use Rattle.std.proofs.Common.{◌≡◌, ◌<◌, ◌≤◌, ℕ, zero, suc, List, [], ◌∷◌, ◌++◌, length, map, take, drop, Some, None, refl, sym, ap, ◌∙◌, subst, append_assoc, append-nil, arith}
 use Rattle.std.specs.List.{concat, slice_get}
 use Rattle.std.proofs.lemmas.List.{drop_all, map-append, take-append-drop, take_all}
 use Rattle.std.proofs.lemmas.List.Folds.{concat-append}

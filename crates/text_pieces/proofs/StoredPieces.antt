@@ -21,7 +21,7 @@ module _ (old new : List (Option Kept)) (stays : StaysKept old new) where
   held_stays : (id : StmtId) → slot old id ≡ Some (kept_at old id) → slot new id ≡ slot old id
   held_stays id h = stays id.0 (kept_at old id) h ∙ sym h
 
-  kept_stays : (id : StmtId) → slot old id ≡ Some (kept_at old id) → kept_at new id ≡ kept_at old id
+  pub kept_stays : (id : StmtId) → slot old id ≡ Some (kept_at old id) → kept_at new id ≡ kept_at old id
   kept_stays id h = ap kept_or (held_stays id h)
 
   -- numbers of a chunk keep what is kept under them
@@ -29,7 +29,7 @@ module _ (old new : List (Option Kept)) (stays : StaysKept old new) where
   ids_stay k [] h = refl
   ids_stay k (x ∷ xs) h = ap₂ (λ (p : Kept) (ps : List Kept). p ∷ ps) (kept_stays x h.0) (ids_stay k xs h.2)
 
-  home_stays : (k : ℕ) (ids : List StmtId) → AreHome old k ids → AreHome new k ids
+  pub home_stays : (k : ℕ) (ids : List StmtId) → AreHome old k ids → AreHome new k ids
   home_stays k [] h = tt
   home_stays k (x ∷ xs) h =
       let e = kept_stays x h.0 in

@@ -2,7 +2,7 @@
 use Rattle.std.proofs.Common.{◌≡◌, ◌<◌, ◌≤◌, ◌+◌, ◌-◌, ℕ, zero, suc, List, [], ◌∷◌, ◌++◌, length, map, take, drop, Option, Some, None, Err, refl, sym, ap, ap₂, ◌∙◌, subst, append_assoc, append-nil, arith, length-append, slice_range}
 use Rattle.std.specs.Prelude.{MatchOption}
 use Rattle.std.specs.List.{concat, slice_get}
-use Rattle.std.proofs.lemmas.List.{drop_all, drop_at, drop-append-le, drop-drop, drop-map, length-drop, length-map, length-take, map-append, take_at, take-append-drop, take-append-le}
+use Rattle.std.proofs.lemmas.List.{drop_all, drop_at, drop-append-le, drop-drop, drop-map, length-drop, length-map, length-take, map-append, take-append-drop, take-append-le}
 use Rattle.std.proofs.lemmas.List.Folds.{concat-append}
 use Rattle.std.proofs.lemmas.Option.{slice_get_within}
 use Rattle.design_model.specs.declared.TheConstants.{MAX_TEXT}
@@ -34,7 +34,6 @@ use Rattle.text_pieces.specs.Touched.{AreTouched, BeginsAt}
 use Rattle.text_pieces.specs.declared.table.Place.{Place}
 use Rattle.text_pieces.proofs.Chains.{apart_behind, apart_front, chain_part, none_chained}
 use Rattle.text_pieces.proofs.FaultsBehind.{fault_behind}
-use Rattle.text_pieces.proofs.FromPlaces.{segment_past}
 use Rattle.text_pieces.proofs.FullPieces.{are_full, begin_from, chain_full, full_from, mode_first}
 use Rattle.text_pieces.proofs.Ids.{cut_at, ids_from as chunks_from}
 use Rattle.text_pieces.proofs.Opened.{read_is, weight_is}

@@ -1,16 +1,16 @@
 -- Pieces that an edit touches.
-use Rattle.std.proofs.Common.{◌≡◌, ◌<◌, ◌≤◌, ◌+◌, ℕ, zero, suc, List, [], ◌∷◌, ◌++◌, length, get_or, map, take, drop, Option, Some, refl, sym, ap, ◌∙◌, subst, arith, length-append}
+use Rattle.std.proofs.Common.{◌≡◌, ◌<◌, ◌≤◌, ◌+◌, ℕ, zero, suc, List, [], ◌∷◌, ◌++◌, length, get_or, map, take, drop, Option, Some, refl, sym, ap, ◌∙◌, arith}
 use Rattle.std.specs.List.{concat, slice_get}
-use Rattle.std.proofs.lemmas.List.{append-nil, length-take, map-append, take_more}
+use Rattle.std.proofs.lemmas.List.{append-nil, map-append, take_more}
 use Rattle.std.proofs.lemmas.List.Folds.{concat-append}
 use Rattle.std.proofs.lemmas.Option.{get_or_from_slice_get, slice_get_past, slice_get_within}
 use Rattle.design_model.specs.declared.identifier.StmtId.{StmtId}
 use Rattle.rereading.specs.Segments.{OldBytes}
 use Rattle.rereading.specs.Segments as behind_edit
 use Rattle.text_pieces.specs.Chunks.{Numbers, all_ids, ids_at}
-use Rattle.text_pieces.specs.Tables.{Kept, Table, ids_before, kept_at, weight}
+use Rattle.text_pieces.specs.Tables.{Kept, ids_before, kept_at, weight}
 use Rattle.text_pieces.specs.Touched.{BeginsAt}
-use Rattle.text_pieces.proofs.Weights.{weight_append, weight_within}
+use Rattle.text_pieces.proofs.Weights.{weight_append}
 
 -- one segment more
 pub segment_more : (ss : List OldBytes) (n : ℕ) (s : OldBytes) → slice_get ss n ≡ Some s → (n < length ss) × (behind_edit.bytes_of (take (n + 1) ss) ≡ behind_edit.bytes_of (take n ss) ++ s.bytes)

@@ -1,5 +1,5 @@
 -- New lists of numbers for chunks.
-use Rattle.std.specs.Prelude.{◌≡◌, ℕ, List, ◌++◌, length, drop, Option}
+use Rattle.std.specs.Prelude.{◌≡◌, ℕ, List, length, drop, Option}
 use Rattle.design_model.specs.declared.identifier.StmtId.{StmtId}
 use Rattle.text_pieces.specs.Behind.{ids_from}
 use Rattle.text_pieces.specs.Chunks.{Numbers, Replacement, all_ids, exchanged, ArePlaces}

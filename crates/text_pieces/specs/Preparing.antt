@@ -1,5 +1,5 @@
 -- What preparing a change of a text in pieces says.
-use Rattle.std.specs.Prelude.{◌≡◌, ◌<◌, ◌≤◌, ℕ, List, ◌∷◌, ◌++◌, length, map, Option, Result, Ok, Err}
+use Rattle.std.specs.Prelude.{◌≡◌, ◌<◌, ◌≤◌, ℕ, List, ◌++◌, length, map, Result, Ok, Err}
 use Rattle.std.specs.List.{concat}
 use Rattle.design_model.specs.declared.TheConstants.{MAX_TEXT}
 use Rattle.design_model.specs.declared.fault.Fault as fault

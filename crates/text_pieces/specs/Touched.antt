@@ -1,5 +1,5 @@
 -- What an edit of a text in pieces touches.
-use Rattle.std.specs.Prelude.{◌≡◌, ◌<◌, ◌≤◌, ℕ, List, ◌++◌, length, take}
+use Rattle.std.specs.Prelude.{◌≡◌, ◌<◌, ◌≤◌, ℕ, List, length, take}
 use Rattle.rereading.specs.Segments.{OldBytes}
 use Rattle.rereading.specs.Segments as behind_edit
 use Rattle.text_pieces.specs.Chunks.{ids_at}

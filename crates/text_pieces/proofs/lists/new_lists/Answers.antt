@@ -1,12 +1,11 @@
-use Rattle.std.proofs.Common.{◌≡◌, ◌<◌, ◌≤◌, ◌+◌, ◌-◌, ◌∙◌, [], ◌∷◌, ◌++◌, ℕ, List, min, refl, sym, ap, subst, drop, length, map, take, arith}
+use Rattle.std.proofs.Common.{◌≡◌, ◌<◌, ◌≤◌, ◌+◌, ◌-◌, ◌∙◌, [], ◌∷◌, ◌++◌, List, min, refl, sym, ap, subst, drop, length, map, take, arith}
 use Rattle.std.specs.Prelude.{option_map}
 use Rattle.std.proofs.lemmas.List.{length-map, map-append, take_rest}
-use Rattle.design_model.specs.declared.TheConstants.{MAX_TEXT}
 use Rattle.design_model.specs.declared.identifier.StmtId.{StmtId}
-use Rattle.text_pieces.specs.Chunks.{Numbers, Replacement, all_ids, ids_at, shown, shown_change}
+use Rattle.text_pieces.specs.Chunks.{Numbers, all_ids, ids_at, shown, shown_change}
 use Rattle.text_pieces.specs.Lists.{AreLists, ids_left}
 use Rattle.text_pieces.specs.Tables.{kept, weight, AreHome}
-use Rattle.text_pieces.proofs.NewLists.{Going, ended, ends, fits_here, goes_on, home_here}
+use Rattle.text_pieces.proofs.NewLists.{ended, ends, fits_here, goes_on, home_here}
 use Rattle.text_pieces.proofs.Shown.{shown_at}
 use Rattle.text_pieces.proofs.lists.new_lists.Goals as goal
 

@@ -1,6 +1,5 @@
-use Rattle.std.proofs.Common.{◌≡◌, ◌≤◌, ◌<◌, ◌+◌, ◌∙◌, ℕ, [], ◌∷◌, ◌++◌, sym, ap, length, take, arith}
-use Rattle.std.proofs.lemmas.List.{append-nil}
-use Rattle.rereading.specs.Segments.{bytes_of, segment_view}
+use Rattle.std.proofs.Common.{◌∙◌, ◌++◌, sym, ap, arith}
+use Rattle.rereading.specs.Segments.{segment_view}
 use Rattle.text_pieces.proofs.TouchedPieces.{segment_more}
 use Rattle.text_pieces.proofs.stretch.touched.Goals as goal
 

@@ -1,4 +1,4 @@
-use Rattle.std.proofs.Common.{◌≤◌, ◌<◌, ◌^◌, List, length, map, ap, arith, length-append}
+use Rattle.std.proofs.Common.{List, length, map, ap, arith, length-append}
 use Rattle.design_model.specs.declared.identifier.StmtId.{StmtId}
 use Rattle.text_pieces.specs.Behind.{ids_from}
 use Rattle.text_pieces.specs.Chunks.{shown}

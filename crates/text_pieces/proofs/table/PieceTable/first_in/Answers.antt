@@ -1,4 +1,4 @@
-use Rattle.std.proofs.Common.{◌≡◌, ◌<◌, ◌+◌, ◌∙◌, ℕ, length, take, map, ap, arith}
+use Rattle.std.proofs.Common.{◌+◌, length, map, ap, arith}
 use Rattle.std.specs.Prelude.{option_map}
 use Rattle.design_model.specs.declared.identifier.StmtId.{StmtId}
 use Rattle.text_pieces.specs.Tables.{Kept, kept}

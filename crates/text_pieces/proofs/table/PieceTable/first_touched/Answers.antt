@@ -1,10 +1,9 @@
-use Rattle.std.proofs.Common.{◌≡◌, ◌<◌, ◌≤◌, ◌+◌, ◌∙◌, ℕ, List, length, map, take, sym, ap, arith, length-append}
+use Rattle.std.proofs.Common.{◌<◌, ◌+◌, ◌∙◌, length, map, sym, ap, arith}
 use Rattle.std.specs.Prelude.{option_map}
 use Rattle.std.proofs.lemmas.List.{length-map}
-use Rattle.design_model.specs.declared.identifier.StmtId.{StmtId}
-use Rattle.text_pieces.specs.Chunks.{Numbers, all_ids, ids_at, shown}
-use Rattle.text_pieces.specs.Tables.{kept, weight}
-use Rattle.text_pieces.proofs.Shown.{ids_there, shown_at}
+use Rattle.text_pieces.specs.Chunks.{Numbers, shown}
+use Rattle.text_pieces.specs.Tables.{kept}
+use Rattle.text_pieces.proofs.Shown.{shown_at}
 use Rattle.text_pieces.proofs.Slots.{home_of}
 use Rattle.text_pieces.proofs.TouchedPieces.{begins}
 use Rattle.text_pieces.proofs.Weights.{weight_of, weight_more, weight_up_to}

@@ -1,4 +1,4 @@
-use Rattle.std.proofs.Common.{◌≡◌, ◌≤◌, ◌-◌, ◌∙◌, ◌++◌, ℕ, List, Option, Err, refl, sym, ap, subst, length, drop, take, arith}
+use Rattle.std.proofs.Common.{◌≡◌, ◌≤◌, ◌-◌, ◌∙◌, ◌++◌, ℕ, List, Err, refl, sym, ap, subst, length, drop, take, arith}
 use Rattle.std.specs.List.{slice_get}
 use Rattle.std.proofs.lemmas.List.{length-drop}
 use Rattle.std.proofs.lemmas.Result.{err_from_is_err_and}
@@ -12,7 +12,7 @@ use Rattle.text_pieces.specs.Content.{Content, text_of}
 use Rattle.text_pieces.specs.Stretches.{ReadsStretch, cut_text}
 use Rattle.text_pieces.specs.Tables.{table_of}
 use Rattle.text_pieces.specs.Touched.{AreTouched}
-use Rattle.text_pieces.proofs.Stretching.{accepted, begin_apart, chains, ended, few_ids, few_segments, full, mode_is, refused, room, some_chunks, some_segments, start_low}
+use Rattle.text_pieces.proofs.Stretching.{accepted, begin_apart, chains, ended, few_ids, few_segments, full, mode_is, refused, room, some_segments, start_low}
 use Rattle.text_pieces.proofs.text.TextPieces.stretch.Goals as goal
 
 pub from_place-behind-requires-clause-few : goal.from_place-behind-requires-clause-few
@@ -175,7 +175,9 @@ returns-in_err-new g c =
     let cut : Cut = record { lo = lo; hi = hi; put = put } in
     let f = c.in_err-new.field-0.0 in
     rw (e.1, e.2) (subst (λ (d : Content). ReadsStretch {A = g.row.A.Denot} d cut (Err f)) c.self.view_is (refused content t lo hi put p b order within old n touched g.row.A.Denot c.tokens_move.ensures c.pieces_are_read.ensures fits c.in_err-new.field-0.0
-    (rw (mode_here, raw_is, later_is) at c.in_err-new.ensures)))
+    (subst (λ (m : Mode). Rereads {A = g.row.A.Denot} m raw (drop n behind) (Err f)) mode_here
+    (subst (λ (r : List ℕ). Rereads {A = g.row.A.Denot} c.first_mode-mode.result r (drop n behind) (Err f)) raw_is
+    (subst (λ (ss : List OldBytes). Rereads {A = g.row.A.Denot} c.first_mode-mode.result c.deref-3.result.now ss (Err f)) later_is c.in_err-new.ensures)))))
 
 pub overflow_add-out : goal.overflow_add-out
 overflow_add-out g c =
