@@ -1,6 +1,5 @@
 -- New pieces in the place of others.
-use Rattle.std.proofs.Common.{◌≡◌, ◌<◌, ◌≤◌, ℕ, zero, suc, List, [], ◌∷◌, ◌++◌, length, map, take, drop, Option, Result, Ok, Err, refl, sym, ap, ap₂, ◌∙◌, subst, append_assoc, arith, length-append}
-use Rattle.std.specs.Prelude.{IfOk}
+use Rattle.std.proofs.Common.{◌≡◌, ◌<◌, ◌≤◌, ℕ, zero, suc, List, [], ◌∷◌, ◌++◌, length, map, take, drop, Option, refl, sym, ap, ap₂, ◌∙◌, subst, append_assoc, arith, length-append}
 use Rattle.std.specs.List.{concat}
 use Rattle.std.proofs.lemmas.List.{length-map, map-append, take-append-drop}
 use Rattle.design_model.specs.declared.TheConstants.{MAX_TEXT}
@@ -24,10 +23,6 @@ use Rattle.text_pieces.proofs.Opened.{weight_is}
 use Rattle.text_pieces.proofs.Slots.{unheld}
 use Rattle.text_pieces.proofs.StoredPieces.{all_stay, chunks_stay, kept_stays}
 use Rattle.text_pieces.proofs.Stretching.{split_at}
-
-pub on_ok : {T E : Type 0} (P Q : T → Type 0) (r : Result T E) → ((v : T) → P v → Q v) → IfOk r P → IfOk r Q
-on_ok P Q (Ok v) f h = f v h
-on_ok P Q (Err e) f h = tt
 
 -- numbers that are apart from others
 abbrev AllAbsent : List StmtId → List StmtId → Type 0
@@ -172,12 +167,12 @@ module _ (c : Content) (t : IsText c) (new : List (Option Kept)) (stays : StaysK
   text_same cs same = ap (λ (l : List Numbers). text_of (still l)) same ∙ same_text
 
   -- and a change of it is prepared
-  module _ (A : Type 0) (cut : Cut) (x : Stretch A) (s : IsStretch c cut x) (fits : length (cut_text c cut) ≤ MAX_TEXT) (len : ℕ) (long : len ≡ length (cut_text c cut)) (changes : List Replacement) where
+  module _ (A : Type 0) (cut : Cut) (x : Stretch A) (s : IsStretch c cut x) (fits : length (cut_text c cut) ≤ MAX_TEXT) (len : ℕ) (long : len ≡ length (cut_text c cut)) (changes : List Replacement) (out ids : List StmtId) (goes : out ≡ take x.out (ids_from c.table.chunks x.chunk x.index)) where
     abbrev own_put : List Numbers → Type 0
-    own_put cs = IsPut c.table (record { chunks = cs; slots = new }) x.chunk x.index x.out (news_of x.chunk x.pieces.items) changes
+    own_put cs = IsPut c.table (record { chunks = cs; slots = new }) x.chunk x.index x.out (news_of x.chunk x.pieces.items) changes ids
 
     abbrev own_prepared : List Numbers → Type 0
-    own_prepared cs = IsPrepared c (still cs) cut (record { changes = changes; tail = x.tail.items; len = len; reads = x.reads })
+    own_prepared cs = IsPrepared c (still cs) cut (record { changes = changes; tail = x.tail.items; len = len; out = out; put = ids; reads = x.reads })
 
     prepared_there : own_put c.table.chunks → own_prepared c.table.chunks
     prepared_there put =
@@ -185,17 +180,17 @@ module _ (c : Content) (t : IsText c) (new : List (Option Kept)) (stays : StaysK
         let before = ids_before cs x.chunk x.index in
         let from = ids_from cs x.chunk x.index in
         let left = ids_left cs x.chunk x.index x.out in
-        let p : Prepared = record { changes = changes; tail = x.tail.items; len = len; reads = x.reads } in
+        let p : Prepared = record { changes = changes; tail = x.tail.items; len = len; out = out; put = ids; reads = x.reads } in
         let other : Content = changed (still cs) p in
         let were : all_ids cs ≡ before ++ (take x.out from ++ left) = split_at cs x.chunk x.index s.within ∙ ap (λ (l : List StmtId). before ++ l) (sym (take-append-drop x.out from)) in
         let stand : standing other.table ≡ stretched c x =
-        ap (map (kept_at new)) put.lists.are ∙ then_standing c.table.slots new stays cs x.chunk x.index x.out put.ids (news_of x.chunk x.pieces.items) t.table.chunks s.within put.own in
+        ap (map (kept_at new)) put.lists.are ∙ then_standing c.table.slots new stays cs x.chunk x.index x.out ids (news_of x.chunk x.pieces.items) t.table.chunks s.within put.own in
         let text : text_of other ≡ cut_text c cut = ap (λ (ks : List Kept). concat (bytes_of ks) ++ x.tail.items) stand ∙ s.whole in
         let size = ap (λ (l : List ℕ). length l) text in
         let chain = subst (λ (ks : List Kept). IsChain Top ks After) (sym stand) s.ends.chain in
         let heavy = weight_is new (ids_of other.table) in
-        let many : length (map (kept_at new) put.ids) ≡ length (news_of x.chunk x.pieces.items) = ap (λ (ks : List Kept). length ks) put.own in
-        let once = once_put before (take x.out from) left put.ids (subst AreOnce were t.table.once) put.once (subst (AllAbsent put.ids) were (free_apart c.table.slots cs put.ids t.table.chunks put.free)) in
+        let many : length (map (kept_at new) ids) ≡ length (news_of x.chunk x.pieces.items) = ap (λ (ks : List Kept). length ks) put.own in
+        let once = once_put before (take x.out from) left ids (subst AreOnce were t.table.once) put.once (subst (AllAbsent ids) were (free_apart c.table.slots cs ids t.table.chunks put.free)) in
         let other_text : IsText other = record {
           table = record {
             chunks = put.lists.kept;
@@ -212,16 +207,19 @@ module _ (c : Content) (t : IsText c) (new : List (Option Kept)) (stays : StaysK
         } in
         record {
           other = other;
-          between = record { places = put.lists.places; base_is = refl; other_is = refl; text = other_text };
+          between = record {
+            places = put.lists.places;
+            base_is = refl;
+            other_is = refl;
+            text = other_text;
+            front = before;
+            rest = left;
+            goes = were ∙ ap (λ (l : List StmtId). before ++ (l ++ left)) (sym goes);
+            comes = put.lists.are;
+          };
           text = text;
-          front = before;
-          out = take x.out from;
-          put = put.ids;
-          rest = left;
-          were = were;
-          are = put.lists.are;
           free = put.free;
-          read = omega (arith, s.read, many, length-map put.ids (kept_at new), length-map x.pieces.items (new_kept x.chunk));
+          read = omega (arith, s.read, many, length-map ids (kept_at new), length-map x.pieces.items (new_kept x.chunk));
         }
 
     pub prepared : (cs : List Numbers) → cs ≡ c.table.chunks → own_put cs → own_prepared cs

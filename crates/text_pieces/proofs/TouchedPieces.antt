@@ -25,6 +25,10 @@ segment_more ss n s at =
           ∙ ap (λ (l : List ℕ). behind_edit.bytes_of (take n ss) ++ l) (append-nil (get_or ss n s).bytes ∙ ap (λ (o : OldBytes). o.bytes) own),
     )
 
+-- one number more
+pub id_more : (ids : List StmtId) (n : ℕ) (id : StmtId) → slice_get ids n ≡ Some id → take (n + 1) ids ≡ take n ids ++ id ∷ []
+id_more ids n id at = take_more ids n id (slice_get_within ids n id at) ∙ ap (λ (x : StmtId). take n ids ++ x ∷ []) (get_or_from_slice_get ids n id id at)
+
 -- segments from one on
 pub segment_from : (ss : List OldBytes) (p k : ℕ) → slice_get (drop p ss) k ≡ slice_get ss (p + k)
 segment_from ss zero k = ap (slice_get ss) (omega arith)

@@ -13,7 +13,7 @@ use Rattle.text_pieces.specs.Content.{Content, bytes_of, read_keyless, text_of}
 use Rattle.text_pieces.specs.Lists.{AreLists, ids_left}
 use Rattle.text_pieces.specs.Storing.{AreFree, StaysKept}
 use Rattle.text_pieces.specs.Stretches.{cut_text}
-use Rattle.text_pieces.specs.Tables.{Kept, Table, ids_before, ids_of, kept_at}
+use Rattle.text_pieces.specs.Tables.{Kept, Table, ids_before, kept_at}
 use Rattle.text_pieces.specs.declared.prepared.PrepareError.{PrepareError}
 use Rattle.text_pieces.specs.declared.prepared.PrepareError.TheVariants.{Fault, Memory, Range, TooLong}
 
@@ -24,8 +24,7 @@ pub record StandsStill (old new : Content) : Type 0 where
   pub text : text_of new ≡ text_of old
 
 -- pieces are kept under numbers that were free, and with these lists the chunks have them in the place of others
-pub record IsPut (old new : Table) (k i out : ℕ) (ks : List Kept) (changes : List Replacement) : Type 0 where
-  pub ids : List StmtId
+pub record IsPut (old new : Table) (k i out : ℕ) (ks : List Kept) (changes : List Replacement) (ids : List StmtId) : Type 0 where
   pub free : AreFree old.slots ids
   pub once : AreOnce ids
   pub own : map (kept_at new.slots) ids ≡ ks
@@ -35,20 +34,14 @@ pub record IsPut (old new : Table) (k i out : ℕ) (ks : List Kept) (changes : L
 abbrev pub put_bytes : Table → ℕ → ℕ → ℕ → List Kept → List ℕ
 put_bytes t k i out ks = concat (bytes_of (map (kept_at t.slots) (ids_before t.chunks k i) ++ (ks ++ map (kept_at t.slots) (ids_left t.chunks k i out))))
 
--- A change is prepared: it leads from the content to another one, whose text is the old one with the cut made. Numbers that
--- were free come in for others, as many as statements were read; all others stay.
+-- A change is prepared: it leads from the content to another one, whose text is the old one with the cut made. The numbers that
+-- come in were free, and are as many as statements were read.
 pub record IsPrepared (old new : Content) (cut : Cut) (p : Prepared) : Type 0 where
   pub other : Content
   pub between : IsBetween new p new other
   pub text : text_of other ≡ cut_text old cut
-  pub front : List StmtId
-  pub out : List StmtId
-  pub put : List StmtId
-  pub rest : List StmtId
-  pub were : ids_of new.table ≡ front ++ (out ++ rest)
-  pub are : ids_of other.table ≡ front ++ (put ++ rest)
-  pub free : AreFree old.table.slots put
-  pub read : p.reads ≡ length put
+  pub free : AreFree old.table.slots p.put
+  pub read : p.reads ≡ length p.put
 
 -- what preparing answers: a change; or that the places are out of order or past the end, that the text would be too long, or
 -- that it would have a fault; refused memory says nothing

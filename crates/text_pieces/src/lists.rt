@@ -52,8 +52,8 @@ pub(crate) fn new_lists<A: Allocator + Copy>(
     Ok(changes)
 }
 
-/// Keeps new pieces, and makes the lists with which they take the place of so many from a place of a chunk on. What is kept
-/// stays, also where memory is refused.
+/// Keeps new pieces, and makes the lists with which they take the place of so many from a place of a chunk on. It gives their
+/// numbers too. What is kept stays, also where memory is refused.
 pub(crate) fn place_new<A: Allocator + Copy>(
     alloc: A,
     table: &mut PieceTable<A>,
@@ -61,16 +61,18 @@ pub(crate) fn place_new<A: Allocator + Copy>(
     index: usize,
     out: usize,
     new: Vec<NewPiece<A>, A>,
-) -> Result<Vec<Change<A>, A>, AllocError>
+) -> Result<(Vec<Change<A>, A>, Vec<StmtId, A>), AllocError>
     requires table { IsTable (table_of table.old) }
     requires within { chunk < length (table_of table.old).chunks }
     requires inside { index ≤ length (ids_at (table_of table.old).chunks chunk) }
     requires fits { length (put_bytes (table_of table.old) chunk index out (news_of chunk new.items)) ≤ MAX_TEXT }
-    ensures put { IfOk result (λ v. IsPut (table_of table.old) (table_of table.new) chunk index out (news_of chunk new.items) (map shown_change v.items)) }
+    ensures put { IfOk result (λ x. IsPut (table_of table.old) (table_of table.new) chunk index out (news_of chunk new.items) (map shown_change x.0.items) x.1.items) }
     ensures chunks { (table_of table.new).chunks ≡ (table_of table.old).chunks }
     ensures stays { StaysKept (table_of table.old).slots (table_of table.new).slots }
 {
     let mut head = Vec::from_slice(alloc, &table.chunks[chunk].ids[..index])?;
     store_all(&mut table.pieces, &mut head, new, chunk)?;
-    new_lists(alloc, table, chunk, index, out, head)
+    let ids = Vec::from_slice(alloc, &head[index..])?;
+    let changes = new_lists(alloc, table, chunk, index, out, head)?;
+    Ok((changes, ids))
 }

@@ -7,6 +7,7 @@ ghost use Rattle.text_pieces.specs.declared.prepared.PrepareError.TheVariants.{M
 
 use crate::chunks::Change;
 use design_model::fault::ReadError;
+use design_model::identifier::StmtId;
 use std::alloc::{AllocError, Allocator, Global};
 use std::marker::Model;
 
@@ -48,6 +49,8 @@ pub struct PreparedText<A: Allocator = Global> {
     pub(crate) changes: Vec<Change<A>, A>,
     pub(crate) tail: Vec<u8, A>,
     pub(crate) len: usize,
+    pub(crate) out: Vec<StmtId, A>,
+    pub(crate) put: Vec<StmtId, A>,
     pub(crate) reads: u64,
 }
 
@@ -58,10 +61,24 @@ impl<A: Allocator> Model for PreparedText<A> {
 
     ghost Value = { Prepared };
 
-    ghost view = { λ p. record { changes = map shown_change p.changes.items; tail = p.tail.items; len = p.len; reads = p.reads } };
+    ghost view = { λ p. record { changes = map shown_change p.changes.items; tail = p.tail.items; len = p.len; out = p.out.items; put = p.put.items; reads = p.reads } };
 }
 
 impl<A: Allocator> PreparedText<A> {
+    /// The numbers of the statements that go out, in their order.
+    pub fn out(&self) -> &[StmtId]
+        ensures { result.now ≡ self.now.out }
+    {
+        &self.out
+    }
+
+    /// The numbers of those that come in for them, in their order.
+    pub fn put(&self) -> &[StmtId]
+        ensures { result.now ≡ self.now.put }
+    {
+        &self.put
+    }
+
     /// How many statements were read for the change.
     pub fn reads(&self) -> u64
         ensures { result ≡ self.now.reads }

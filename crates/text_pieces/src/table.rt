@@ -1,6 +1,6 @@
 //! Pieces under the numbers of their statements, in chunks.
 
-ghost use Rattle.std.specs.Prelude.{◌≡◌, ◌<◌, ◌≤◌, ◌+◌, MatchOption, length, map, slice_get, take};
+ghost use Rattle.std.specs.Prelude.{◌≡◌, ◌<◌, ◌≤◌, ◌+◌, IfOk, MatchOption, length, map, slice_get, take};
 ghost use Rattle.design_model.specs.declared.TheConstants.{MAX_TEXT};
 ghost use Rattle.text_pieces.specs.Behind.{ids_from};
 ghost use Rattle.text_pieces.specs.Chunks.{IsAbsent, all_ids, first_id, id_after, id_before, ids_at};
@@ -11,7 +11,7 @@ use crate::chunks::{Chunk, first_from, last_before, place_in};
 use design_model::identifier::StmtId;
 use design_model::mode::Mode;
 use slab::Slab;
-use std::alloc::{Allocator, Global};
+use std::alloc::{AllocError, Allocator, Global};
 
 /// A statement with the blanks and comments before it, the mode in which it stands, and the chunk that has its number.
 #[derive(Drop)]
@@ -149,6 +149,27 @@ impl<A: Allocator> PieceTable<A> {
             place = 0;
         }
         None
+    }
+
+    /// So many numbers from a place of a chunk on, or those that there are.
+    pub(crate) fn ids_at_most(
+        &self,
+        alloc: A,
+        chunk: usize,
+        place: usize,
+        count: usize,
+    ) -> Result<Vec<StmtId, A>, AllocError>
+        requires { place ≤ length (ids_at (table_of self.now).chunks chunk) }
+        ensures { IfOk result (λ v. v.items ≡ take count (ids_from (table_of self.now).chunks chunk place)) }
+    {
+        let mut ids = Vec::new(alloc);
+        for k in 0..count {
+            let Some(id) = self.id_from(chunk, place, k) else {
+                return Ok(ids);
+            };
+            ids.push(id)?;
+        }
+        Ok(ids)
     }
 
     /// How many statements stand from a place of a chunk on.

@@ -260,7 +260,10 @@ impl<A: Allocator + Copy> TextPieces<A> {
         }
         let stretch = self.stretch(alloc, lo, hi, put)?;
         let len = self.len - (hi - lo) + put.len();
-        let changes = place_new(
+        let out = self
+            .table
+            .ids_at_most(alloc, stretch.chunk, stretch.index, stretch.out)?;
+        let (changes, put) = place_new(
             alloc,
             &mut self.table,
             stretch.chunk,
@@ -272,6 +275,8 @@ impl<A: Allocator + Copy> TextPieces<A> {
             changes,
             tail: stretch.tail,
             len,
+            out,
+            put,
             reads: stretch.reads,
         })
     }
@@ -284,5 +289,6 @@ impl<A: Allocator + Copy> TextPieces<A> {
         exchange(&mut self.table.chunks, &mut change.changes);
         std::mem::swap(&mut self.tail, &mut change.tail);
         std::mem::swap(&mut self.len, &mut change.len);
+        std::mem::swap(&mut change.out, &mut change.put);
     }
 }

@@ -1,12 +1,13 @@
-use Rattle.std.proofs.Common.{◌≡◌, ◌<◌, ◌∙◌, ◌+◌, ◌++◌, List, sym, ap, subst, length, map, take, arith}
+use Rattle.std.proofs.Common.{◌≡◌, ◌<◌, ◌∙◌, ◌+◌, ◌++◌, List, sym, ap, subst, drop, length, map, take, arith}
 use Rattle.std.specs.Prelude.{option_map}
-use Rattle.std.proofs.lemmas.List.{length-map}
+use Rattle.std.proofs.lemmas.List.{drop_at, length-map, length-take-le, take_rest}
 use Rattle.design_model.specs.declared.identifier.StmtId.{StmtId}
 use Rattle.text_pieces.specs.Chunks.{Numbers, ids_at, shown, shown_change}
 use Rattle.text_pieces.specs.Lists.{AreLists, ids_left}
+use Rattle.text_pieces.specs.Preparing.{IsPut}
 use Rattle.text_pieces.specs.Storing.{news_of}
-use Rattle.text_pieces.specs.Tables.{kept, weight, AreHome}
-use Rattle.text_pieces.proofs.PutPieces.{on_ok, regrouped, then_fits}
+use Rattle.text_pieces.specs.Tables.{kept, table_of, weight, AreHome}
+use Rattle.text_pieces.proofs.PutPieces.{regrouped, then_fits}
 use Rattle.text_pieces.proofs.Shown.{shown_at}
 use Rattle.text_pieces.proofs.Slots.{home_at, home_take}
 use Rattle.text_pieces.proofs.StoredPieces.{chunks_stay, home_append, home_stays}
@@ -78,12 +79,13 @@ returns-clause-put g c =
     let a = c.in_ok-store_all.ensures.kept in
     let stays = c.in_ok-store_all.ensures.stays in
     let after : c.store_all.new.ids.items ≡ take i (ids_at cs k) ++ a.ids = a.is ∙ ap (λ (l : List StmtId). l ++ a.ids) head in
-    on_ok _ _ c.new_lists.result
-    (λ v l. record {
-      ids = a.ids;
+    let put : c.in_ok-ids.ids.items ≡ a.ids =
+    c.in_ok-ids.ensures.items ∙ take_rest c.deref-2.result.now i ∙ ap (drop i) (c.deref-2.ensures.value ∙ after)
+    ∙ drop_at (take i (ids_at cs k)) a.ids i (length-take-le i (ids_at cs k) c.requires.inside) in
+    let is : IsPut (table_of c.args.table.now) (record { chunks = cs; slots = new }) k i c.args.out (news_of k c.args.new.items) (map shown_change c.in_ok-changes.changes.items) a.ids = record {
       free = a.free;
       once = a.once;
       own = a.kept;
-      lists = subst (λ (ids : List StmtId). AreLists new cs ids (map shown_change v.items)) (regrouped cs k i c.store_all.new.ids.items a.ids (ids_left cs k i c.args.out) after) l;
-    })
-    c.new_lists.ensures
+      lists = subst (λ (ids : List StmtId). AreLists new cs ids (map shown_change c.in_ok-changes.changes.items)) (regrouped cs k i c.store_all.new.ids.items a.ids (ids_left cs k i c.args.out) after) c.in_ok-changes.ensures;
+    } in
+    subst (IsPut (table_of c.args.table.now) (record { chunks = cs; slots = new }) k i c.args.out (news_of k c.args.new.items) (map shown_change c.in_ok-changes.changes.items)) (sym put) is

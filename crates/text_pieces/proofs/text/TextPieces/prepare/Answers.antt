@@ -82,4 +82,4 @@ returns-clause-prepares g c =
     let new = map (option_map kept) c.place_new.new.table.pieces.slots in
     let cs = (table_of c.place_new.new.table).chunks in
     let len : s.len - (cut.hi - cut.lo) + length cut.put ≡ length (cut_text content cut) = omega (arith, long, t.whole) in
-    rw (← c.self.view_is) (prepared content t new c.place_new.ensures.stays g.row.A.Denot cut x is fits _ len (map shown_change c.in_ok-changes.changes.items) cs c.place_new.ensures.chunks c.in_ok-changes.ensures.put)
+    rw (← c.self.view_is) (prepared content t new c.place_new.ensures.stays g.row.A.Denot cut x is fits _ len (map shown_change c.in_ok-changes.changes.items) c.in_ok-out.out.items c.in_ok-changes.put.items c.in_ok-out.ensures cs c.place_new.ensures.chunks c.in_ok-changes.ensures.put)
