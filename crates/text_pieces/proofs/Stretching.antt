@@ -216,11 +216,13 @@ module _ (c : Content) (t : IsText c) (lo hi : ℕ) (put : List ℕ) (p : Place)
         let ids = ids_from c.table.chunks p.chunk p.index in
         let all = ap (λ (l : List StmtId). length l) (split_at c.table.chunks p.chunk p.index b.within) in
         omega (
-        arith, all, few_ids c t,
-        length-append (ids_before c.table.chunks p.chunk p.index) ids,
-        length-append (map old_bytes K) (record { bytes = c.tail; mode = Some After } ∷ []),
-        length-map K old_bytes,
-        length-map ids (kept_at c.table.slots),
+          arith,
+          all,
+          few_ids c t,
+          length-append (ids_before c.table.chunks p.chunk p.index) ids,
+          length-append (map old_bytes K) (record { bytes = c.tail; mode = Some After } ∷ []),
+          length-map K old_bytes,
+          length-map ids (kept_at c.table.slots),
         )
 
     abbrev pub mid : Mode

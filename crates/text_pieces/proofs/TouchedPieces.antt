@@ -16,8 +16,7 @@ use Rattle.text_pieces.proofs.Weights.{weight_append}
 pub segment_more : (ss : List OldBytes) (n : ℕ) (s : OldBytes) → slice_get ss n ≡ Some s → (n < length ss) × (behind_edit.bytes_of (take (n + 1) ss) ≡ behind_edit.bytes_of (take n ss) ++ s.bytes)
 segment_more ss n s at =
     let below = slice_get_within ss n s at in
-    let own : get_or ss n s ≡ s = get_or_from_slice_get ss n s s at in
-    (
+    let own : get_or ss n s ≡ s = get_or_from_slice_get ss n s s at in (
       below,
       ap behind_edit.bytes_of (take_more ss n s below)
           ∙ ap concat (map-append (λ (o : OldBytes). o.bytes) (take n ss) (get_or ss n s ∷ []))

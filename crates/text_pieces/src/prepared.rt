@@ -1,7 +1,6 @@
 //! Changes of a text that are prepared.
 
 ghost use Rattle.std.specs.Prelude.{◌≡◌};
-
 ghost use Rattle.text_pieces.specs.Preparing.{unprepared};
 ghost use Rattle.text_pieces.specs.declared.prepared.PrepareError.TheVariants.{Memory as IsMemory};
 

@@ -126,13 +126,7 @@ impl<A: Allocator + Copy> TextPieces<A> {
     }
 
     /// Reads again what an edit touches, and as much behind it as is needed.
-    fn stretch(
-        &self,
-        alloc: A,
-        lo: usize,
-        hi: usize,
-        put: &[u8],
-    ) -> Result<Stretch<A>, ReadError>
+    fn stretch(&self, alloc: A, lo: usize, hi: usize, put: &[u8]) -> Result<Stretch<A>, ReadError>
         requires order { lo ≤ hi }
         requires within { hi ≤ length (text_of self.now) }
         requires fits { length (cut_text self.now (record { lo = lo; hi = hi; put = put.now })) ≤ MAX_TEXT }
