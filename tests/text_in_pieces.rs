@@ -6,6 +6,7 @@ use design_model::identifier::StmtId;
 use design_model::mode::{Mode, Section};
 use std::alloc::{AllocError, Global};
 use std::test::Fail;
+use text_pieces::prepared::PrepareError;
 use text_pieces::text::TextPieces;
 
 const TEXT: &[u8] = b"VERSION 5.8 ;\nDESIGN d ;\n# two\nCOMPONENTS 2 ;\n- u1 INV ;\n- u2 INV ;\nEND COMPONENTS\nEND DESIGN\n";
@@ -94,5 +95,79 @@ fn statements_of_several_chunks(rt: HostRuntime) -> Result<(), Fail> {
 fn texts_that_do_not_read(rt: HostRuntime) -> Result<(), Fail> {
     let unfinished = TextPieces::open(rt.alloc(), b"VERSION 5.8 ;\nDESIGN d");
     assert_eq!(rt; unfinished.err(), Some(ReadError::Fault(Fault { code: FaultCode::Unfinished, pos: 14 })));
+    Ok(())
+}
+
+/// Whether what is written of a text is these bytes.
+fn writes(text: &TextPieces, bytes: &[u8], alloc: Global) -> bool {
+    let mut out = Counted::new(Vec::new(alloc));
+    text.write_to(&mut out).is_ok() && out.into_inner().as_slice() == bytes
+}
+
+#[test]
+fn change_made_and_taken_back(rt: HostRuntime) -> Result<(), Fail> {
+    let mut text = TextPieces::open(rt.alloc(), TEXT)?;
+    let second = nth(&text, 4);
+    let mut change = text.prepare(rt.alloc(), 57, 67, b"- u2 BUF ;\n- u3 INV ;")?;
+    assert_eq!(rt; change.reads(), 2);
+    assert_eq!(rt; change.out().first().copied(), second);
+    assert_eq!(rt; (change.out().len(), change.put().len()), (1, 2));
+    assert!(rt; writes(&text, TEXT, rt.alloc()));
+    text.commit(&mut change);
+    assert_eq!(rt; change.put().first().copied(), second);
+    assert_eq!(rt; nth(&text, 4), change.out().first().copied());
+    assert_eq!(rt; second.and_then(|id| text.statement(id)), None);
+    assert_eq!(rt; told(&text, 5), Some((b"- u3 INV ;".as_slice(), Mode::In(Section::Components), 68)));
+    assert!(rt; writes(&text, b"VERSION 5.8 ;\nDESIGN d ;\n# two\nCOMPONENTS 2 ;\n- u1 INV ;\n- u2 BUF ;\n- u3 INV ;\nEND COMPONENTS\nEND DESIGN\n", rt.alloc()));
+    text.commit(&mut change);
+    assert_eq!(rt; nth(&text, 4), second);
+    assert!(rt; writes(&text, TEXT, rt.alloc()));
+    Ok(())
+}
+
+#[test]
+fn changes_that_are_not_prepared(rt: HostRuntime) -> Result<(), Fail> {
+    let mut text = TextPieces::open(rt.alloc(), TEXT)?;
+    assert_eq!(rt; text.prepare(rt.alloc(), 5, 4, b"").err(), Some(PrepareError::Range));
+    assert_eq!(rt; text.prepare(rt.alloc(), 5, TEXT.len() + 1, b"").err(), Some(PrepareError::Range));
+    assert_eq!(rt; text.prepare(rt.alloc(), 57, 67, b"- u2 \"INV ;").err(), Some(PrepareError::Fault));
+    assert_eq!(rt; text.prepare(rt.alloc(), 68, 82, b"").err(), Some(PrepareError::Fault));
+    assert!(rt; writes(&text, TEXT, rt.alloc()));
+    Ok(())
+}
+
+#[test]
+fn changes_at_both_ends(rt: HostRuntime) -> Result<(), Fail> {
+    let mut text = TextPieces::open(rt.alloc(), TEXT)?;
+    let mut last = text.prepare(rt.alloc(), TEXT.len(), TEXT.len(), b"# end\n")?;
+    assert_eq!(rt; (last.reads(), last.out().len()), (0, 0));
+    text.commit(&mut last);
+    assert_eq!(rt; text.len(), TEXT.len() + 6);
+    let mut first = text.prepare(rt.alloc(), 0, 0, b"# top\n")?;
+    assert_eq!(rt; (first.reads(), first.out().len()), (1, 1));
+    text.commit(&mut first);
+    let mut all = text.prepare(rt.alloc(), 0, TEXT.len() + 12, b"DESIGN e ;\nEND DESIGN\n")?;
+    assert_eq!(rt; (all.reads(), all.out().len()), (2, 7));
+    text.commit(&mut all);
+    assert!(rt; writes(&text, b"DESIGN e ;\nEND DESIGN\n", rt.alloc()));
+    Ok(())
+}
+
+#[test]
+fn change_over_several_chunks(rt: HostRuntime) -> Result<(), Fail> {
+    let bytes = long_text(rt.alloc(), 2500)?;
+    let mut text = TextPieces::open(rt.alloc(), &bytes)?;
+    let lo = nth(&text, 502).and_then(|id| text.offset(id)).unwrap_or(0);
+    let hi = nth(&text, 2202).and_then(|id| text.offset(id)).unwrap_or(0);
+    let mut change = text.prepare(rt.alloc(), lo, hi, b"- v INV ;\n")?;
+    assert_eq!(rt; (change.reads(), change.out().len()), (2, 1701));
+    text.commit(&mut change);
+    assert_eq!(rt; text.len(), bytes.len() - (hi - lo) + 10);
+    assert_eq!(rt; nth(&text, 502).and_then(|id| text.statement(id)), Some(b"- v INV ;".as_slice()));
+    assert_eq!(rt; nth(&text, 503).and_then(|id| text.statement(id)), Some(b"- u2200 INV ;".as_slice()));
+    let moved = nth(&text, 600);
+    assert_eq!(rt; moved.and_then(|id| text.offset(id)).and_then(|it| text.find_at(it)), moved);
+    text.commit(&mut change);
+    assert!(rt; writes(&text, &bytes, rt.alloc()));
     Ok(())
 }

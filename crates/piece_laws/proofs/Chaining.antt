@@ -28,7 +28,7 @@ module _ {M R : Type 0} (g : Grammar M R) where
   formed_leads m after ps rec None e = absurd (cc)
   formed_leads m after ps rec (Some x) e = checked_leads m after ps x.0 rec x.1 e
 
-  piece_leads : (m after : M) (bytes : List ℕ) (rec : R) → IsPiece g m bytes rec after → after ≡ g.after m rec
+  pub piece_leads : (m after : M) (bytes : List ℕ) (rec : R) → IsPiece g m bytes rec after → after ≡ g.after m rec
   piece_leads m after bytes rec is = formed_leads m after is.statement rec (whole (g.form m) (words is.statement)) is.says
 
   pub chains_lead : ChainsLead g

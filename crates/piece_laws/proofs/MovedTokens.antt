@@ -18,12 +18,12 @@ unfolding last_of
 last_moved k p [] = refl
 last_moved k p (q ∷ qs) = last_moved k q qs
 
-whole_moved : (e : List ℕ → Ending) (k : ℕ) (ps : List Token) → is_whole e (map (moved_token k) ps) ≡ is_whole e ps
+pub whole_moved : (e : List ℕ → Ending) (k : ℕ) (ps : List Token) → is_whole e (map (moved_token k) ps) ≡ is_whole e ps
 whole_moved e k [] = refl
 whole_moved e k (p ∷ []) = refl
 whole_moved e k (p ∷ q ∷ qs) = rw (last_moved k q qs) refl
 
-one_longer : (k : ℕ) (begun : List Token) (p : Token) → map (moved_token k) (begun ++ p ∷ []) ≡ map (moved_token k) begun ++ moved_token k p ∷ []
+pub one_longer : (k : ℕ) (begun : List Token) (p : Token) → map (moved_token k) (begun ++ p ∷ []) ≡ map (moved_token k) begun ++ moved_token k p ∷ []
 one_longer k begun p = map-append (moved_token k) begun (p ∷ [])
 
 -- a statement that is cut is cut wherever it stands

@@ -25,7 +25,7 @@ module _ (slots : List (Option Kept)) where
     absent_home k xs id p h.2 held apart,
   )
 
-  unheld_home : (k : ℕ) (ids : List StmtId) (id : StmtId) → AreHome slots k ids → slot slots id ≡ None → IsAbsent id ids
+  pub unheld_home : (k : ℕ) (ids : List StmtId) (id : StmtId) → AreHome slots k ids → slot slots id ≡ None → IsAbsent id ids
   unheld_home k [] id h none = tt
   unheld_home k (x ∷ xs) id h none = (
     λ e. let s : None ≡ Some (kept_at slots x) = sym none ∙ same_slot id x e ∙ h.0 in absurd (cc),

@@ -22,6 +22,10 @@ turned c p base other t b = record {
   base_is = b.other_is;
   other_is = undone c p b.places ∙ b.base_is;
   text = subst IsText b.base_is t;
+  front = b.front;
+  rest = b.rest;
+  goes = b.comes;
+  comes = b.goes;
 }
 
 -- the content and the change as they are after an exchange
@@ -30,7 +34,7 @@ content_of chunks c tail len = record { table = record { chunks = chunks; slots 
 
 pub finish : (c : Content) (p : Prepared) (chunks : List Numbers) (changes : List Replacement) (base other : Content) → IsText c → IsBetween c p base other
     → chunks ≡ (exchanged c.table.chunks p.changes).0 → changes ≡ (exchanged c.table.chunks p.changes).1
-    → IsBetween (content_of chunks c p.tail p.len) (record { changes = changes; tail = c.tail; len = c.len; reads = p.reads }) other base
+    → IsBetween (content_of chunks c p.tail p.len) (record { changes = changes; tail = c.tail; len = c.len; out = p.put; put = p.out; reads = p.reads }) other base
 finish c p chunks changes base other t b e f = rw (e, f) (turned c p base other t b)
 
 pub stays_text : (c : Content) (p : Prepared) (chunks : List Numbers) (base other : Content) → IsBetween c p base other → chunks ≡ (exchanged c.table.chunks p.changes).0 → IsText (content_of chunks c p.tail p.len)

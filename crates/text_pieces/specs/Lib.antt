@@ -1,8 +1,14 @@
+pub mod Behind
 pub mod Changes
 pub mod Chunks
 pub mod Content
 pub mod Lent
+pub mod Lists
 pub mod Opening
+pub mod Preparing
 pub mod Statements
+pub mod Storing
+pub mod Stretches
 pub mod Tables
+pub mod Touched
 pub mod Writing

@@ -1,10 +1,9 @@
 -- How far a text is opened.
-use Rattle.std.specs.Prelude.{◌≡◌, ◌≤◌, ◌<◌, ℕ, true, false, List, [], ◌∷◌, ◌++◌, length, map, drop, slice_index_or, Option, Some, None, Result, Ok, Err, MatchResult, MatchOption}
+use Rattle.std.specs.Prelude.{◌≡◌, ◌≤◌, ◌<◌, ℕ, true, false, List, [], ◌∷◌, ◌++◌, length, map, drop, Option, None, Result, Ok, Err, MatchResult, MatchOption}
 use Rattle.std.specs.List.{concat, slice_range}
 use Rattle.design_model.specs.declared.fault.Fault as fault
 use Rattle.design_model.specs.declared.fault.ReadError.{ReadError}
 use Rattle.design_model.specs.declared.fault.ReadError.TheVariants.{Fault, Memory}
-use Rattle.design_model.specs.declared.identifier.StmtId.{StmtId}
 use Rattle.design_model.specs.declared.mode.Mode.{Mode}
 use Rattle.design_model.specs.declared.mode.Mode.TheVariants.{Top}
 use Rattle.statement_model.specs.Tokens.{left_from, tokens}
@@ -13,7 +12,7 @@ use Rattle.lefdef_tokens.specs.Laws.{BeginsApart}
 use Rattle.def_grammar.specs.Records.{Record, def}
 use Rattle.piece_laws.specs.Pieces.{keyless, AreApart, AreChained, IsPiece, modes_from}
 use Rattle.text_pieces.specs.Chunks.{Numbers, shown, all_ids, AreOnce}
-use Rattle.text_pieces.specs.Tables.{Kept, slot, kept_at, AreChunks}
+use Rattle.text_pieces.specs.Tables.{Kept, kept_at, AreChunks}
 use Rattle.text_pieces.specs.Content.{bytes_of}
 use Rattle.text_pieces.specs.declared.opening.Part.{Part}
 
@@ -27,20 +26,6 @@ NextPiece mode text pos r =
     MatchResult r
     (λ found. MatchOption found (read_at def mode (left_from text pos) ≡ Ok None) (PieceAt mode text pos))
     (λ f. read_at def mode (left_from text pos) ≡ Err f)
-
--- what is kept under a number stays
-abbrev pub StaysKept : List (Option Kept) → List (Option Kept) → Type 0
-StaysKept old new = (n : ℕ) (k : Kept) → slice_index_or old n None ≡ Some k → slice_index_or new n None ≡ Some k
-
--- a piece is kept under a number that was free
-pub record Stores (old new : List (Option Kept)) (k : Kept) (id : StmtId) : Type 0 where
-  pub free : slot old id ≡ None
-  pub held : slot new id ≡ Some k
-  pub stays : StaysKept old new
-
--- its number comes behind others
-abbrev pub StoresBehind : List (Option Kept) → List (Option Kept) → Kept → List StmtId → List StmtId → Type 0
-StoresBehind old new k before after = (id : StmtId) × (after ≡ before ++ id ∷ []) × Stores old new k id
 
 -- the statements of a text up to a position are read as these pieces, and lead to a mode
 pub record AreRead (text : List ℕ) (ks : List Kept) (mode : Mode) (pos : ℕ) : Type 0 where

@@ -2,22 +2,30 @@
 //!
 //! Begin with `TextPieces::open`, which reads each statement of a text once, and keeps it with the blanks and comments before it
 //! as a piece of its own. `statement`, `mode` and `offset` answer by a statement's number, `find_at` finds the one at a position,
-//! `first`, `next` and `prev` go from one to another, and `write_to` writes the text. A change is prepared beside the text, as
-//! a `PreparedText`; `TextPieces::commit` makes it, takes no memory, and leaves the change that takes it back. One that is
-//! dropped changes nothing.
+//! `first`, `next` and `prev` go from one to another, and `write_to` writes the text. `TextPieces::prepare` prepares a change
+//! beside the text, as a `PreparedText`, which says how many statements were read for it, which numbers go out, and which come
+//! in; `TextPieces::commit` makes it, takes no memory, and leaves the change that takes it back. One that is dropped changes
+//! nothing, but the pieces that were made for it are kept with the text.
 //!
 //! A text in pieces is seen as `Content` of `specs/Content`: `text_of` is its text, and `specs/Statements` says which statements
 //! stand under which numbers. Its invariant is `IsText`: the pieces are chained, and the text reads but for what a text has once
-//! or needs (`keyless` of `piece_laws`). `IsBetween` of `specs/Changes` says what a prepared change is.
+//! or needs (`keyless` of `piece_laws`). `IsBetween` of `specs/Changes` says what a prepared change is, and `Prepares` of
+//! `specs/Preparing` what preparing one answers. What an edit touches is read again, and as much behind it as is needed until
+//! an old statement goes on, by `rereading`.
 //!
 //! Bytes of statements are lent. A position is an offset in bytes from 0. `open` answers `ReadError`, the fault of the first
-//! statement that can't be read or want of memory, and `write_to` `WriteFault`, where a first part of the text was written.
+//! statement that can't be read or want of memory; `prepare` answers `PrepareError`; and `write_to` `WriteFault`, where a first part
+//! of the text was written.
 #![tactic(auto)]
 
+mod behind;
 mod chunks;
 pub mod lent;
+mod lists;
 mod opening;
 pub mod prepared;
+mod storing;
+mod stretch;
 mod table;
 pub mod text;
 mod writing;

@@ -1,19 +1,19 @@
 //! Opening a text: its statements are read once, each into a piece of its own.
 
-ghost use Rattle.std.specs.Prelude.{◌≡◌, ◌≤◌, IfOk, length, map, option_map};
-ghost use Rattle.text_pieces.specs.Opening.{EndsLast, NextPiece, ReadsChunk, StoresBehind};
+ghost use Rattle.std.specs.Prelude.{◌≡◌, ◌≤◌, length, map, option_map};
+ghost use Rattle.text_pieces.specs.Opening.{EndsLast, NextPiece, ReadsChunk};
 ghost use Rattle.text_pieces.specs.Tables.{kept};
 
 use crate::chunks::Chunk;
+use crate::storing::store;
 use crate::table::Piece;
 use def_reader::read_statement::read_statement;
 use design_model::fault::{Fault, ReadError};
-use design_model::identifier::StmtId;
 use design_model::mode::Mode;
 use piece_laws::chains::{chains_join, chains_lead};
 use piece_laws::pieces::{pieces_are_read, statements_are_pieces, statements_end_before_blanks};
 use slab::Slab;
-use std::alloc::{AllocError, Allocator, Global};
+use std::alloc::{Allocator, Global};
 
 /// How many statements a chunk has where a text is opened: about as many as a text of a million has chunks, so that a search
 /// goes over as many numbers as lengths.
@@ -39,24 +39,6 @@ fn next_piece(mode: Mode, text: &[u8], pos: usize) -> Result<Option<(usize, Mode
         return Ok(None);
     };
     Ok(Some((read.end, read.place)))
-}
-
-/// Keeps a copy of bytes as a piece, and puts its number behind others.
-pub(crate) fn store<A: Allocator + Copy>(
-    alloc: A,
-    pieces: &mut Slab<Piece<A>, A>,
-    ids: &mut Vec<StmtId, A>,
-    bytes: &[u8],
-    mode: Mode,
-    chunk: usize,
-) -> Result<(), AllocError>
-    ensures { IfOk result (λ _. StoresBehind (map (option_map kept) pieces.old.slots) (map (option_map kept) pieces.new.slots) (record { mode = mode; bytes = bytes.now; chunk = chunk }) ids.old.items ids.new.items) }
-{
-    let bytes = Vec::from_slice(alloc, bytes)?;
-    pieces.reserve(1)?;
-    let id = pieces.insert_reserved(Piece { bytes, mode, chunk });
-    ids.push(StmtId(id))?;
-    Ok(())
 }
 
 /// Reads the statements of a text from a position on, as many as a chunk has or as there are, and keeps their pieces.

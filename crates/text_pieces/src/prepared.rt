@@ -1,10 +1,46 @@
 //! Changes of a text that are prepared.
 
 ghost use Rattle.std.specs.Prelude.{◌≡◌};
+ghost use Rattle.text_pieces.specs.Preparing.{unprepared};
+ghost use Rattle.text_pieces.specs.declared.prepared.PrepareError.TheVariants.{Memory as IsMemory};
 
 use crate::chunks::Change;
-use std::alloc::{Allocator, Global};
+use design_model::fault::ReadError;
+use design_model::identifier::StmtId;
+use std::alloc::{AllocError, Allocator, Global};
 use std::marker::Model;
+
+/// Why a change of a text is not prepared.
+#[derive(Clone, Copy, Debug, PartialEq, Eq)]
+pub enum PrepareError {
+    /// The places are out of order, or behind the end of the text.
+    Range,
+    /// The text would be too long.
+    TooLong,
+    /// A statement of the text couldn't be read. Which one, reading the text says.
+    Fault,
+    /// Memory was refused.
+    Memory,
+}
+
+impl From<AllocError> for PrepareError {
+    ghost from_gives = { λ _ e. e ≡ IsMemory };
+
+    fn from(_error: AllocError) -> PrepareError {
+        PrepareError::Memory
+    }
+}
+
+impl From<ReadError> for PrepareError {
+    ghost from_gives = { λ r e. e ≡ unprepared r };
+
+    fn from(error: ReadError) -> PrepareError {
+        match error {
+            ReadError::Fault(_) => PrepareError::Fault,
+            ReadError::Memory => PrepareError::Memory,
+        }
+    }
+}
 
 /// A change of a text, which is prepared and isn't made yet; or, once it is made, the change that takes it back.
 #[derive(Drop)]
@@ -12,6 +48,8 @@ pub struct PreparedText<A: Allocator = Global> {
     pub(crate) changes: Vec<Change<A>, A>,
     pub(crate) tail: Vec<u8, A>,
     pub(crate) len: usize,
+    pub(crate) out: Vec<StmtId, A>,
+    pub(crate) put: Vec<StmtId, A>,
     pub(crate) reads: u64,
 }
 
@@ -22,10 +60,24 @@ impl<A: Allocator> Model for PreparedText<A> {
 
     ghost Value = { Prepared };
 
-    ghost view = { λ p. record { changes = map shown_change p.changes.items; tail = p.tail.items; len = p.len; reads = p.reads } };
+    ghost view = { λ p. record { changes = map shown_change p.changes.items; tail = p.tail.items; len = p.len; out = p.out.items; put = p.put.items; reads = p.reads } };
 }
 
 impl<A: Allocator> PreparedText<A> {
+    /// The numbers of the statements that go out, in their order.
+    pub fn out(&self) -> &[StmtId]
+        ensures { result.now ≡ self.now.out }
+    {
+        &self.out
+    }
+
+    /// The numbers of those that come in for them, in their order.
+    pub fn put(&self) -> &[StmtId]
+        ensures { result.now ≡ self.now.put }
+    {
+        &self.put
+    }
+
     /// How many statements were read for the change.
     pub fn reads(&self) -> u64
         ensures { result ≡ self.now.reads }

@@ -1,15 +1,17 @@
 //! Pieces under the numbers of their statements, in chunks.
 
-ghost use Rattle.std.specs.Prelude.{◌≡◌, ◌<◌, ◌≤◌, ◌+◌, MatchOption, length, map, take};
+ghost use Rattle.std.specs.Prelude.{◌≡◌, ◌<◌, ◌≤◌, ◌+◌, IfOk, MatchOption, length, map, slice_get, take};
 ghost use Rattle.design_model.specs.declared.TheConstants.{MAX_TEXT};
-ghost use Rattle.text_pieces.specs.Chunks.{IsAbsent, all_ids, first_id, id_after, id_before};
+ghost use Rattle.text_pieces.specs.Behind.{ids_from};
+ghost use Rattle.text_pieces.specs.Chunks.{IsAbsent, all_ids, first_id, id_after, id_before, ids_at};
 ghost use Rattle.text_pieces.specs.Tables.{AreHome, IsTable, Stands, StandsAt, ids_of, kept, kept_at, piece_at, start_in, table_of, weight};
+ghost use Rattle.text_pieces.specs.Touched.{BeginsAt};
 
 use crate::chunks::{Chunk, first_from, last_before, place_in};
 use design_model::identifier::StmtId;
 use design_model::mode::Mode;
 use slab::Slab;
-use std::alloc::{Allocator, Global};
+use std::alloc::{AllocError, Allocator, Global};
 
 /// A statement with the blanks and comments before it, the mode in which it stands, and the chunk that has its number.
 #[derive(Drop)]
@@ -17,6 +19,14 @@ pub(crate) struct Piece<A: Allocator = Global> {
     pub(crate) bytes: Vec<u8, A>,
     pub(crate) mode: Mode,
     pub(crate) chunk: usize,
+}
+
+/// A place of a chunk, and where the piece there begins.
+#[derive(Clone, Copy)]
+pub(crate) struct Place {
+    pub(crate) chunk: usize,
+    pub(crate) index: usize,
+    pub(crate) start: usize,
 }
 
 /// Pieces under the numbers of their statements. Those whose number is in no chunk don't stand in the text.
@@ -47,7 +57,7 @@ impl<A: Allocator> PieceTable<A> {
     }
 
     /// How many bytes the pieces of some numbers have.
-    fn weight(&self, ids: &[StmtId], chunk: usize) -> usize
+    pub(crate) fn weight(&self, ids: &[StmtId], chunk: usize) -> usize
         requires kept { AreHome (table_of self.now).slots chunk ids.now }
         requires fits { weight (table_of self.now).slots ids.now ≤ MAX_TEXT }
         ensures { result ≡ weight (table_of self.now).slots ids.now }
@@ -121,6 +131,114 @@ impl<A: Allocator> PieceTable<A> {
             start = end;
         }
         None
+    }
+
+    /// The statement from a place of a chunk on before which so many others stand there.
+    pub(crate) fn id_from(&self, chunk: usize, place: usize, count: usize) -> Option<StmtId>
+        requires { place ≤ length (ids_at (table_of self.now).chunks chunk) }
+        ensures { result ≡ slice_get (ids_from (table_of self.now).chunks chunk place) count }
+    {
+        let mut place = place;
+        let mut left = count;
+        for k in chunk..self.chunks.len() {
+            let ids = self.chunks[k].ids.as_slice();
+            if left < ids.len() - place {
+                return Some(ids[place + left]);
+            }
+            left -= ids.len() - place;
+            place = 0;
+        }
+        None
+    }
+
+    /// So many numbers from a place of a chunk on, or those that there are.
+    pub(crate) fn ids_at_most(
+        &self,
+        alloc: A,
+        chunk: usize,
+        place: usize,
+        count: usize,
+    ) -> Result<Vec<StmtId, A>, AllocError>
+        requires { place ≤ length (ids_at (table_of self.now).chunks chunk) }
+        ensures { IfOk result (λ v. v.items ≡ take count (ids_from (table_of self.now).chunks chunk place)) }
+    {
+        let mut ids = Vec::new(alloc);
+        for k in 0..count {
+            let Some(id) = self.id_from(chunk, place, k) else {
+                return Ok(ids);
+            };
+            ids.push(id)?;
+        }
+        Ok(ids)
+    }
+
+    /// How many statements stand from a place of a chunk on.
+    pub(crate) fn count_from(&self, chunk: usize, place: usize) -> usize
+        requires within { chunk < length (table_of self.now).chunks }
+        requires inside { place ≤ length (ids_at (table_of self.now).chunks chunk) }
+        requires few { length (ids_of (table_of self.now)) ≤ MAX_TEXT }
+        ensures { result ≡ length (ids_from (table_of self.now).chunks chunk place) }
+    {
+        let mut count = self.chunks[chunk].ids.len() - place;
+        for k in chunk + 1..self.chunks.len() {
+            count += self.chunks[k].ids.len();
+        }
+        count
+    }
+
+    /// The first of some numbers whose piece ends at a position or behind it, or the end of them, and where it begins, where the
+    /// first's piece begins at a position.
+    fn first_in(&self, ids: &[StmtId], chunk: usize, from: usize, pos: usize) -> (usize, usize)
+        requires kept { AreHome (table_of self.now).slots chunk ids.now }
+        requires fits { from + weight (table_of self.now).slots ids.now ≤ MAX_TEXT }
+        ensures inside { result.0 ≤ length ids.now }
+        ensures start { result.1 ≡ from + weight (table_of self.now).slots (take result.0 ids.now) }
+        ensures low { 0 < result.0 → result.1 < pos }
+    {
+        let mut start = from;
+        for i in 0..ids.len() {
+            let end = start + self.pieces[ids[i].0].bytes.len();
+            if pos <= end {
+                return (i, start);
+            }
+            start = end;
+        }
+        (ids.len(), start)
+    }
+
+    /// The first chunk whose pieces end at a position or behind it, or the last, and where they begin.
+    fn chunk_touched(&self, pos: usize) -> (usize, usize)
+        requires table { IsTable (table_of self.now) }
+        requires some { 0 < length (table_of self.now).chunks }
+        ensures within { result.0 < length (table_of self.now).chunks }
+        ensures start { result.1 ≡ weight (table_of self.now).slots (all_ids (take result.0 (table_of self.now).chunks)) }
+        ensures low { 0 < result.0 → result.1 < pos }
+    {
+        let last = self.chunks.len() - 1;
+        let mut start = 0;
+        for k in 0..last {
+            let end = start + self.chunks[k].len;
+            if pos <= end {
+                return (k, start);
+            }
+            start = end;
+        }
+        (last, start)
+    }
+
+    /// The first piece that ends at a position or behind it, or the end of all.
+    pub(crate) fn first_touched(&self, pos: usize) -> Place
+        requires table { IsTable (table_of self.now) }
+        requires some { 0 < length (table_of self.now).chunks }
+        ensures { BeginsAt (table_of self.now) pos result }
+    {
+        let (chunk, from) = self.chunk_touched(pos);
+        let (index, start) = self.first_in(&self.chunks[chunk].ids, chunk, from, pos);
+        Place {
+            chunk,
+            index,
+            start,
+        }
     }
 
     /// The first statement.

@@ -9,11 +9,16 @@ ghost use Rattle.text_pieces.specs.Chunks.{AreOnce, first_id, id_after, id_befor
 ghost use Rattle.text_pieces.specs.Changes.{IsBetween};
 ghost use Rattle.text_pieces.specs.Content.{Content, Opens, read_keyless, text_of};
 ghost use Rattle.text_pieces.specs.Statements.{bytes_in, lead, lent_bytes, look_up, modes_by_number, number_at, spans_by_number, statements_of};
+ghost use Rattle.text_pieces.specs.Preparing.{Prepares, StandsStill};
+ghost use Rattle.text_pieces.specs.Stretches.{ReadsStretch, cut_text};
 ghost use Rattle.text_pieces.specs.Tables.{ids_of};
 
+use crate::behind::Behind;
 use crate::chunks::exchange;
+use crate::lists::place_new;
 use crate::opening::read_chunk;
-use crate::prepared::PreparedText;
+use crate::prepared::{PrepareError, PreparedText};
+use crate::stretch::{Stretch, first_mode, spliced, tail_after, touched};
 use crate::table::PieceTable;
 use crate::writing::write_pieces;
 use counted_devices::counted::CountedWrite;
@@ -22,8 +27,9 @@ use design_model::MAX_TEXT;
 use design_model::fault::{Fault, FaultCode, ReadError};
 use design_model::identifier::StmtId;
 use design_model::mode::Mode;
-use lefdef_tokens::token_at;
-use piece_laws::pieces::{tails_are_found, tails_may_end, texts_are_read};
+use lefdef_tokens::{token_at, tokens_move};
+use piece_laws::pieces::{pieces_are_read, tails_are_found, tails_may_end, texts_are_read};
+use rereading::reread::reread;
 use slab::Slab;
 use std::alloc::{Allocator, Global};
 use std::marker::Model;
@@ -119,6 +125,35 @@ impl<A: Allocator + Copy> TextPieces<A> {
         put <= MAX_TEXT - stays
     }
 
+    /// Reads again what an edit touches, and as much behind it as is needed.
+    fn stretch(&self, alloc: A, lo: usize, hi: usize, put: &[u8]) -> Result<Stretch<A>, ReadError>
+        requires order { lo ≤ hi }
+        requires within { hi ≤ length (text_of self.now) }
+        requires fits { length (cut_text self.now (record { lo = lo; hi = hi; put = put.now })) ≤ MAX_TEXT }
+        ensures { ReadsStretch self.now (record { lo = lo; hi = hi; put = put.now }) result }
+    {
+        pieces_are_read();
+        tails_may_end();
+        tokens_move();
+        let at = self.table.first_touched(lo);
+        let behind = Behind::from_place(&self.table, &self.tail, at.chunk, at.index);
+        let mode = first_mode(&behind);
+        let (old, passed) = touched(alloc, &behind, hi - at.start)?;
+        let raw = spliced(alloc, &old, lo - at.start, hi - at.start, put)?;
+        let later = behind.after(passed);
+        let new = reread(alloc, mode, &raw, &later)?;
+        let out = passed + new.used;
+        let tail = tail_after(alloc, &later, new.used, new.rest, &self.tail)?;
+        Ok(Stretch {
+            chunk: at.chunk,
+            index: at.index,
+            out,
+            pieces: new.pieces,
+            tail,
+            reads: new.reads,
+        })
+    }
+
     /// The bytes of a statement, from its first token to its last.
     pub fn statement(&self, id: StmtId) -> Option<&[u8]>
         ensures { option_map lent_bytes result ≡ option_map (bytes_in (text_of self.now)) (look_up id (spans_by_number self.now)) }
@@ -200,6 +235,46 @@ impl<A: Allocator + Copy> TextPieces<A> {
         let _ = &self.table;
     }
 
+    /// Prepares the change of the text by which these bytes give way to others. What stands stays, whatever the answer is.
+    pub fn prepare(
+        &mut self,
+        alloc: A,
+        lo: usize,
+        hi: usize,
+        put: &[u8],
+    ) -> Result<PreparedText<A>, PrepareError>
+        ensures prepares { Prepares self.old self.new (record { lo = lo; hi = hi; put = put.now }) result }
+        ensures still { StandsStill self.old self.new }
+    {
+        if lo > hi || hi > self.len {
+            return Err(PrepareError::Range);
+        }
+        if !self.fits(lo, hi, put.len()) {
+            return Err(PrepareError::TooLong);
+        }
+        let stretch = self.stretch(alloc, lo, hi, put)?;
+        let len = self.len - (hi - lo) + put.len();
+        let out = self
+            .table
+            .ids_at_most(alloc, stretch.chunk, stretch.index, stretch.out)?;
+        let (changes, put) = place_new(
+            alloc,
+            &mut self.table,
+            stretch.chunk,
+            stretch.index,
+            stretch.out,
+            stretch.pieces,
+        )?;
+        Ok(PreparedText {
+            changes,
+            tail: stretch.tail,
+            len,
+            out,
+            put,
+            reads: stretch.reads,
+        })
+    }
+
     /// Exchanges the two contents of a change, which takes no memory. The same change then leads back.
     pub fn commit(&mut self, change: &mut PreparedText<A>)
         requires { (base : Content) × (other : Content) × IsBetween self.old change.old base other }
@@ -208,5 +283,6 @@ impl<A: Allocator + Copy> TextPieces<A> {
         exchange(&mut self.table.chunks, &mut change.changes);
         std::mem::swap(&mut self.tail, &mut change.tail);
         std::mem::swap(&mut self.len, &mut change.len);
+        std::mem::swap(&mut change.out, &mut change.put);
     }
 }

@@ -3,7 +3,7 @@ use Rattle.std.specs.Prelude.{option_map}
 use Rattle.std.proofs.lemmas.Result.{err_from_is_err_and}
 use Rattle.text_pieces.specs.Tables.{kept}
 use Rattle.text_pieces.proofs.ReadPieces.{read_fault}
-use Rattle.text_pieces.proofs.Storing.{opened_empty, opened_more}
+use Rattle.text_pieces.proofs.StoredPieces.{opened_empty, opened_more}
 use Rattle.text_pieces.proofs.opening.read_chunk.Goals as goal
 
 pub statements-init : goal.statements-init

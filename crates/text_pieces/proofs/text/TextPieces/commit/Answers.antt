@@ -9,7 +9,7 @@ returns g c = record {
   exchanged = λ base other b.
       let chunks = with_items_is c.self.inside.table.chunks c.exchange.new.chunks (omega arith) in
       let changes = with_items_is c.change.inside.changes c.exchange.new.changes (omega arith) in
-      rw (c.swap.ensures.x_after, c.swap.ensures.y_after, c.swap-2.ensures.x_after, c.swap-2.ensures.y_after) (
+      rw (c.swap.ensures.x_after, c.swap.ensures.y_after, c.swap-2.ensures.x_after, c.swap-2.ensures.y_after, c.swap-3.ensures.x_after, c.swap-3.ensures.y_after) (
       finish _ _ _ _ base other c.self.invariant (rw (← c.self.view_is, ← c.change.view_is) at b)
       (ap (map shown) chunks ∙ rw (c.deref_mut.ensures.value, c.deref_mut-2.ensures.value) at c.exchange.ensures.chunks)
       (ap (map shown_change) changes ∙ rw (c.deref_mut.ensures.value, c.deref_mut-2.ensures.value) at c.exchange.ensures.changes));

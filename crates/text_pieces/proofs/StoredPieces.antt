@@ -8,19 +8,20 @@ use Rattle.design_model.specs.declared.mode.Mode.{Mode}
 use Rattle.def_grammar.specs.Records.{def}
 use Rattle.piece_laws.specs.ChainLaws.{ChainsJoin, ChainsLead}
 use Rattle.text_pieces.specs.Chunks.{Numbers, all_ids, IsAbsent, AreOnce}
-use Rattle.text_pieces.specs.Opening.{AreRead, IsOpened, PieceAt, StaysKept, Stores}
+use Rattle.text_pieces.specs.Opening.{AreRead, IsOpened, PieceAt}
+use Rattle.text_pieces.specs.Storing.{AreFree, StaysKept, Stores, StoresAll}
 use Rattle.text_pieces.specs.declared.table.Piece.{Piece}
 use Rattle.text_pieces.specs.Tables.{Kept, kept, slot, kept_at, kept_or, weight, AreHome, AreChunks}
 use Rattle.text_pieces.proofs.Ids.{absent_append, all_ids_append}
 use Rattle.text_pieces.proofs.ReadPieces.{range_long, read_on}
-use Rattle.text_pieces.proofs.Slots.{slot_map, unheld}
+use Rattle.text_pieces.proofs.Slots.{slot_map, unheld, unheld_home}
 use Rattle.text_pieces.proofs.Weights.{weight_append}
 
 module _ (old new : List (Option Kept)) (stays : StaysKept old new) where
   held_stays : (id : StmtId) → slot old id ≡ Some (kept_at old id) → slot new id ≡ slot old id
   held_stays id h = stays id.0 (kept_at old id) h ∙ sym h
 
-  kept_stays : (id : StmtId) → slot old id ≡ Some (kept_at old id) → kept_at new id ≡ kept_at old id
+  pub kept_stays : (id : StmtId) → slot old id ≡ Some (kept_at old id) → kept_at new id ≡ kept_at old id
   kept_stays id h = ap kept_or (held_stays id h)
 
   -- numbers of a chunk keep what is kept under them
@@ -28,7 +29,7 @@ module _ (old new : List (Option Kept)) (stays : StaysKept old new) where
   ids_stay k [] h = refl
   ids_stay k (x ∷ xs) h = ap₂ (λ (p : Kept) (ps : List Kept). p ∷ ps) (kept_stays x h.0) (ids_stay k xs h.2)
 
-  home_stays : (k : ℕ) (ids : List StmtId) → AreHome old k ids → AreHome new k ids
+  pub home_stays : (k : ℕ) (ids : List StmtId) → AreHome old k ids → AreHome new k ids
   home_stays k [] h = tt
   home_stays k (x ∷ xs) h =
       let e = kept_stays x h.0 in
@@ -49,7 +50,7 @@ module _ (old new : List (Option Kept)) (stays : StaysKept old new) where
       ∙ ap₂ (λ (ps qs : List Kept). ps ++ qs) (ids_stay k c.ids h.0) (all_stay (suc k) cs h.2)
       ∙ sym (map-append (kept_at old) c.ids (all_ids cs))
 
-home_append : (slots : List (Option Kept)) (k : ℕ) (xs ys : List StmtId) → AreHome slots k xs → AreHome slots k ys → AreHome slots k (xs ++ ys)
+pub home_append : (slots : List (Option Kept)) (k : ℕ) (xs ys : List StmtId) → AreHome slots k xs → AreHome slots k ys → AreHome slots k (xs ++ ys)
 home_append slots k [] ys h i = i
 home_append slots k (x ∷ xs) ys h i = (h.0, h.1, home_append slots k xs ys h.2 i)
 
@@ -128,4 +129,33 @@ stores_is old mid new key p bytes same free updates is =
           let was : option_map kept (get_or old.slots n None) ≡ Some k = sym (slot_map kept old.slots n) ∙ h in
           let apart : n ≢ key = λ (e : n ≡ key). let gone : None ≡ Some k = ap (option_map kept) (sym none) ∙ ap (λ (m : ℕ). option_map kept (get_or old.slots m None)) (sym e) ∙ was in absurd (cc) in
           slot_map kept new.slots n ∙ ap (option_map kept) (updates.others n apart ∙ ap (λ (l : List (Option (Piece _))). get_or l n None) same) ∙ was;
+    }
+
+free_append : (slots : List (Option Kept)) (xs ys : List StmtId) → AreFree slots xs → AreFree slots ys → AreFree slots (xs ++ ys)
+free_append slots [] ys h k = k
+free_append slots (x ∷ xs) ys h k = (h.0, free_append slots xs ys h.1 k)
+
+-- a number that is free after others were put was free before
+free_before : (old mid : List (Option Kept)) (id : StmtId) (o : Option Kept) → StaysKept old mid → slot mid id ≡ None → slot old id ≡ o → slot old id ≡ None
+free_before old mid id None stays free is = is
+free_before old mid id (Some k) stays free is = let there = stays id.0 k is in absurd (cc)
+
+pub stays_on : (old mid new : List (Option Kept)) → StaysKept old mid → StaysKept mid new → StaysKept old new
+stays_on old mid new h k n p e = k n p (h n p e)
+
+pub all_none : (slots : List (Option Kept)) (chunk : ℕ) (before : List StmtId) → StoresAll slots slots [] chunk before before
+all_none slots chunk before = record { ids = []; is = sym (append-nil before); free = tt; once = tt; home = tt; kept = refl }
+
+-- one more
+pub all_more : (old mid new : List (Option Kept)) (ks : List Kept) (chunk : ℕ) (before after later : List StmtId) (k : Kept) (id : StmtId) → StoresAll old mid ks chunk before after → StaysKept old mid → Stores mid new k id
+    → k.chunk ≡ chunk → later ≡ after ++ id ∷ [] → StoresAll old new (ks ++ k ∷ []) chunk before later
+all_more old mid new ks chunk before after later k id a stays s same is =
+    let own : kept_at new id ≡ k = ap kept_or s.held in
+    record {
+      ids = a.ids ++ id ∷ [];
+      is = is ∙ ap (λ (l : List StmtId). l ++ id ∷ []) a.is ∙ append_assoc before a.ids (id ∷ []);
+      free = free_append old a.ids (id ∷ []) a.free (free_before old mid id (slot old id) stays s.free refl, tt);
+      once = once_more a.ids id a.once (unheld_home mid chunk a.ids id a.home s.free);
+      home = home_append new chunk a.ids (id ∷ []) (home_stays mid new s.stays chunk a.ids a.home) (s.held ∙ ap (λ (p : Kept). Some p) (sym own), ap (λ (p : Kept). p.chunk) own ∙ same, tt);
+      kept = map-append (kept_at new) a.ids (id ∷ []) ∙ ap₂ (λ (ps : List Kept) (p : Kept). ps ++ p ∷ []) (ids_stay mid new s.stays chunk a.ids a.home ∙ a.kept) own;
     }

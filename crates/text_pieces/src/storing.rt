@@ -1,0 +1,60 @@
+//! Pieces that are put under numbers.
+
+ghost use Rattle.std.specs.Prelude.{IfOk, map, option_map};
+ghost use Rattle.text_pieces.specs.Storing.{StaysKept, StoresAll, StoresBehind, news_of};
+ghost use Rattle.text_pieces.specs.Tables.{kept};
+
+use crate::table::Piece;
+use design_model::identifier::StmtId;
+use design_model::mode::Mode;
+use rereading::pieces::NewPiece;
+use slab::Slab;
+use std::alloc::{AllocError, Allocator};
+
+/// Keeps a piece, and puts its number behind others.
+fn keep<A: Allocator + Copy>(
+    pieces: &mut Slab<Piece<A>, A>,
+    ids: &mut Vec<StmtId, A>,
+    piece: Piece<A>,
+) -> Result<(), AllocError>
+    ensures kept { IfOk result (λ _. StoresBehind (map (option_map kept) pieces.old.slots) (map (option_map kept) pieces.new.slots) (kept piece) ids.old.items ids.new.items) }
+    ensures stays { StaysKept (map (option_map kept) pieces.old.slots) (map (option_map kept) pieces.new.slots) }
+{
+    pieces.reserve(1)?;
+    let id = pieces.insert_reserved(piece);
+    ids.push(StmtId(id))?;
+    Ok(())
+}
+
+/// Keeps a copy of bytes as a piece, and puts its number behind others.
+pub(crate) fn store<A: Allocator + Copy>(
+    alloc: A,
+    pieces: &mut Slab<Piece<A>, A>,
+    ids: &mut Vec<StmtId, A>,
+    bytes: &[u8],
+    mode: Mode,
+    chunk: usize,
+) -> Result<(), AllocError>
+    ensures { IfOk result (λ _. StoresBehind (map (option_map kept) pieces.old.slots) (map (option_map kept) pieces.new.slots) (record { mode = mode; bytes = bytes.now; chunk = chunk }) ids.old.items ids.new.items) }
+{
+    let bytes = Vec::from_slice(alloc, bytes)?;
+    keep(pieces, ids, Piece { bytes, mode, chunk })
+}
+
+/// Keeps new pieces as those of a chunk, and puts their numbers behind others. What was kept stays, also where memory is
+/// refused.
+pub(crate) fn store_all<A: Allocator + Copy>(
+    pieces: &mut Slab<Piece<A>, A>,
+    ids: &mut Vec<StmtId, A>,
+    new: Vec<NewPiece<A>, A>,
+    chunk: usize,
+) -> Result<(), AllocError>
+    ensures kept { IfOk result (λ _. StoresAll (map (option_map kept) pieces.old.slots) (map (option_map kept) pieces.new.slots) (news_of chunk new.items) chunk ids.old.items ids.new.items) }
+    ensures stays { StaysKept (map (option_map kept) pieces.old.slots) (map (option_map kept) pieces.new.slots) }
+{
+    for piece in new {
+        let NewPiece { bytes, mode } = piece;
+        keep(pieces, ids, Piece { bytes, mode, chunk })?;
+    }
+    Ok(())
+}
