@@ -46,7 +46,7 @@ pub struct TextPieces<A: Allocator = Global> {
 
 impl<A: Allocator> Model for TextPieces<A> {
     ghost use Rattle.text_pieces.specs.Covering.{HasNoCover, IsCover, PreparesAll, cut_of};
-ghost use Rattle.text_pieces.specs.Content.{Content, IsText};
+    ghost use Rattle.text_pieces.specs.Content.{Content, IsText};
     ghost use Rattle.text_pieces.specs.Tables.{table_of};
 
     ghost Value = { Content };
