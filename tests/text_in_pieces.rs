@@ -6,7 +6,7 @@ use design_model::identifier::StmtId;
 use design_model::mode::{Mode, Section};
 use std::alloc::{AllocError, Global};
 use std::test::Fail;
-use text_pieces::prepared::PrepareError;
+use text_pieces::prepared::{PrepareError, TextCut};
 use text_pieces::text::TextPieces;
 
 const TEXT: &[u8] = b"VERSION 5.8 ;\nDESIGN d ;\n# two\nCOMPONENTS 2 ;\n- u1 INV ;\n- u2 INV ;\nEND COMPONENTS\nEND DESIGN\n";
@@ -150,6 +150,25 @@ fn changes_at_both_ends(rt: HostRuntime) -> Result<(), Fail> {
     assert_eq!(rt; (all.reads(), all.out().len()), (2, 7));
     text.commit(&mut all);
     assert!(rt; writes(&text, b"DESIGN e ;\nEND DESIGN\n", rt.alloc()));
+    Ok(())
+}
+
+#[test]
+fn change_of_several_cuts(rt: HostRuntime) -> Result<(), Fail> {
+    let mut text = TextPieces::open(rt.alloc(), TEXT)?;
+    let cuts = [
+        TextCut { lo: 48, hi: 50, put: b"a" },
+        TextCut { lo: 57, hi: 57, put: b"- b INV ;\n" },
+        TextCut { lo: 62, hi: 65, put: b"BUF" },
+    ];
+    let mut change = text.prepare_all(rt.alloc(), &cuts)?;
+    assert_eq!(rt; (change.out().len(), change.put().len()), (2, 3));
+    text.commit(&mut change);
+    assert!(rt; writes(&text, b"VERSION 5.8 ;\nDESIGN d ;\n# two\nCOMPONENTS 2 ;\n- a INV ;\n- b INV ;\n- u2 BUF ;\nEND COMPONENTS\nEND DESIGN\n", rt.alloc()));
+    let turned = [cuts[1], cuts[0]];
+    assert_eq!(rt; text.prepare_all(rt.alloc(), &turned).err(), Some(PrepareError::Range));
+    let none = text.prepare_all(rt.alloc(), &[])?;
+    assert_eq!(rt; none.out().len(), none.put().len());
     Ok(())
 }
 

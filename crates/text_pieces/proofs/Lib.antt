@@ -1,4 +1,5 @@
 mod Chains
+mod CoveredCuts
 mod Exchanges
 mod FaultsBehind
 mod Found

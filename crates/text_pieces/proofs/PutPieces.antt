@@ -172,7 +172,7 @@ module _ (c : Content) (t : IsText c) (new : List (Option Kept)) (stays : StaysK
     own_put cs = IsPut c.table (record { chunks = cs; slots = new }) x.chunk x.index x.out (news_of x.chunk x.pieces.items) changes ids
 
     abbrev own_prepared : List Numbers → Type 0
-    own_prepared cs = IsPrepared c (still cs) cut (record { changes = changes; tail = x.tail.items; len = len; out = out; put = ids; reads = x.reads })
+    own_prepared cs = IsPrepared c (still cs) (cut_text c cut) (record { changes = changes; tail = x.tail.items; len = len; out = out; put = ids; reads = x.reads })
 
     prepared_there : own_put c.table.chunks → own_prepared c.table.chunks
     prepared_there put =

@@ -199,6 +199,20 @@ module _ (c : Content) (t : IsText c) (lo hi : ℕ) (put : List ℕ) (p : Place)
         ap (with_cuts (the_cut ∷ [])) (text_is c t p.chunk p.index b.within ∙ ap (λ (l : List ℕ). concat (bytes_of F) ++ l) old_is)
         ∙ cut_behind (concat (bytes_of F)) old D put p.start lo hi start_is start_low order room)
 
+    -- the bytes between the places
+    pub range_is : slice_range (text_of c) lo hi ≡ slice_range old (lo - p.start) (hi - p.start)
+    range_is =
+        let low = start_low in
+        let a = lo - p.start in
+        let front_bytes = concat (bytes_of F) in
+        let text : text_of c ≡ front_bytes ++ (old ++ D) = text_is c t p.chunk p.index b.within ∙ ap (λ (l : List ℕ). front_bytes ++ l) old_is in
+        let lo_is : lo ≡ length front_bytes + a = omega (arith, low, start_is) in
+        let size : hi - lo ≡ (hi - p.start) - (lo - p.start) = omega (arith, low, order) in
+        let behind : drop lo (text_of c) ≡ drop a old ++ D =
+        ap (drop lo) text ∙ ap (λ (n : ℕ). drop n (front_bytes ++ (old ++ D))) lo_is ∙ sym (drop-drop a (length front_bytes) (front_bytes ++ (old ++ D)))
+        ∙ ap (drop a) (drop_at front_bytes (old ++ D) (length front_bytes) refl) ∙ drop-append-le a old D (omega (arith, room, order)) in
+        ap (take (hi - lo)) behind ∙ take-append-le (hi - lo) (drop a old) D (omega (arith, room, order, low, length-drop a old)) ∙ ap (λ (n : ℕ). take n (drop a old)) size
+
     begins : 0 < length (bytes_of F) → BeginsApart (raw ++ D)
     begins some =
         let ids = ids_before c.table.chunks p.chunk p.index in

@@ -2,6 +2,7 @@ pub mod Behind
 pub mod Changes
 pub mod Chunks
 pub mod Content
+pub mod Covering
 pub mod Lent
 pub mod Lists
 pub mod Opening

@@ -34,19 +34,19 @@ pub record IsPut (old new : Table) (k i out : ℕ) (ks : List Kept) (changes : L
 abbrev pub put_bytes : Table → ℕ → ℕ → ℕ → List Kept → List ℕ
 put_bytes t k i out ks = concat (bytes_of (map (kept_at t.slots) (ids_before t.chunks k i) ++ (ks ++ map (kept_at t.slots) (ids_left t.chunks k i out))))
 
--- A change is prepared: it leads from the content to another one, whose text is the old one with the cut made. The numbers that
--- come in were free, and are as many as statements were read.
-pub record IsPrepared (old new : Content) (cut : Cut) (p : Prepared) : Type 0 where
+-- A change is prepared: it leads from the content to another one, whose text is what is to be made of the old one. The
+-- numbers that come in were free, and are as many as statements were read.
+pub record IsPrepared (old new : Content) (made : List ℕ) (p : Prepared) : Type 0 where
   pub other : Content
   pub between : IsBetween new p new other
-  pub text : text_of other ≡ cut_text old cut
+  pub text : text_of other ≡ made
   pub free : AreFree old.table.slots p.put
   pub read : p.reads ≡ length p.put
 
 -- what preparing answers: a change; or that the places are out of order or past the end, that the text would be too long, or
 -- that it would have a fault; refused memory says nothing
 abbrev pub Prepares : Content → Content → Cut → Result Prepared PrepareError → Type 0
-Prepares old new cut (Ok p) = IsPrepared old new cut p
+Prepares old new cut (Ok p) = IsPrepared old new (cut_text old cut) p
 Prepares old new cut (Err Range) = cut.lo ≤ cut.hi → length (text_of old) < cut.hi
 Prepares old new cut (Err TooLong) = (cut.lo ≤ cut.hi) × (cut.hi ≤ length (text_of old)) × (MAX_TEXT < length (cut_text old cut))
 Prepares old new cut (Err Fault) = (e : fault.Fault) × (read_keyless (cut_text old cut) ≡ Err e)

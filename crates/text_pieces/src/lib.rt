@@ -5,7 +5,7 @@
 //! `first`, `next` and `prev` go from one to another, and `write_to` writes the text. `TextPieces::prepare` prepares a change
 //! beside the text, as a `PreparedText`, which says how many statements were read for it, which numbers go out, and which come
 //! in; `TextPieces::commit` makes it, takes no memory, and leaves the change that takes it back. One that is dropped changes
-//! nothing, but the pieces that were made for it are kept with the text.
+//! nothing, but the pieces that were made for it are kept with the text. `prepare_all` prepares several cuts as one change.
 //!
 //! A text in pieces is seen as `Content` of `specs/Content`: `text_of` is its text, and `specs/Statements` says which statements
 //! stand under which numbers. Its invariant is `IsText`: the pieces are chained, and the text reads but for what a text has once

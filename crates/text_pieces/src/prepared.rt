@@ -1,6 +1,6 @@
 //! Changes of a text that are prepared.
 
-ghost use Rattle.std.specs.Prelude.{◌≡◌};
+ghost use Rattle.std.specs.Prelude.{◌≡◌, ◌≤◌, true, false};
 ghost use Rattle.text_pieces.specs.Preparing.{unprepared};
 ghost use Rattle.text_pieces.specs.declared.prepared.PrepareError.TheVariants.{Memory as IsMemory};
 
@@ -39,6 +39,24 @@ impl From<ReadError> for PrepareError {
             ReadError::Fault(_) => PrepareError::Fault,
             ReadError::Memory => PrepareError::Memory,
         }
+    }
+}
+
+/// Bytes that take the place of those of a text from `lo` up to `hi`.
+#[derive(Clone, Copy)]
+pub struct TextCut<'t> {
+    pub lo: usize,
+    pub hi: usize,
+    pub put: &'t [u8],
+}
+
+impl<'t> TextCut<'t> {
+    /// Whether the cut stands in order, from a position on, within a length.
+    pub(crate) fn follows(&self, at: usize, len: usize) -> bool
+        ensures yes { result ≡ true → (at ≤ self.now.lo) × (self.now.lo ≤ self.now.hi) × (self.now.hi ≤ len) }
+        ensures no { result ≡ false → (at ≤ self.now.lo) × (self.now.lo ≤ self.now.hi) × (self.now.hi ≤ len) → ⊥ }
+    {
+        at <= self.lo && self.lo <= self.hi && self.hi <= len
     }
 }
 

@@ -1,6 +1,7 @@
 //! Reading a stretch of a text in pieces again.
 
-ghost use Rattle.std.specs.Prelude.{◌≡◌, ◌≤◌, ◌++◌, IfOk, MatchOption, Some, drop, length, slice_get, take};
+ghost use Rattle.std.specs.Prelude.{◌≡◌, ◌≤◌, ◌++◌, IfOk, MatchOption, OnOk, Some, drop, length, slice_get, take};
+ghost use Rattle.std.specs.List.{slice_range};
 ghost use Rattle.design_model.specs.declared.mode.Mode.{Mode as ModeValue};
 ghost use Rattle.rereading.specs.Segments.{mode_at};
 ghost use Rattle.text_pieces.specs.Touched.{AreTouched};
@@ -60,6 +61,21 @@ pub(crate) fn spliced<A: Allocator + Copy>(
     made.extend_from_slice(put)?;
     made.extend_from_slice(&bytes[hi..])?;
     Ok(made)
+}
+
+/// Appends the bytes between two positions of some.
+pub(crate) fn append_part<A: Allocator + Copy>(
+    out: &mut Vec<u8, A>,
+    bytes: &[u8],
+    lo: usize,
+    hi: usize,
+) -> Result<(), AllocError>
+    requires order { lo ≤ hi }
+    requires within { hi ≤ length bytes.now }
+    ensures { OnOk result (out.new.items ≡ out.old.items ++ slice_range bytes.now lo hi) }
+{
+    out.extend_from_slice(&bytes[lo..hi])?;
+    Ok(())
 }
 
 /// The mode in which the first of some segments stands.

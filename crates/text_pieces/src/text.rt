@@ -1,12 +1,14 @@
 //! A text in pieces.
 
-ghost use Rattle.std.specs.Prelude.{◌≡◌, ◌<◌, ◌≤◌, ◌+◌, ◌-◌, ◌^◌, Ok, OnErr, OnOk, length, map, nat_le, option_map};
+ghost use Rattle.std.specs.Prelude.{◌≡◌, ◌<◌, ◌≤◌, ◌+◌, ◌-◌, ◌^◌, ◌++◌, IfErr, IfOk, Ok, OnErr, OnOk, length, map, nat_le, option_map};
+ghost use Rattle.std.specs.List.{slice_range};
 ghost use Rattle.std.specs.Io.KnownBytes.{Appends};
 ghost use Rattle.counted_devices.specs.Counting.{HasFailed};
 ghost use Rattle.counted_devices.specs.Known.{WritesPart};
 ghost use Rattle.design_model.specs.declared.TheConstants.{MAX_TEXT};
 ghost use Rattle.text_pieces.specs.Chunks.{AreOnce, first_id, id_after, id_before};
 ghost use Rattle.text_pieces.specs.Changes.{IsBetween};
+ghost use Rattle.text_pieces.specs.Covering.{HasNoCover, IsCover, PreparesAll, cut_of};
 ghost use Rattle.text_pieces.specs.Content.{Content, Opens, read_keyless, text_of};
 ghost use Rattle.text_pieces.specs.Statements.{bytes_in, lead, lent_bytes, look_up, modes_by_number, number_at, spans_by_number, statements_of};
 ghost use Rattle.text_pieces.specs.Preparing.{Prepares, StandsStill};
@@ -17,8 +19,8 @@ use crate::behind::Behind;
 use crate::chunks::exchange;
 use crate::lists::place_new;
 use crate::opening::read_chunk;
-use crate::prepared::{PrepareError, PreparedText};
-use crate::stretch::{Stretch, first_mode, spliced, tail_after, touched};
+use crate::prepared::{PrepareError, PreparedText, TextCut};
+use crate::stretch::{Stretch, append_part, first_mode, spliced, tail_after, touched};
 use crate::table::PieceTable;
 use crate::writing::write_pieces;
 use counted_devices::counted::CountedWrite;
@@ -31,7 +33,7 @@ use lefdef_tokens::{token_at, tokens_move};
 use piece_laws::pieces::{pieces_are_read, tails_are_found, tails_may_end, texts_are_read};
 use rereading::reread::reread;
 use slab::Slab;
-use std::alloc::{Allocator, Global};
+use std::alloc::{AllocError, Allocator, Global};
 use std::marker::Model;
 
 /// A text as the pieces of its statements, and the bytes behind the last of them.
@@ -43,6 +45,7 @@ pub struct TextPieces<A: Allocator = Global> {
 }
 
 impl<A: Allocator> Model for TextPieces<A> {
+    ghost use Rattle.text_pieces.specs.Covering.{HasNoCover, IsCover, PreparesAll, cut_of};
     ghost use Rattle.text_pieces.specs.Content.{Content, IsText};
     ghost use Rattle.text_pieces.specs.Tables.{table_of};
 
@@ -273,6 +276,69 @@ impl<A: Allocator + Copy> TextPieces<A> {
             put,
             reads: stretch.reads,
         })
+    }
+
+    /// Appends the bytes of the text from one position to another.
+    fn append_range(
+        &self,
+        alloc: A,
+        out: &mut Vec<u8, A>,
+        lo: usize,
+        hi: usize,
+    ) -> Result<(), AllocError>
+        requires order { lo ≤ hi }
+        requires within { hi ≤ length (text_of self.now) }
+        ensures { OnOk result (out.new.items ≡ out.old.items ++ slice_range (text_of self.now) lo hi) }
+    {
+        let at = self.table.first_touched(lo);
+        let behind = Behind::from_place(&self.table, &self.tail, at.chunk, at.index);
+        let (old, _) = touched(alloc, &behind, hi - at.start)?;
+        append_part(out, &old, lo - at.start, hi - at.start)
+    }
+
+    /// What is to stand from a place on, up to the end of the last cut, with all cuts made, and that end.
+    fn covering(
+        &self,
+        alloc: A,
+        from: usize,
+        cuts: &[TextCut<'_>],
+    ) -> Result<(Vec<u8, A>, usize), PrepareError>
+        requires { from ≤ length (text_of self.now) }
+        ensures covers { IfOk result (λ x. IsCover (text_of self.now) from (map cut_of cuts.now) x.0.items x.1) }
+        ensures refuses { IfErr result (λ e. HasNoCover (text_of self.now) from (map cut_of cuts.now) e) }
+    {
+        let mut put = Vec::new(alloc);
+        let mut at = from;
+        for cut in cuts {
+            if !cut.follows(at, self.len) {
+                return Err(PrepareError::Range);
+            }
+            self.append_range(alloc, &mut put, at, cut.lo)?;
+            put.extend_from_slice(cut.put)?;
+            at = cut.hi;
+        }
+        Ok((put, at))
+    }
+
+    /// Prepares the change of the text by which the bytes of each cut give way to others, as `prepare` does; what stands between
+    /// two cuts is read again too.
+    pub fn prepare_all(
+        &mut self,
+        alloc: A,
+        cuts: &[TextCut<'_>],
+    ) -> Result<PreparedText<A>, PrepareError>
+        ensures prepares { PreparesAll self.old self.new (map cut_of cuts.now) result }
+        ensures still { StandsStill self.old self.new }
+    {
+        let Some(first) = cuts.first() else {
+            return self.prepare(alloc, 0, 0, b"");
+        };
+        if first.lo > self.len {
+            return Err(PrepareError::Range);
+        }
+        let lo = first.lo;
+        let (put, hi) = self.covering(alloc, lo, cuts)?;
+        self.prepare(alloc, lo, hi, &put)
     }
 
     /// Exchanges the two contents of a change, which takes no memory. The same change then leads back.
