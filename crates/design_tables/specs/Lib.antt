@@ -1,3 +1,4 @@
+pub mod AnyOrder
 pub mod Changes
 pub mod Listings
 pub mod ListingViews

@@ -19,6 +19,7 @@
 #![tactic(auto)]
 
 mod edited;
+pub mod laws;
 mod marks;
 mod names;
 mod prepared;

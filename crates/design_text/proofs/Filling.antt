@@ -13,7 +13,7 @@ use Rattle.text_pieces.specs.Lent.{numbered_statements}
 use Rattle.text_pieces.specs.Statements.{look_up, statements_of}
 use Rattle.text_pieces.specs.Tables.{ids_of}
 use Rattle.design_tables.specs.Listings.{AreTablesOf, Listing}
-use Rattle.design_text.specs.DesignTexts.{numbered_records}
+use Rattle.text_pieces.specs.KeptRecords.{numbered_records}
 use Rattle.design_text.proofs.FoundStatements.{differ, look_map, same}
 
 abbrev Numbered : Type 0

@@ -1,9 +1,11 @@
+mod AnyOrder
 mod EntryLists
 mod EntryPlaces
 mod Filling
 mod FoundNumbers
 mod FoundStatements
 mod KeptKeys
+mod KeyedTexts
 mod Opened
 mod ReadPieces
 mod SectionEnds

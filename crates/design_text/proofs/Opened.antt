@@ -18,7 +18,8 @@ use Rattle.text_pieces.specs.Content.{Opens, read_keyless}
 use Rattle.text_pieces.specs.Tables.{ids_of}
 use Rattle.design_tables.specs.Listings.{AreTablesOf, Listing}
 use Rattle.edit_laws.proofs.PlanTexts.{tokens_read}
-use Rattle.design_text.specs.DesignTexts.{IsDesignText, numbered_records}
+use Rattle.design_text.specs.DesignTexts.{IsDesignText}
+use Rattle.text_pieces.specs.KeptRecords.{numbered_records}
 
 has_records : (r : Result (List Record) fault.Fault) → IsOk r → (recs : List Record) × (r ≡ Ok recs)
 has_records (Ok recs) h = (recs, refl)

@@ -1,2 +1,3 @@
 pub mod DesignTexts
+pub mod Editing
 pub mod EntryBytes

@@ -10,9 +10,11 @@
 //! Bytes of statements are lent. `open` answers `ReadError`, the fault of the text or want of memory; look-ups take none.
 #![tactic(auto)]
 
+mod editing;
 pub mod entries;
 mod look_ups;
 mod opening;
+mod replacing;
 mod statements;
 pub mod text;
 mod writing;

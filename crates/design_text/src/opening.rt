@@ -3,7 +3,8 @@
 ghost use Rattle.std.specs.Prelude.{◌≡◌, IfOk};
 ghost use Rattle.def_reader.specs.TextViews.{ReadsText};
 ghost use Rattle.design_tables.specs.Listings.{AreTablesOf};
-ghost use Rattle.design_text.specs.DesignTexts.{numbered_records, text_of};
+ghost use Rattle.design_text.specs.DesignTexts.{text_of};
+ghost use Rattle.text_pieces.specs.KeptRecords.{numbered_records};
 
 use crate::statements::statement_alone;
 use crate::text::DesignText;

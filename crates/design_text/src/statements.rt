@@ -25,7 +25,7 @@ use std::alloc::Allocator;
 use text_pieces::text::TextPieces;
 
 /// The statement that a piece is.
-fn read_piece<'t>(bytes: &'t [u8], mode: Mode) -> Read<'t>
+pub(crate) fn read_piece<'t>(bytes: &'t [u8], mode: Mode) -> Read<'t>
     requires { (rec : Record) × (after : Mode) × IsPiece def mode bytes.now rec after }
     ensures says { (rec : Record) → (after : Mode) → IsPiece def mode bytes.now rec after → record_view result.statement ≡ rec }
     ensures tokens { pieces_of result.tokens ≡ (tokens bytes.now).pieces }

@@ -1,6 +1,7 @@
 //! The text of a design.
 
-ghost use Rattle.std.specs.Prelude.{◌≡◌, IfSome, List, Ok};
+ghost use Rattle.std.specs.Prelude.{◌≡◌, ◌≤◌, IfSome, IsOk, List, Ok, length};
+ghost use Rattle.design_model.specs.declared.TheConstants.{MAX_TEXT};
 ghost use Rattle.std.specs.Option.{option_map};
 ghost use Rattle.statement_model.specs.Form.{spell};
 ghost use Rattle.def_grammar.specs.Components.{Component, component_form};
@@ -48,6 +49,15 @@ impl<A: Allocator + Copy> DesignText<A> {
         keys_are_apart();
         fresh_is_once();
         self.pieces.statements_are_numbered();
+    }
+
+    /// A law: the text reads, and so isn't too long.
+    pub fn text_reads(&self)
+        ensures reads { IsOk (read_def (text_of self.now)) }
+        ensures fits { length (text_of self.now) ≤ MAX_TEXT }
+    {
+        let _ = &self.pieces;
+        let _ = &self.tables;
     }
 
     /// The statement of a number. It alone is read.

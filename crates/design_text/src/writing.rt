@@ -1,17 +1,36 @@
 //! Writing the text of a design.
 
-ghost use Rattle.std.specs.Prelude.{◌<◌, ◌≤◌, ◌+◌, ◌^◌, OnErr, OnOk};
+ghost use Rattle.std.specs.Prelude.{◌≡◌, ◌<◌, ◌≤◌, ◌+◌, ◌^◌, IfOk, OnErr, OnOk, length};
 ghost use Rattle.std.specs.Io.KnownBytes.{Appends};
 ghost use Rattle.counted_devices.specs.Counting.{HasFailed};
 ghost use Rattle.counted_devices.specs.Known.{WritesPart};
 ghost use Rattle.design_text.specs.DesignTexts.{text_of};
 
 use crate::text::DesignText;
-use counted_devices::counted::CountedWrite;
+use counted_devices::counted::{Counted, CountedWrite, Failures};
 use counted_devices::output::WriteFault;
-use std::alloc::Allocator;
+use std::alloc::{AllocError, Allocator};
+use std::io::Write;
 
 impl<A: Allocator + Copy> DesignText<A> {
+    /// How many bytes the text has.
+    pub fn len(&self) -> usize
+        ensures { result ≡ length (text_of self.now) }
+    {
+        self.pieces.len()
+    }
+
+    /// The text, put together.
+    pub fn text(&self, alloc: A) -> Result<Vec<u8, A>, AllocError>
+        ensures { IfOk result (λ v. v.items ≡ text_of self.now) }
+    {
+        let mut out = Counted::new(Vec::with_capacity(alloc, self.pieces.len())?);
+        match self.write_to(&mut out) {
+            Ok(()) => Ok(out.into_inner()),
+            Err(_) => Err(AllocError),
+        }
+    }
+
     /// Writes the text.
     pub fn write_to<W: CountedWrite>(&self, out: &mut W) -> Result<(), WriteFault>
         requires { W.failed out.old < 2 ^ 63 }

@@ -155,8 +155,8 @@ impl<T: Drop> From<AllocFailed<T>> for EditRefusal {
     }
 }
 
-/// What an accepted edit took: statements read to their end, and pairs of rectangles compared. Neither is counted yet, so both
-/// are 0.
+/// What an accepted edit took: statements read to their end for the new text, and pairs of rectangles compared. The latter aren't
+/// counted yet, and are 0.
 #[derive(Clone, Copy, Debug, PartialEq, Eq)]
 pub struct Done {
     pub reads: u64,

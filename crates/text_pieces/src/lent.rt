@@ -1,7 +1,11 @@
 //! Pieces that are lent.
 
+ghost use Rattle.text_pieces.specs.Changes.{IsBetween};
+ghost use Rattle.text_pieces.specs.Content.{Content};
+ghost use Rattle.text_pieces.specs.KeptRecords.{AreParted, LendsKept};
 ghost use Rattle.text_pieces.specs.Lent.{Lends, LendsAlone};
 
+use crate::prepared::PreparedText;
 use crate::text::TextPieces;
 use design_model::identifier::StmtId;
 use design_model::mode::Mode;
@@ -32,6 +36,7 @@ impl<A: Allocator + Copy> TextPieces<A> {
             at,
         })
     }
+
     /// The bytes of the piece of a statement, and the mode in which it stands. Its place isn't looked for.
     pub fn piece_alone(&self, id: StmtId) -> Option<(&[u8], Mode)>
         ensures { LendsAlone self.now id result }
@@ -40,5 +45,24 @@ impl<A: Allocator + Copy> TextPieces<A> {
         chains_lead();
         let piece = self.table.piece(id)?;
         Some((&piece.bytes, piece.mode))
+    }
+
+    /// The bytes of the piece that is kept under a number, and the mode in which it stands: of a statement of the text, or of one
+    /// that a change puts in.
+    pub fn kept_piece(&self, id: StmtId) -> Option<(&[u8], Mode)>
+        ensures { LendsKept self.now.table.slots id result }
+    {
+        let piece = self.table.pieces.get(id.0)?;
+        Some((&piece.bytes, piece.mode))
+    }
+
+    /// A law: what the statements say that go out of the text by a change, and those that come in.
+    pub fn statements_are_parted(&self, change: &PreparedText<A>)
+        ensures { (base other : Content) → IsBetween self.now change.now base other → AreParted self.now.table.slots change.now base other }
+    {
+        texts_are_read();
+        chains_lead();
+        let _ = &self.table;
+        let _ = &change.changes;
     }
 }
