@@ -8,6 +8,7 @@ mod FullPieces
 mod Going
 mod Ids
 mod JoinedPieces
+mod LastingChanges
 mod LentPieces
 mod Neighbours
 mod NewLists

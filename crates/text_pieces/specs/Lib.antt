@@ -3,6 +3,7 @@ pub mod Changes
 pub mod Chunks
 pub mod Content
 pub mod Covering
+pub mod Lasting
 pub mod Lent
 pub mod Lists
 pub mod Opening
