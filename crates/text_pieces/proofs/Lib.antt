@@ -9,6 +9,7 @@ mod Going
 mod Ids
 mod JoinedPieces
 mod KeptPieces
+mod LastingChanges
 mod LentPieces
 mod Neighbours
 mod NewLists

@@ -4,6 +4,7 @@ pub mod Chunks
 pub mod Content
 pub mod Covering
 pub mod KeptRecords
+pub mod Lasting
 pub mod Lent
 pub mod Lists
 pub mod Opening

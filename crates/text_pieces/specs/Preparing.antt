@@ -17,10 +17,12 @@ use Rattle.text_pieces.specs.Tables.{Kept, Table, ids_before, kept_at}
 use Rattle.text_pieces.specs.declared.prepared.PrepareError.{PrepareError}
 use Rattle.text_pieces.specs.declared.prepared.PrepareError.TheVariants.{Fault, Memory, Range, TooLong}
 
--- the same statements stand under the same numbers, and each is kept as it was
+-- the same statements stand under the same numbers, and each is kept as it was; more may be kept
 pub record StandsStill (old new : Content) : Type 0 where
   pub chunks : new.table.chunks ≡ old.table.chunks
   pub kept : StaysKept old.table.slots new.table.slots
+  pub tail : new.tail ≡ old.tail
+  pub len : new.len ≡ old.len
   pub text : text_of new ≡ text_of old
 
 -- pieces are kept under numbers that were free, and with these lists the chunks have them in the place of others

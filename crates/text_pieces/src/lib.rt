@@ -20,6 +20,7 @@
 
 mod behind;
 mod chunks;
+pub mod lasting;
 pub mod lent;
 mod lists;
 mod opening;

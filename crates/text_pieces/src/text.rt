@@ -10,6 +10,7 @@ ghost use Rattle.text_pieces.specs.Chunks.{AreOnce, first_id, id_after, id_befor
 ghost use Rattle.text_pieces.specs.Changes.{IsBetween};
 ghost use Rattle.text_pieces.specs.Covering.{HasNoCover, IsCover, PreparesAll, cut_of};
 ghost use Rattle.text_pieces.specs.Content.{Content, Opens, read_keyless, text_of};
+ghost use Rattle.text_pieces.specs.Lasting.{Leads};
 ghost use Rattle.text_pieces.specs.Statements.{bytes_in, lead, lent_bytes, look_up, modes_by_number, number_at, spans_by_number, statements_of};
 ghost use Rattle.text_pieces.specs.Preparing.{Prepares, StandsStill};
 ghost use Rattle.text_pieces.specs.Stretches.{ReadsStretch, cut_text};
@@ -345,6 +346,7 @@ impl<A: Allocator + Copy> TextPieces<A> {
     pub fn commit(&mut self, change: &mut PreparedText<A>)
         requires { (base : Content) × (other : Content) × IsBetween self.old change.old base other }
         ensures exchanged { (base other : Content) → IsBetween self.old change.old base other → IsBetween self.new change.new other base }
+        ensures leads { (other : Content) → Leads self.old change.old other → StandsStill other self.new × Leads self.new change.new self.old }
     {
         exchange(&mut self.table.chunks, &mut change.changes);
         std::mem::swap(&mut self.tail, &mut change.tail);

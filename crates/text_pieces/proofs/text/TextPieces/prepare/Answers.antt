@@ -1,4 +1,4 @@
-use Rattle.std.proofs.Common.{◌≡◌, ◌≤◌, ◌+◌, ◌-◌, ◌∙◌, true, sym, ap, length, map, arith, length-append}
+use Rattle.std.proofs.Common.{◌≡◌, ◌≤◌, ◌+◌, ◌-◌, ◌∙◌, true, refl, sym, ap, length, map, arith, length-append}
 use Rattle.std.specs.Prelude.{nat_le, option_map}
 use Rattle.std.specs.List.{concat}
 use Rattle.std.proofs.lemmas.Bool.Decides.{nat_tests}
@@ -54,7 +54,7 @@ returns-in_err-changes-clause-still g c =
     let content : Content = record { table = table_of s.table; tail = s.tail.items; len = s.len } in
     let new = map (option_map kept) c.place_new.new.table.pieces.slots in
     let cs = (table_of c.place_new.new.table).chunks in
-    rw (← c.self.view_is) (record { chunks = c.place_new.ensures.chunks; kept = c.place_new.ensures.stays; text = text_same content t new c.place_new.ensures.stays cs c.place_new.ensures.chunks })
+    rw (← c.self.view_is) (record { chunks = c.place_new.ensures.chunks; kept = c.place_new.ensures.stays; tail = refl; len = refl; text = text_same content t new c.place_new.ensures.stays cs c.place_new.ensures.chunks })
 
 pub returns-clause-still : goal.returns-clause-still
 returns-clause-still g c =
@@ -63,7 +63,7 @@ returns-clause-still g c =
     let content : Content = record { table = table_of s.table; tail = s.tail.items; len = s.len } in
     let new = map (option_map kept) c.place_new.new.table.pieces.slots in
     let cs = (table_of c.place_new.new.table).chunks in
-    rw (← c.self.view_is) (record { chunks = c.place_new.ensures.chunks; kept = c.place_new.ensures.stays; text = text_same content t new c.place_new.ensures.stays cs c.place_new.ensures.chunks })
+    rw (← c.self.view_is) (record { chunks = c.place_new.ensures.chunks; kept = c.place_new.ensures.stays; tail = refl; len = refl; text = text_same content t new c.place_new.ensures.stays cs c.place_new.ensures.chunks })
 
 pub returns-clause-prepares : goal.returns-clause-prepares
 returns-clause-prepares g c =
