@@ -10,7 +10,7 @@ use Rattle.design_tables.specs.Changes.{IsEdited, has_number, less, or_else_list
 use Rattle.design_tables.specs.Listings.{AreTablesOf, Listing, SameListing, found, has_name, is_member, listed, marks_in, marks_named, marks_under, unlisted, with_marks}
 use Rattle.design_tables.specs.Lookups.{is_number}
 use Rattle.design_tables.specs.Marks.{marks_of}
-use Rattle.design_tables.specs.Prepared.{IsKept}
+use Rattle.design_tables.specs.Prepared.{HasNames, IsBetween, IsKept}
 use Rattle.design_tables.specs.declared.role.Mark.{Mark}
 use Rattle.design_tables.specs.declared.role.Role.{Role}
 use Rattle.design_tables.proofs.CountLemmas.{count_both}
@@ -153,3 +153,13 @@ pub placed_behind : (xs : List (StmtId × Record)) (names after change : List (L
 placed_behind xs names after change same are n =
     let here : listed n (change ++ after) ≡ listed n (change ++ names) = listed_both n change after ∙ ap (or_else_listed (found n change)) (same n) ∙ sym (listed_both n change names) in
     rw here (are n)
+
+-- and where a change leads
+pub leads_still : (names after change : List (List ℕ × Listing)) (base other : List (StmtId × Record)) → ((n : List ℕ) → listed n after ≡ listed n names) → HasNames names after
+    → IsBetween names change base other → IsBetween after change base other
+leads_still names after change base other same kept is = record {
+  base_is = placed_same base names after same is.base_is;
+  other_is = placed_behind other names after change same is.other_is;
+  apart = is.apart;
+  places = λ n has. kept n (is.places n has);
+}

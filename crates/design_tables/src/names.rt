@@ -8,6 +8,7 @@ ghost use Rattle.design_tables.specs.ListingViews.{listing_view};
 ghost use Rattle.design_tables.specs.Changes.{is_gone, less, or_else_listed, without};
 ghost use Rattle.design_tables.specs.Marks.{same_role};
 ghost use Rattle.design_tables.specs.Listings.{found, has_name, listed, marks_in, marks_named, unlisted, with_marks};
+ghost use Rattle.design_tables.specs.Prepared.{HasNames};
 
 use crate::marks::marks_of;
 use crate::role::{Mark, Role};
@@ -136,6 +137,7 @@ impl<A: Allocator + Copy> NameTable<A> {
     pub fn make_place(&mut self, name: &[u8]) -> Result<(), AllocError>
         ensures same { (n : List ℕ) → listed n self.new ≡ listed n self.old }
         ensures there { OnOk result ((n : List ℕ) → has_name n self.new ≡ (has_name n self.old || bytes_eq n name.now)) }
+        ensures kept { HasNames self.old self.new }
     {
         if self.names.contains_key(name) {
             return Ok(());

@@ -5,7 +5,7 @@ ghost use Rattle.std.specs.List.{list_any};
 ghost use Rattle.def_grammar.specs.Records.{Record};
 ghost use Rattle.def_reader.specs.StatementViews.{record_view};
 ghost use Rattle.design_model.specs.declared.identifier.StmtId.{StmtId as TheStmtId};
-ghost use Rattle.design_tables.specs.Listings.{AreTablesOf, listed};
+ghost use Rattle.design_tables.specs.Listings.{AreTablesOf, Listing, listed};
 ghost use Rattle.design_tables.specs.Marks.{key_mark};
 ghost use Rattle.design_tables.specs.Prepared.{AreApart, AreKeyed, HasNames, IsBetween, IsKept, count_in, exchanged, is_repeated, is_twice, lacks_units};
 ghost use Rattle.design_tables.specs.TableViews.{numbered_view};
@@ -99,6 +99,7 @@ impl<A: Allocator + Copy> NameTable<A> {
     fn make_places(&mut self, of: &NameTable<A>) -> Result<(), AllocError>
         ensures same { (n : List ℕ) → listed n self.new ≡ listed n self.old }
         ensures there { OnOk result (HasNames of.now self.new) }
+        ensures kept { HasNames self.old self.new }
         ensures apart { AreApart of.now }
     {
         let mut left = of.names.keys();
@@ -125,14 +126,15 @@ impl<A: Allocator + Copy> NameTable<A> {
 }
 
 impl<A: Allocator + Copy> Tables<A> {
-    /// Prepares a change: some statements go out and others are put in. What the tables say stays, whatever the answer is. It is
-    /// `Duplicate` where what a text has once would then stand twice, or UNITS not at all.
+    /// Prepares a change: some statements go out and others are put in. What the tables say stays, whatever the answer is, and so does
+    /// where another change leads. It is `Duplicate` where what a text has once would then stand twice, or UNITS not at all.
     pub fn prepare(
         &mut self,
         out: &[Numbered<'_>],
         put: &[Numbered<'_>],
     ) -> Result<PreparedTables<A>, PrepareError>
         ensures same { (xs : List (TheStmtId × Record)) → AreTablesOf xs self.old → AreTablesOf xs self.new }
+        ensures lasts { (change : List (List ℕ × Listing)) (base other : List (TheStmtId × Record)) → IsBetween self.old change base other → IsBetween self.new change base other }
         ensures between { (xs kept : List (TheStmtId × Record)) → AreTablesOf xs self.old → IsKept xs (map numbered_view out.now) kept → IfOk result (λ change. IsBetween self.new change xs (kept ++ map numbered_view put.now)) }
         ensures keyed { (xs kept : List (TheStmtId × Record)) → AreTablesOf xs self.old → IsKept xs (map numbered_view out.now) kept → AreKeyed xs → OnOk result (AreKeyed (kept ++ map numbered_view put.now)) }
         ensures duplicate { (xs kept : List (TheStmtId × Record)) → AreTablesOf xs self.old → IsKept xs (map numbered_view out.now) kept → AreKeyed xs → IfErr result (λ e. e ≡ IsDuplicate → AreKeyed (kept ++ map numbered_view put.now) → ⊥) }

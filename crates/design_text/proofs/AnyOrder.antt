@@ -8,11 +8,14 @@ use Rattle.std.proofs.lemmas.List.Sums.{sum_by-append}
 use Rattle.design_model.specs.declared.identifier.StmtId.{StmtId}
 use Rattle.def_grammar.specs.Records.{Record}
 use Rattle.text_pieces.specs.Chunks.{AreOnce, IsAbsent}
-use Rattle.text_pieces.specs.KeptRecords.{records_under}
+use Rattle.text_pieces.specs.Changes.{Prepared}
+use Rattle.text_pieces.specs.Content.{Content}
+use Rattle.text_pieces.specs.KeptRecords.{AreParted, numbered_records, records_under}
 use Rattle.text_pieces.specs.Tables.{Kept}
-use Rattle.design_tables.specs.AnyOrder.{AreSame}
+use Rattle.design_tables.specs.AnyOrder.{AreSame, KeysInAnyOrder, TablesInAnyOrder}
 use Rattle.design_tables.specs.Changes.{has_number}
-use Rattle.design_tables.specs.Prepared.{IsKept}
+use Rattle.design_tables.specs.Listings.{Listing}
+use Rattle.design_tables.specs.Prepared.{AreKeyed, IsBetween, IsKept}
 
 module _ (slots : List (Option Kept)) (front rest : List StmtId) where
   abbrev pub stays : List (StmtId × Record)
@@ -92,3 +95,28 @@ module _ (slots : List (Option Kept)) where
         list_any-append (goes out) (records_under slots front) (records_under slots rest)
         ∙ none_either _ _ (none_front out front rest once) (none_rest out rest (once_back front (out ++ rest) once));
   }
+
+module _ (order : TablesInAnyOrder) (keys : KeysInAnyOrder) (slots : List (Option Kept)) (p : Prepared) (base other : Content) (parted : AreParted slots p base other)
+    (outs puts : List (StmtId × Record)) (out_is : outs ≡ records_under slots p.out) (put_is : puts ≡ records_under slots p.put) where
+  abbrev pub left : List (StmtId × Record)
+  left = stays slots parted.front parted.rest
+
+  pub left_is_kept : IsKept (numbered_records base) outs left
+  left_is_kept = rw (parted.goes, out_is) (stay_is_kept slots parted.front p.out parted.rest parted.base_once)
+
+  after : AreSame (left ++ puts) (numbered_records other)
+  after = rw (put_is, parted.comes) (put_behind slots parted.front parted.rest p.put)
+
+  pub leads_to_other : (names change : List (List ℕ × Listing)) → IsBetween names change (numbered_records base) (left ++ puts) → IsBetween names change (numbered_records base) (numbered_records other)
+  leads_to_other names change b = record {
+    base_is = b.base_is;
+    other_is = order (left ++ puts) (numbered_records other) (change ++ names) after b.other_is;
+    apart = b.apart;
+    places = b.places;
+  }
+
+  pub keyed_other : AreKeyed (left ++ puts) → AreKeyed (numbered_records other)
+  keyed_other = keys (left ++ puts) (numbered_records other) after
+
+  pub keyed_left : AreKeyed (numbered_records other) → AreKeyed (left ++ puts)
+  keyed_left = keys (numbered_records other) (left ++ puts) (λ w. sym (after w))

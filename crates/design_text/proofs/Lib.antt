@@ -7,5 +7,9 @@ mod FoundStatements
 mod KeptKeys
 mod KeyedTexts
 mod Opened
+mod Pushing
 mod ReadPieces
+mod ReadTexts
 mod SectionEnds
+mod StepLemmas
+mod TwoCuts

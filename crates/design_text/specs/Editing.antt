@@ -1,5 +1,5 @@
 -- What edits of the text of a design say.
-use Rattle.std.specs.Prelude.{◌≡◌, ◌≤◌, ◌<◌, ℕ, false, List, length, Result, Ok, Err}
+use Rattle.std.specs.Prelude.{◌≡◌, ◌≤◌, ◌<◌, ℕ, false, List, [], ◌∷◌, length, Result, Ok, Err}
 use Rattle.design_model.specs.declared.TheConstants.{MAX_TEXT}
 use Rattle.design_model.specs.declared.fault.Fault as fault
 use Rattle.edit_model.specs.declared.edit.EditRefusal.{EditRefusal}
@@ -13,14 +13,19 @@ use Rattle.splicing_laws.specs.KeepingLaws.{AreInOrder}
 use Rattle.text_pieces.specs.declared.prepared.PrepareError.{PrepareError}
 use Rattle.text_pieces.specs.declared.prepared.PrepareError.TheVariants.{Fault, Memory, Range, TooLong}
 
--- what making cuts of a text says: they are made, and stood in order; or the text is as it was, since they don't, or the text with
+-- what making cuts of a text says: they are made; or the text is as it was, since they don't, or the text with
 -- them made would be too long, or has a fault; refused memory says nothing more
 abbrev pub MakesCuts : {T : Type 0} → List ℕ → List Cut → Result T PrepareError → List ℕ → Type 0
-MakesCuts old cuts (Ok t) new = AreInOrder 0 cuts (length old) × (new ≡ with_cuts cuts old)
+MakesCuts old cuts (Ok t) new = new ≡ with_cuts cuts old
 MakesCuts old cuts (Err Range) new = (new ≡ old) × (AreInOrder 0 cuts (length old) → ⊥)
 MakesCuts old cuts (Err TooLong) new = (new ≡ old) × AreInOrder 0 cuts (length old) × (MAX_TEXT < length (with_cuts cuts old))
 MakesCuts old cuts (Err Fault) new = (new ≡ old) × (f : fault.Fault) × (read_def (with_cuts cuts old) ≡ Err f)
 MakesCuts old cuts (Err Memory) new = new ≡ old
+
+-- the same of two cuts that stand in order, of which each may be made by itself; where they aren't made the text is as it was
+abbrev pub MakesTwo : {T : Type 0} → List ℕ → Cut → Cut → Result T PrepareError → List ℕ → Type 0
+MakesTwo old first last (Ok t) new = new ≡ with_cuts (first ∷ last ∷ []) old
+MakesTwo old first last (Err e) new = new ≡ old
 
 -- what editing a text says: it has the edit's cuts made, or is as it was and refused as the edit is
 abbrev pub EditsText : {T : Type 0} → Library → List ℕ → Change → Result T EditRefusal → List ℕ → Type 0

@@ -1,3 +1,4 @@
 pub mod DesignTexts
 pub mod Editing
 pub mod EntryBytes
+pub mod Steps

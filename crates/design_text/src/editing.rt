@@ -1,83 +1,24 @@
-//! Edits of the text of a design: the pieces and the tables are changed together, or neither is.
+//! Edits of the text of a design.
 
-ghost use Rattle.std.specs.Prelude.{◌≡◌, ◌≤◌, ◌⊎◌, Err, IfErr, IfOk, OnOk, length, map};
+ghost use Rattle.std.specs.Prelude.{◌≡◌, ◌≤◌, ◌∷◌, [], Err, IfOk, length, map};
 ghost use Rattle.design_model.specs.declared.fault.Fault as fault;
 ghost use Rattle.def_grammar.specs.Records.{read_def};
 ghost use Rattle.edit_rules.specs.Edits.{change_of};
 ghost use Rattle.edit_rules.specs.Runs.{new_text};
-ghost use Rattle.text_pieces.specs.Changes.{IsBetween};
-ghost use Rattle.text_pieces.specs.Content as pieces;
+ghost use Rattle.splicing_laws.specs.KeepingLaws.{AreInOrder};
 ghost use Rattle.text_pieces.specs.Covering.{cut_of};
-ghost use Rattle.text_pieces.specs.KeptRecords.{HavePieces, numbered_records, records_under};
-ghost use Rattle.text_pieces.specs.declared.prepared.PrepareError.TheVariants.{Fault as IsFault, Memory as IsMemory};
-ghost use Rattle.design_tables.specs.Listings.{AreTablesOf};
-ghost use Rattle.design_tables.specs.Prepared as prepared;
-ghost use Rattle.design_tables.specs.Prepared.{AreKeyed};
-ghost use Rattle.design_tables.specs.TableViews.{numbered_view};
 ghost use Rattle.def_splice.specs.SpliceViews.{cut_view};
 ghost use Rattle.design_text.specs.DesignTexts.{text_of};
-ghost use Rattle.design_text.specs.Editing.{EditsText, KeepsTheRest, MakesCuts, ReadsEdited, ReplacesIn};
+ghost use Rattle.design_text.specs.Editing.{EditsText, KeepsTheRest, MakesCuts, MakesTwo, ReadsEdited, ReplacesIn};
 
 use crate::replacing::replaced_text;
-use crate::statements::read_piece;
 use crate::text::DesignText;
 use cell_library::library::Library;
-use def_reader::statement::Statement;
 use def_splice::splices::looked_up_splices;
-use design_model::identifier::StmtId;
-use design_tables::{Numbered, PreparedTables, Tables};
 use edit_laws::editing::{edits_are_applied, edits_keep_the_rest};
 use edit_model::edit::{Edit, EditCode, EditRefusal, Splice};
-use piece_laws::keys::{fresh_is_once, keys_are_apart, keys_decide};
 use std::alloc::{AllocError, Allocator};
-use text_pieces::prepared::{PrepareError, PreparedText, TextCut};
-use text_pieces::text::TextPieces;
-
-/// The statements that are kept under some numbers, each read from its piece alone.
-fn numbered<'t, A: Allocator + Copy>(
-    alloc: A,
-    pieces: &'t TextPieces<A>,
-    ids: &[StmtId],
-) -> Result<Vec<Numbered<'t>, A>, AllocError>
-    requires { HavePieces pieces.now.table.slots ids.now }
-    ensures { IfOk result (λ v. map numbered_view v.items ≡ records_under pieces.now.table.slots ids.now) }
-{
-    let mut statements = Vec::with_capacity(alloc, ids.len())?;
-    for id in ids {
-        let Some((bytes, mode)) = pieces.kept_piece(*id) else {
-            unreachable!()
-        };
-        let statement = read_piece(bytes, mode).statement;
-        statements.push(Numbered { id: *id, statement })?;
-    }
-    Ok(statements)
-}
-
-/// Prepares the tables for a change of the pieces that is prepared. It is a fault where what a text has once would stand twice, or
-/// UNITS not at all.
-fn prepare_tables<A: Allocator + Copy>(
-    alloc: A,
-    pieces: &TextPieces<A>,
-    tables: &mut Tables<A>,
-    change: &PreparedText<A>,
-) -> Result<PreparedTables<A>, PrepareError>
-    requires between { (base : pieces.Content) × (other : pieces.Content) × IsBetween pieces.now change.now base other }
-    requires tables { AreTablesOf (numbered_records pieces.now) tables.old }
-    requires keyed { AreKeyed (numbered_records pieces.now) }
-    ensures same { AreTablesOf (numbered_records pieces.now) tables.new }
-    ensures between { (base other : pieces.Content) → IsBetween pieces.now change.now base other → IfOk result (λ t. prepared.IsBetween tables.new t (numbered_records base) (numbered_records other)) }
-    ensures keyed { (base other : pieces.Content) → IsBetween pieces.now change.now base other → OnOk result (AreKeyed (numbered_records other)) }
-    ensures fails { (base other : pieces.Content) → IsBetween pieces.now change.now base other → IfErr result (λ e. ((e ≡ IsFault) × (AreKeyed (numbered_records other) → ⊥)) ⊎ (e ≡ IsMemory)) }
-{
-    pieces.statements_are_parted(change);
-    let out = numbered(alloc, pieces, change.out())?;
-    let put = numbered(alloc, pieces, change.put())?;
-    match tables.prepare(&out, &put) {
-        Ok(prepared) => Ok(prepared),
-        Err(design_tables::PrepareError::Duplicate) => Err(PrepareError::Fault),
-        Err(design_tables::PrepareError::Memory) => Err(PrepareError::Memory),
-    }
-}
+use text_pieces::prepared::{PrepareError, TextCut};
 
 /// The cuts that splices are.
 fn text_cuts<'s, A: Allocator + Copy>(
@@ -103,18 +44,52 @@ impl<A: Allocator + Copy> DesignText<A> {
     fn make(&mut self, alloc: A, cuts: &[TextCut<'_>]) -> Result<u64, PrepareError>
         ensures { MakesCuts (text_of self.old) (map cut_of cuts.now) result (text_of self.new) }
     {
-        self.statements_are_known();
-        keys_are_apart();
-        keys_decide();
-        fresh_is_once();
-        let mut text = self.pieces.prepare_all(alloc, cuts)?;
-        let mut tables = prepare_tables(alloc, &self.pieces, &mut self.tables, &text)?;
-        self.pieces.commit(&mut text);
-        self.tables.commit(&mut tables);
-        Ok(text.reads())
+        let mut step = self.prepare(alloc, cuts)?;
+        self.commit(&mut step);
+        Ok(step.reads())
     }
 
-    /// Makes an edit, and says how many statements were read for it; or refuses it and leaves the text as it was.
+    /// Makes two cuts one after the other, the later one first, so that no statement between them is read; or leaves the text as it
+    /// was, also where it doesn't read with the later one alone.
+    fn make_two(
+        &mut self,
+        alloc: A,
+        first: TextCut<'_>,
+        last: TextCut<'_>,
+    ) -> Result<u64, PrepareError>
+        requires { AreInOrder 0 (cut_of first ∷ cut_of last ∷ []) (length (text_of self.old)) }
+        ensures { MakesTwo (text_of self.old) (cut_of first.entry) (cut_of last.entry) result (text_of self.new) }
+    {
+        let mut later = self.prepare(alloc, &[last])?;
+        self.commit(&mut later);
+        match self.prepare(alloc, &[first]) {
+            Ok(mut step) => {
+                self.commit(&mut step);
+                Ok(later.reads().saturating_add(step.reads()))
+            }
+            Err(error) => {
+                self.commit(&mut later);
+                Err(error)
+            }
+        }
+    }
+
+    /// Makes cuts that stand in order; two of them apart, if the text reads between.
+    fn make_apart(&mut self, alloc: A, cuts: &[TextCut<'_>]) -> Result<u64, PrepareError>
+        requires { AreInOrder 0 (map cut_of cuts.now) (length (text_of self.old)) }
+        ensures { MakesCuts (text_of self.old) (map cut_of cuts.now) result (text_of self.new) }
+    {
+        if let [first, last] = cuts {
+            match self.make_two(alloc, *first, *last) {
+                Ok(reads) => return Ok(reads),
+                Err(PrepareError::Memory) => return Err(PrepareError::Memory),
+                Err(_) => {}
+            }
+        }
+        self.make(alloc, cuts)
+    }
+
+    /// Makes an edit, and says how many statements were read for the new text; or refuses it and leaves the text as it was.
     pub fn edit(
         &mut self,
         alloc: A,
@@ -130,7 +105,7 @@ impl<A: Allocator + Copy> DesignText<A> {
         self.text_reads();
         let splices = looked_up_splices(alloc, library, self, edit)?;
         let cuts = text_cuts(alloc, splices.as_slice())?;
-        match self.make(alloc, &cuts) {
+        match self.make_apart(alloc, &cuts) {
             Ok(reads) => Ok(reads),
             Err(PrepareError::Memory) => Err(EditRefusal::Memory),
             Err(_) => unreachable!(),
@@ -154,8 +129,8 @@ impl<A: Allocator + Copy> DesignText<A> {
         }
     }
 
-    /// Puts bytes in the place of those from `lo` up to `hi`, and says how many statements were read for it; or refuses it and
-    /// leaves the text as it was.
+    /// Puts bytes in the place of those from `lo` up to `hi`, and says how many statements were read for the new text; or refuses it
+    /// and leaves the text as it was.
     pub fn replace(
         &mut self,
         alloc: A,

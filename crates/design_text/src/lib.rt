@@ -16,5 +16,6 @@ mod look_ups;
 mod opening;
 mod replacing;
 mod statements;
+mod step;
 pub mod text;
 mod writing;

@@ -6,6 +6,7 @@ use Rattle.design_tables.proofs.names.NameTable.make_places.Goals as goal
 pub loop-name-init : goal.loop-name-init
 loop-name-init g c = record {
   same = λ n. refl;
+  kept = λ n has. has;
   there = λ n has. all_left n c.of.inside.names.entries c.keys-left.result (has_name n c.args.self.now) c.keys-left.ensures.rest (ap (has_name n) c.of.view_is ∙ has);
 }
 

@@ -1,7 +1,7 @@
 use Rattle.std.proofs.Common.{◌++◌, map, sym, ◌∙◌}
 use Rattle.std.proofs.lemmas.Result.{err_from_is_err_and}
 use Rattle.design_tables.specs.TableViews.{numbered_view}
-use Rattle.design_tables.proofs.ChangeLemmas.{edited_are, placed_behind, placed_same}
+use Rattle.design_tables.proofs.ChangeLemmas.{edited_are, leads_still, placed_behind, placed_same}
 use Rattle.design_tables.proofs.KeyedLemmas.{keyed, lacking, repeated}
 use Rattle.design_tables.proofs.tables.Tables.prepare.Goals.{then-has_repeated-via-then-has_repeated, then-has_repeated-via-else-has_repeated+then-lacks_units}
 use Rattle.design_tables.proofs.tables.Tables.prepare.Goals as goal
@@ -48,3 +48,11 @@ pub returns-in_err-make_places-clause-duplicate : goal.returns-in_err-make_place
 returns-in_err-make_places-clause-duplicate g c = λ xs kept are is before.
     let p = err_from_is_err_and c.from_residual-in_err-make_places.result c.from_residual-in_err-make_places.ensures.1 in
     rw (p.1, p.2) (λ same after. cc)
+
+pub returns-clause-lasts : goal.returns-clause-lasts
+returns-clause-lasts g c = λ change base other is.
+    leads_still c.self.inside.names c.make_places.new.self change base other c.make_places.ensures.same c.make_places.ensures.kept (rw c.self.view_is is)
+
+pub returns-in_err-make_places-clause-lasts : goal.returns-in_err-make_places-clause-lasts
+returns-in_err-make_places-clause-lasts g c = λ change base other is.
+    leads_still c.self.inside.names c.make_places.new.self change base other c.make_places.ensures.same c.make_places.ensures.kept (rw c.self.view_is is)

@@ -1,0 +1,142 @@
+//! Changes of the text of a design: its pieces and its tables are changed together, or neither is.
+
+ghost use Rattle.std.specs.Prelude.{◌≡◌, ◌⊎◌, ℕ, List, IfErr, IfOk, OnOk, map};
+ghost use Rattle.text_pieces.specs.Changes.{IsBetween};
+ghost use Rattle.text_pieces.specs.Content as content;
+ghost use Rattle.text_pieces.specs.Covering.{cut_of};
+ghost use Rattle.text_pieces.specs.KeptRecords.{HavePieces, numbered_records, records_under};
+ghost use Rattle.text_pieces.specs.declared.prepared.PrepareError.TheVariants.{Fault as IsFault, Memory as IsMemory};
+ghost use Rattle.design_tables.specs.Listings.{AreTablesOf, Listing};
+ghost use Rattle.design_tables.specs.Prepared as prepared;
+ghost use Rattle.design_tables.specs.Prepared.{AreKeyed};
+ghost use Rattle.design_tables.specs.TableViews.{numbered_view};
+ghost use Rattle.design_text.specs.DesignTexts.{text_of};
+ghost use Rattle.design_text.specs.Steps.{Both, LeadsTo, PreparesCuts};
+
+use crate::statements::read_piece;
+use crate::text::DesignText;
+use def_reader::statement::Statement;
+use design_model::identifier::StmtId;
+use design_tables::laws::order_makes_no_difference;
+use design_tables::{Numbered, PreparedTables, Tables};
+use piece_laws::keys::{fresh_is_once, keys_are_apart, keys_decide};
+use statement_reader::laws::records_are_read;
+use std::alloc::{AllocError, Allocator, Global};
+use std::marker::Model;
+use text_pieces::lasting::{changes_last, contents_stand_still};
+use text_pieces::prepared::{PrepareError, PreparedText, TextCut};
+use text_pieces::text::TextPieces;
+
+/// A change of the text of a design that is prepared; or, once it is made, the change that takes it back.
+#[derive(Drop)]
+pub(crate) struct Step<A: Allocator + Copy = Global> {
+    text: PreparedText<A>,
+    tables: PreparedTables<A>,
+}
+
+impl<A: Allocator + Copy> Model for Step<A> {
+    ghost use Rattle.design_text.specs.Steps.{Both};
+
+    ghost Value = { Both };
+
+    ghost view = { λ s. record { text = s.text; names = s.tables } };
+}
+
+impl<A: Allocator + Copy> Step<A> {
+    /// How many statements were read for it.
+    pub(crate) fn reads(&self) -> u64
+        ensures { result ≡ self.now.text.reads }
+    {
+        self.text.reads()
+    }
+}
+
+/// The statements that are kept under some numbers, each read from its piece alone.
+fn numbered<'t, A: Allocator + Copy>(
+    alloc: A,
+    pieces: &'t TextPieces<A>,
+    ids: &[StmtId],
+) -> Result<Vec<Numbered<'t>, A>, AllocError>
+    requires { HavePieces pieces.now.table.slots ids.now }
+    ensures { IfOk result (λ v. map numbered_view v.items ≡ records_under pieces.now.table.slots ids.now) }
+{
+    let mut statements = Vec::with_capacity(alloc, ids.len())?;
+    for id in ids {
+        let Some((bytes, mode)) = pieces.kept_piece(*id) else {
+            unreachable!()
+        };
+        let statement = read_piece(bytes, mode).statement;
+        statements.push(Numbered { id: *id, statement })?;
+    }
+    Ok(statements)
+}
+
+/// Prepares the tables for a change of the pieces that is prepared. It is a fault where what a text has once would stand twice, or
+/// UNITS not at all.
+fn prepare_tables<A: Allocator + Copy>(
+    alloc: A,
+    pieces: &TextPieces<A>,
+    tables: &mut Tables<A>,
+    change: &PreparedText<A>,
+) -> Result<PreparedTables<A>, PrepareError>
+    requires between { (base : content.Content) × (other : content.Content) × IsBetween pieces.now change.now base other }
+    requires tables { AreTablesOf (numbered_records pieces.now) tables.old }
+    requires keyed { AreKeyed (numbered_records pieces.now) }
+    ensures same { AreTablesOf (numbered_records pieces.now) tables.new }
+    ensures lasts { (names : List (List ℕ × Listing)) (base other : List (_ × _)) → prepared.IsBetween tables.old names base other → prepared.IsBetween tables.new names base other }
+    ensures between { (base other : content.Content) → IsBetween pieces.now change.now base other → IfOk result (λ t. prepared.IsBetween tables.new t (numbered_records pieces.now) (numbered_records other)) }
+    ensures keyed { (base other : content.Content) → IsBetween pieces.now change.now base other → OnOk result (AreKeyed (numbered_records other)) }
+    ensures fails { (base other : content.Content) → IsBetween pieces.now change.now base other → IfErr result (λ e. ((e ≡ IsFault) × (AreKeyed (numbered_records other) → ⊥)) ⊎ (e ≡ IsMemory)) }
+{
+    order_makes_no_difference();
+    pieces.statements_are_parted(change);
+    let out = numbered(alloc, pieces, change.out())?;
+    let put = numbered(alloc, pieces, change.put())?;
+    match tables.prepare(&out, &put) {
+        Ok(prepared) => Ok(prepared),
+        Err(design_tables::PrepareError::Duplicate) => Err(PrepareError::Fault),
+        Err(design_tables::PrepareError::Memory) => Err(PrepareError::Memory),
+    }
+}
+
+impl<A: Allocator + Copy> DesignText<A> {
+    /// Prepares the change by which cuts of the text are made. What stands stays, whatever the answer is, and so does where another
+    /// change leads. It is a fault where the text with the cuts made doesn't read: which one, reading it says.
+    pub(crate) fn prepare(
+        &mut self,
+        alloc: A,
+        cuts: &[TextCut<'_>],
+    ) -> Result<Step<A>, PrepareError>
+        ensures prepares { PreparesCuts (text_of self.old) (map cut_of cuts.now) result self.new }
+        ensures still { text_of self.new ≡ text_of self.old }
+        ensures lasts { (change : Both) (text : List ℕ) → LeadsTo self.old change text → LeadsTo self.new change text }
+    {
+        records_are_read::<Statement<'_>>();
+        keys_are_apart();
+        keys_decide();
+        fresh_is_once();
+        contents_stand_still();
+        changes_last();
+        self.text_reads();
+        self.statements_are_known();
+        self.pieces.statements_are_numbered();
+        let text = self.pieces.prepare_all(alloc, cuts)?;
+        self.pieces.statements_are_parted(&text);
+        let tables = prepare_tables(alloc, &self.pieces, &mut self.tables, &text)?;
+        Ok(Step { text, tables })
+    }
+
+    /// Makes a change that is prepared, which takes no memory. The same change then leads back.
+    pub(crate) fn commit(&mut self, step: &mut Step<A>)
+        requires { (new : List ℕ) × LeadsTo self.old step.old new }
+        ensures made { (new : List ℕ) → LeadsTo self.old step.old new → text_of self.new ≡ new }
+        ensures back { LeadsTo self.new step.new (text_of self.old) }
+    {
+        records_are_read::<Statement<'_>>();
+        contents_stand_still();
+        changes_last();
+        self.text_reads();
+        self.pieces.commit(&mut step.text);
+        self.tables.commit(&mut step.tables);
+    }
+}
