@@ -6,6 +6,7 @@ pub mod Covering
 pub mod Lasting
 pub mod Lent
 pub mod Lists
+pub mod NewStretches
 pub mod Opening
 pub mod Preparing
 pub mod Statements
