@@ -24,6 +24,7 @@ mod Replaced
 mod Shown
 mod Slots
 mod StoredPieces
+mod StretchRows
 mod Stretching
 mod TouchedPieces
 mod Turning
