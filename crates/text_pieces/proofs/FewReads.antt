@@ -1,6 +1,6 @@
 -- How few statements are read again: the new pieces end where statements of the new stretch do.
-use Rattle.std.proofs.Common.{◌≡◌, ◌≢◌, ◌<◌, ◌≤◌, ◌+◌, ◌-◌, ◌∙◌, ℕ, zero, suc, true, List, [], ◌∷◌, ◌++◌, length, map, take, drop, Option, Some, refl, sym, ap, ap₂, subst, ⊎_elim, arith, length-append}
-use Rattle.std.specs.Prelude.{filter, slice_get}
+use Rattle.std.proofs.Common.{◌≡◌, ◌<◌, ◌≤◌, ◌+◌, ◌-◌, ◌∙◌, ℕ, zero, suc, true, List, [], ◌∷◌, ◌++◌, length, take, drop, Option, Some, refl, sym, ap, ap₂, subst, ⊎_elim, arith, length-append}
+use Rattle.std.specs.Prelude.{slice_get}
 use Rattle.std.specs.List.{concat}
 use Rattle.std.proofs.lemmas.Bool.{cases_lt}
 use Rattle.std.proofs.lemmas.List.{map-append}
@@ -13,7 +13,7 @@ use Rattle.rereading.specs.Rereading.{NoneShared, NotShared}
 use Rattle.rereading.specs.Segments.{OldBytes, mode_at}
 use Rattle.rereading.specs.Segments as behind_edit
 use Rattle.rereading.specs.declared.pieces.NewPiece.{NewPiece}
-use Rattle.text_pieces.specs.Behind.{old_bytes, segments}
+use Rattle.text_pieces.specs.Behind.{segments}
 use Rattle.text_pieces.specs.Content.{bytes_of}
 use Rattle.text_pieces.specs.NewStretches.{End, end_before, ends_of, is_kept, last_end, new_stretch, up_to}
 use Rattle.text_pieces.specs.Storing.{new_kept, news_of}

@@ -1,12 +1,10 @@
 -- Where the pieces of a text end, and the modes to which they lead.
-use Rattle.std.proofs.Common.{◌≡◌, ◌<◌, ◌≤◌, ◌+◌, ℕ, zero, suc, Bool, true, false, List, [], ◌∷◌, ◌++◌, length, map, take, drop, Some, refl, sym, ap, ap₂, ◌∙◌, subst, arith, length-append}
+use Rattle.std.proofs.Common.{◌≡◌, ◌<◌, ◌≤◌, ◌+◌, ℕ, zero, suc, true, false, List, [], ◌∷◌, ◌++◌, length, map, take, drop, Some, refl, sym, ap, ap₂, ◌∙◌, arith, length-append}
 use Rattle.std.specs.Prelude.{filter, nat_lt, slice_get}
 use Rattle.std.specs.List.{concat}
 use Rattle.std.proofs.lemmas.Bool.Decides.{nat_tests}
-use Rattle.std.proofs.lemmas.List.Folds.{concat-append}
 use Rattle.design_model.specs.declared.mode.Mode.{Mode}
 use Rattle.design_model.specs.declared.mode.Mode.TheVariants.{Top, After}
-use Rattle.statement_model.specs.Tokens.{Token, tokens}
 use Rattle.lefdef_tokens.specs.declared.span.Span.{Span}
 use Rattle.def_grammar.specs.Records.{Record, def}
 use Rattle.piece_laws.specs.PlaceLaws.{TextsAreRead, placed_pieces}
@@ -16,10 +14,9 @@ use Rattle.rereading.specs.Segments.{mode_at}
 use Rattle.text_pieces.specs.Behind.{segments}
 use Rattle.text_pieces.specs.Content.{bytes_of}
 use Rattle.text_pieces.specs.NewStretches.{End, ends_from, ends_of, last_end}
-use Rattle.text_pieces.specs.Statements.{statements_of}
 use Rattle.text_pieces.specs.Stretches.{EndsText, IsChain}
 use Rattle.text_pieces.specs.Tables.{Kept}
-use Rattle.text_pieces.proofs.Chains.{none_chained, parted}
+use Rattle.text_pieces.proofs.Chains.{parted}
 use Rattle.text_pieces.proofs.FullPieces.{piece_full}
 use Rattle.text_pieces.proofs.PlacedPieces.{piece_spans}
 

@@ -1,19 +1,17 @@
 -- A stretch that is read again has no more new pieces than the text has new statements.
-use Rattle.std.proofs.Common.{◌≡◌, ◌<◌, ◌≤◌, ◌+◌, ◌-◌, ◌∙◌, ℕ, List, [], ◌∷◌, ◌++◌, length, map, take, drop, refl, sym, ap, subst, arith, length-append}
-use Rattle.std.specs.List.{concat, take-map}
+use Rattle.std.proofs.Common.{◌≡◌, ◌<◌, ◌≤◌, ◌+◌, ◌-◌, ◌∙◌, ℕ, List, ◌++◌, length, take, drop, sym, ap, subst, arith, length-append}
+use Rattle.std.specs.List.{take-map}
 use Rattle.std.proofs.lemmas.List.{length-drop, length-map, length-take}
-use Rattle.design_model.specs.declared.identifier.StmtId.{StmtId}
-use Rattle.design_model.specs.declared.mode.Mode.TheVariants.{Top, After}
+use Rattle.design_model.specs.declared.mode.Mode.TheVariants.{After}
 use Rattle.def_grammar.specs.Records.{def}
 use Rattle.piece_laws.specs.PlaceLaws.{TextsAreRead}
 use Rattle.rereading.specs.Rereading.{IsReread, NotShared}
 use Rattle.rereading.specs.declared.pieces.Reread.{Reread}
 use Rattle.text_pieces.specs.Behind.{ids_from}
-use Rattle.text_pieces.specs.Chunks.{Numbers}
-use Rattle.text_pieces.specs.Content.{Content, IsText, bytes_of, text_of}
-use Rattle.text_pieces.specs.NewStretches.{End, ends_of, new_stretch}
-use Rattle.text_pieces.specs.Storing.{new_kept, news_of}
-use Rattle.text_pieces.specs.Stretches.{EndsText, cut_text}
+use Rattle.text_pieces.specs.Content.{Content, IsText, text_of}
+use Rattle.text_pieces.specs.NewStretches.{ends_of, new_stretch}
+use Rattle.text_pieces.specs.Storing.{new_kept}
+use Rattle.text_pieces.specs.Stretches.{cut_text}
 use Rattle.text_pieces.specs.Tables.{Kept, ids_before, kept_at, standing}
 use Rattle.text_pieces.specs.Touched.{AreTouched, BeginsAt}
 use Rattle.text_pieces.specs.declared.table.Place.{Place}
