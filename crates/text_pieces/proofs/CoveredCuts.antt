@@ -1,11 +1,11 @@
 -- Cuts of a text in one.
-use Rattle.std.proofs.Common.{◌≡◌, ◌<◌, ◌≤◌, ◌+◌, ◌-◌, ℕ, List, [], ◌∷◌, ◌++◌, length, get_or, map, take, drop, Some, Result, Ok, Err, sym, ap, ◌∙◌, subst, append_assoc, arith, slice_range}
+use Rattle.std.proofs.Common.{◌≡◌, ◌<◌, ◌≤◌, ◌+◌, ◌-◌, ℕ, List, [], ◌∷◌, ◌++◌, length, get_or, map, take, drop, Some, Result, Ok, Err, sym, ap, ap₂, ◌∙◌, subst, append_assoc, arith, slice_range}
 use Rattle.std.specs.List.{slice_get}
 use Rattle.std.proofs.lemmas.List.{drop_more}
 use Rattle.statement_model.specs.Cuts.{Cut, cut_from, with_cuts}
 use Rattle.text_pieces.specs.Changes.{Prepared}
 use Rattle.text_pieces.specs.Content.{Content, text_of}
-use Rattle.text_pieces.specs.Covering.{AreInOrder, IsCover, PreparesAll, cut_of}
+use Rattle.text_pieces.specs.Covering.{AreInOrder, IsCover, PreparesAll, cover_of, cut_of}
 use Rattle.text_pieces.specs.Preparing.{IsPrepared, Prepares}
 use Rattle.text_pieces.specs.Stretches.{cut_text}
 use Rattle.text_pieces.specs.declared.prepared.PrepareError.{PrepareError}
@@ -64,6 +64,18 @@ module _ (old new : Content) (c : Cut) (cs : List Cut) (put : List ℕ) (end : �
   prepared_all (Err TooLong) k = ((omega arith, h.order.1, h.order.2), omega (arith, k.2, ap (λ (l : List ℕ). length l) same))
   prepared_all (Err Fault) k = (k.0, rw (sym same) k.1)
   prepared_all (Err Memory) k = tt
+
+-- it is the cut that covers all
+cover_first : (text : List ℕ) (c : TextCut) (cuts : List TextCut) (put : List ℕ) (end : ℕ) → IsCover text c.lo (map cut_of (c ∷ cuts)) put end
+    → record { lo = c.lo; hi = end; put = put } ≡ cover_of text (map cut_of (c ∷ cuts))
+cover_first text c cuts put end h = ap₂ (λ (n : ℕ) (l : List ℕ). record { lo = c.lo; hi = n; put = l }) h.last h.exact
+
+pub cover_is : (text : List ℕ) (cuts : List TextCut) (c : TextCut) (put : List ℕ) (end : ℕ) → slice_get cuts 0 ≡ Some c → IsCover text c.lo (map cut_of cuts) put end
+    → record { lo = c.lo; hi = end; put = put } ≡ cover_of text (map cut_of cuts)
+cover_is text cuts c put end at h =
+    let e = first_and_others cuts c at in
+    let own = cover_first text c (drop 1 cuts) put end (subst (λ (l : List TextCut). IsCover text c.lo (map cut_of l) put end) e h) in
+    own ∙ ap (λ (l : List TextCut). cover_of text (map cut_of l)) (sym e)
 
 pub prepared_cuts : (old new : Content) (cuts : List TextCut) (c : TextCut) (put : List ℕ) (end : ℕ) (r : Result Prepared PrepareError) → slice_get cuts 0 ≡ Some c → IsCover (text_of old) c.lo (map cut_of cuts) put end
     → Prepares old new (record { lo = c.lo; hi = end; put = put }) r → PreparesAll old new (map cut_of cuts) r

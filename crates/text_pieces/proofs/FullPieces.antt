@@ -21,7 +21,7 @@ unfolding cut
 none_whole m [] e h = absurd (cc)
 none_whole m (p ∷ ps) e h = absurd (cc)
 
-piece_full : (m after : Mode) (bytes : List ℕ) (rec : Record) → IsPiece def m bytes rec after → 0 < length bytes
+pub piece_full : (m after : Mode) (bytes : List ℕ) (rec : Record) → IsPiece def m bytes rec after → 0 < length bytes
 unfolding lex
 piece_full m after [] rec is = absurd (none_whole m is.statement (sym is.tokens.pieces) is.one)
 piece_full m after (b ∷ bs) rec is = omega arith

@@ -1,14 +1,12 @@
 -- Changes that last while others are prepared.
-use Rattle.std.proofs.Common.{◌≡◌, ℕ, List, Option, length, map, refl, sym, ap, ap₂, ◌∙◌, subst}
+use Rattle.std.proofs.Common.{◌≡◌, ℕ, List, Option, refl, sym, ap, ap₂, ◌∙◌, subst}
 use Rattle.std.specs.List.{zip}
 use Rattle.design_model.specs.declared.identifier.StmtId.{StmtId}
-use Rattle.text_pieces.specs.Changes.{Prepared, changed, IsBetween}
-use Rattle.text_pieces.specs.Chunks.{Numbers, all_ids, exchanged, ArePlaces}
+use Rattle.text_pieces.specs.Changes.{Prepared, IsBetween}
+use Rattle.text_pieces.specs.Chunks.{Numbers, all_ids, exchanged}
 use Rattle.text_pieces.specs.Content.{Content, text_of}
 use Rattle.text_pieces.specs.Lasting.{Leads}
-use Rattle.text_pieces.specs.Lent.{numbered_statements}
 use Rattle.text_pieces.specs.Preparing.{StandsStill}
-use Rattle.text_pieces.specs.Statements.{modes_by_number, modes_of, spans_by_number, spans_of, statements_of}
 use Rattle.text_pieces.specs.Storing.{StaysKept}
 use Rattle.text_pieces.specs.Tables.{Kept, ids_of}
 use Rattle.text_pieces.proofs.PutPieces.{text_same, text_stays}

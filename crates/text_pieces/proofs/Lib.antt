@@ -2,6 +2,7 @@ mod Chains
 mod CoveredCuts
 mod Exchanges
 mod FaultsBehind
+mod FewReads
 mod Found
 mod FromPlaces
 mod FullPieces
@@ -12,15 +13,19 @@ mod KeptPieces
 mod LastingChanges
 mod LentPieces
 mod Neighbours
+mod NewEnds
 mod NewLists
 mod Opened
+mod PieceEnds
 mod PlacedPieces
 mod PutPieces
+mod ReadAgain
 mod ReadPieces
 mod Replaced
 mod Shown
 mod Slots
 mod StoredPieces
+mod StretchRows
 mod Stretching
 mod TouchedPieces
 mod Turning

@@ -44,7 +44,7 @@ span_moved k n (p ∷ ps) whole end =
     ap (λ (m : ℕ). record { lo = k + p.pos; hi = m })
     (ap (λ (m : ℕ). end_after m (map (moved_token k) ps)) (add_assoc k p.pos (length p.bytes)) ∙ end_moved k (p.pos + length p.bytes) ps ∙ ap (λ (m : ℕ). k + m) end)
 
-piece_spans : (k : ℕ) (m next : Mode) (bytes : List ℕ) (rec : Record) (is : IsPiece def m bytes rec next) → span_of (map (moved_token k) (tokens bytes).pieces) ≡ piece_span k bytes
+pub piece_spans : (k : ℕ) (m next : Mode) (bytes : List ℕ) (rec : Record) (is : IsPiece def m bytes rec next) → span_of (map (moved_token k) (tokens bytes).pieces) ≡ piece_span k bytes
 piece_spans k m next bytes rec is =
     let own : (tokens bytes).pieces ≡ is.statement = is.tokens.pieces in
     ap (λ (ps : List Token). span_of (map (moved_token k) ps)) own

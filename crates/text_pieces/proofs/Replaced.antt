@@ -39,7 +39,7 @@ segments_from ks tail zero low = refl
 segments_from [] tail (suc n) low = absurd (omega (arith, low))
 segments_from (k ∷ ks) tail (suc n) low = segments_from ks tail n (omega (arith, low))
 
-segments_up_to : (ks : List Kept) (tail : List ℕ) (n : ℕ) → n ≤ length ks → behind_edit.bytes_of (take n (segments ks tail)) ≡ concat (bytes_of (take n ks))
+pub segments_up_to : (ks : List Kept) (tail : List ℕ) (n : ℕ) → n ≤ length ks → behind_edit.bytes_of (take n (segments ks tail)) ≡ concat (bytes_of (take n ks))
 segments_up_to ks tail zero low = refl
 segments_up_to [] tail (suc n) low = absurd (omega (arith, low))
 segments_up_to (k ∷ ks) tail (suc n) low = ap (λ (l : List ℕ). k.bytes ++ l) (segments_up_to ks tail n (omega (arith, low)))

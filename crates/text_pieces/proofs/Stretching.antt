@@ -100,7 +100,7 @@ module _ (c : Content) (t : IsText c) (k i : ℕ) (below : k < length c.table.ch
   abbrev pub back : List Kept
   back = kept_from c.table k i
 
-  standing_is : standing c.table ≡ front ++ back
+  pub standing_is : standing c.table ≡ front ++ back
   standing_is = ap (map (kept_at c.table.slots)) (split_at c.table.chunks k i below) ∙ map-append (kept_at c.table.slots) (ids_before c.table.chunks k i) (ids_from c.table.chunks k i)
 
   bytes_are : bytes_of (standing c.table) ≡ bytes_of front ++ bytes_of back
@@ -159,10 +159,10 @@ module _ (c : Content) (t : IsText c) (lo hi : ℕ) (put : List ℕ) (p : Place)
   abbrev pub L : List OldBytes
   L = segments K c.tail
 
-  abbrev the_cut : Cut
+  abbrev pub the_cut : Cut
   the_cut = record { lo = lo; hi = hi; put = put }
 
-  start_is : p.start ≡ length (concat (bytes_of F))
+  pub start_is : p.start ≡ length (concat (bytes_of F))
   start_is = b.bytes ∙ sym (weight_is c.table.slots (ids_before c.table.chunks p.chunk p.index))
 
   none_start : (ids : List StmtId) → length ids ≡ 0 → length (concat (bytes_of (map (kept_at c.table.slots) ids))) ≡ 0
@@ -258,16 +258,16 @@ module _ (c : Content) (t : IsText c) (lo hi : ℕ) (put : List ℕ) (p : Place)
       abbrev out : ℕ
       out = n + x.used
 
-      abbrev news : List Kept
+      abbrev pub news : List Kept
       news = news_of p.chunk x.pieces.items
 
-      abbrev left : List Kept
+      abbrev pub left : List Kept
       left = map (kept_at c.table.slots) (ids_left c.table.chunks p.chunk p.index (n + x.used))
 
       abbrev pub Follows : List ℕ → Type 0
       Follows tail = EndsText mid (news ++ left) tail × (concat (bytes_of (news ++ left)) ++ tail ≡ raw ++ D)
 
-      long_is : length L ≡ length K + 1
+      pub long_is : length L ≡ length K + 1
       long_is = omega (arith, length-append (map old_bytes K) (record { bytes = c.tail; mode = Some After } ∷ []), length-map K old_bytes)
 
       left_is : left ≡ drop (n + x.used) K

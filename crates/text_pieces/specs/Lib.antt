@@ -7,6 +7,7 @@ pub mod KeptRecords
 pub mod Lasting
 pub mod Lent
 pub mod Lists
+pub mod NewStretches
 pub mod Opening
 pub mod Preparing
 pub mod Statements

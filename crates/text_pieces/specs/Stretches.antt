@@ -12,6 +12,7 @@ use Rattle.piece_laws.specs.Pieces.{AreApart, AreChained, IsTail, modes_from}
 use Rattle.text_pieces.specs.Chunks.{ids_at}
 use Rattle.text_pieces.specs.Content.{Content, bytes_of, read_keyless, text_of}
 use Rattle.text_pieces.specs.Lists.{ids_left}
+use Rattle.text_pieces.specs.NewStretches.{new_stretch}
 use Rattle.text_pieces.specs.Storing.{news_of}
 use Rattle.text_pieces.specs.Tables.{Kept, ids_before, kept_at}
 use Rattle.text_pieces.specs.declared.stretch.Stretch.{Stretch}
@@ -44,6 +45,7 @@ pub record IsStretch {A : Type 0} (c : Content) (cut : Cut) (x : Stretch A) : Ty
   pub ends : EndsText Top (stretched c x) x.tail.items
   pub whole : concat (bytes_of (stretched c x)) ++ x.tail.items ≡ cut_text c cut
   pub read : x.reads ≡ length x.pieces.items
+  pub few : x.reads ≤ length (new_stretch (text_of c) cut)
 
 -- what reading again says where a cut is made; that a text has a fault is said, and not which
 abbrev pub ReadsStretch : {A : Type 0} → Content → Cut → Result (Stretch A) ReadError → Type 0

@@ -6,12 +6,13 @@
 //! beside the text, as a `PreparedText`, which says how many statements were read for it, which numbers go out, and which come
 //! in; `TextPieces::commit` makes it, takes no memory, and leaves the change that takes it back. One that is dropped changes
 //! nothing, but the pieces that were made for it are kept with the text. `prepare_all` prepares several cuts as one change.
+//! Changes may be kept while others are prepared and made, and be made once those are taken back: the laws of `lasting` say so.
 //!
 //! A text in pieces is seen as `Content` of `specs/Content`: `text_of` is its text, and `specs/Statements` says which statements
 //! stand under which numbers. Its invariant is `IsText`: the pieces are chained, and the text reads but for what a text has once
 //! or needs (`keyless` of `piece_laws`). `IsBetween` of `specs/Changes` says what a prepared change is, and `Prepares` of
 //! `specs/Preparing` what preparing one answers. What an edit touches is read again, and as much behind it as is needed until
-//! an old statement goes on, by `rereading`.
+//! an old statement goes on, by `rereading`: no more statements than those of `new_stretch` in `specs/NewStretches`.
 //!
 //! Bytes of statements are lent. A position is an offset in bytes from 0. `open` answers `ReadError`, the fault of the first
 //! statement that can't be read or want of memory; `prepare` answers `PrepareError`; and `write_to` `WriteFault`, where a first part

@@ -1,6 +1,6 @@
 //! Pieces under the numbers of their statements, in chunks.
 
-ghost use Rattle.std.specs.Prelude.{◌≡◌, ◌<◌, ◌≤◌, ◌+◌, IfOk, MatchOption, length, map, slice_get, take};
+ghost use Rattle.std.specs.Prelude.{◌≡◌, ◌<◌, ◌≤◌, ◌+◌, IfOk, MatchOption, drop, length, map, slice_get, take};
 ghost use Rattle.design_model.specs.declared.TheConstants.{MAX_TEXT};
 ghost use Rattle.text_pieces.specs.Behind.{ids_from};
 ghost use Rattle.text_pieces.specs.Chunks.{IsAbsent, all_ids, first_id, id_after, id_before, ids_at};
@@ -194,6 +194,7 @@ impl<A: Allocator> PieceTable<A> {
         ensures inside { result.0 ≤ length ids.now }
         ensures start { result.1 ≡ from + weight (table_of self.now).slots (take result.0 ids.now) }
         ensures low { 0 < result.0 → result.1 < pos }
+        ensures high { result.0 < length ids.now → pos ≤ result.1 + weight (table_of self.now).slots (take 1 (drop result.0 ids.now)) }
     {
         let mut start = from;
         for i in 0..ids.len() {
@@ -213,6 +214,7 @@ impl<A: Allocator> PieceTable<A> {
         ensures within { result.0 < length (table_of self.now).chunks }
         ensures start { result.1 ≡ weight (table_of self.now).slots (all_ids (take result.0 (table_of self.now).chunks)) }
         ensures low { 0 < result.0 → result.1 < pos }
+        ensures high { result.0 + 1 < length (table_of self.now).chunks → pos ≤ weight (table_of self.now).slots (all_ids (take (result.0 + 1) (table_of self.now).chunks)) }
     {
         let last = self.chunks.len() - 1;
         let mut start = 0;

@@ -8,9 +8,10 @@ ghost use Rattle.counted_devices.specs.Known.{WritesPart};
 ghost use Rattle.design_model.specs.declared.TheConstants.{MAX_TEXT};
 ghost use Rattle.text_pieces.specs.Chunks.{AreOnce, first_id, id_after, id_before};
 ghost use Rattle.text_pieces.specs.Changes.{IsBetween};
-ghost use Rattle.text_pieces.specs.Covering.{HasNoCover, IsCover, PreparesAll, cut_of};
+ghost use Rattle.text_pieces.specs.Covering.{HasNoCover, IsCover, PreparesAll, cover_of, cut_of};
 ghost use Rattle.text_pieces.specs.Content.{Content, Opens, read_keyless, text_of};
 ghost use Rattle.text_pieces.specs.Lasting.{Leads};
+ghost use Rattle.text_pieces.specs.NewStretches.{new_stretch};
 ghost use Rattle.text_pieces.specs.Statements.{bytes_in, lead, lent_bytes, look_up, modes_by_number, number_at, spans_by_number, statements_of};
 ghost use Rattle.text_pieces.specs.Preparing.{Prepares, StandsStill};
 ghost use Rattle.text_pieces.specs.Stretches.{ReadsStretch, cut_text};
@@ -138,6 +139,7 @@ impl<A: Allocator + Copy> TextPieces<A> {
     {
         pieces_are_read();
         tails_may_end();
+        texts_are_read();
         tokens_move();
         let at = self.table.first_touched(lo);
         let behind = Behind::from_place(&self.table, &self.tail, at.chunk, at.index);
@@ -249,6 +251,7 @@ impl<A: Allocator + Copy> TextPieces<A> {
     ) -> Result<PreparedText<A>, PrepareError>
         ensures prepares { Prepares self.old self.new (record { lo = lo; hi = hi; put = put.now }) result }
         ensures still { StandsStill self.old self.new }
+        ensures few { IfOk result (λ p. p.reads ≤ length (new_stretch (text_of self.old) (record { lo = lo; hi = hi; put = put.now }))) }
     {
         if lo > hi || hi > self.len {
             return Err(PrepareError::Range);
@@ -330,6 +333,7 @@ impl<A: Allocator + Copy> TextPieces<A> {
     ) -> Result<PreparedText<A>, PrepareError>
         ensures prepares { PreparesAll self.old self.new (map cut_of cuts.now) result }
         ensures still { StandsStill self.old self.new }
+        ensures few { IfOk result (λ p. p.reads ≤ length (new_stretch (text_of self.old) (cover_of (text_of self.old) (map cut_of cuts.now)))) }
     {
         let Some(first) = cuts.first() else {
             return self.prepare(alloc, 0, 0, b"");

@@ -29,3 +29,14 @@ loop-k-preserved g c =
     let below : k < length cs = omega (arith, within, length-map chunks shown) in
     let more = weight_more slots cs k _ c.requires.table.chunks below (shown_at chunks k c.index.result.now within c.index.ensures) in
     (omega (arith, more, c.loop-k.invariant.0), λ u. omega (arith, c.if-pos-end.false))
+
+pub returns-then-pos-end-clause-high : goal.returns-then-pos-end-clause-high
+returns-then-pos-end-clause-high g c = λ _.
+    let slots = map (option_map kept) c.args.self.now.pieces.slots in
+    let chunks = c.args.self.now.chunks.items in
+    let cs = map shown chunks in
+    let k = c.loop-k.k in
+    let within : k < length chunks = omega (arith, c.loop-k-test.true, c.len-last.ensures, c.args.self.now.chunks.ok.0) in
+    let below : k < length cs = omega (arith, within, length-map chunks shown) in
+    let more = weight_more slots cs k _ c.requires.table.chunks below (shown_at chunks k c.index.result.now within c.index.ensures) in
+    omega (arith, more, c.loop-k.invariant.0, c.if-pos-end.true)

@@ -43,4 +43,4 @@ returns g c =
     let within : c.chunk_touched-chunk.result.0 < length chunks = omega (arith, below, length-map chunks shown) in
     let ids = c.deref.ensures.value ∙ sym (ap (λ (n : Numbers). n.ids) (shown_at chunks k c.index.result.now within c.index.ensures)) in
     let i = c.first_in-index.ensures in
-    begins slots cs c.args.pos k c.first_in-index.result.0 c.chunk_touched-chunk.result.1 c.first_in-index.result.1 _ below ids t.start t.low i.inside i.start i.low
+    begins slots cs c.args.pos k c.first_in-index.result.0 c.chunk_touched-chunk.result.1 c.first_in-index.result.1 _ below ids t.start t.low t.high i.inside i.start i.low i.high

@@ -1,8 +1,6 @@
 use Rattle.std.proofs.Common.{◌∙◌, ap, map, arith}
 use Rattle.std.proofs.lemmas.List.{with_items_is}
-use Rattle.text_pieces.specs.Changes.{IsBetween}
 use Rattle.text_pieces.specs.Chunks.{shown, shown_change}
-use Rattle.text_pieces.specs.Content.{Content}
 use Rattle.text_pieces.proofs.LastingChanges.{leads_back}
 use Rattle.text_pieces.proofs.Turning.{finish}
 use Rattle.text_pieces.proofs.text.TextPieces.commit.Goals as goal

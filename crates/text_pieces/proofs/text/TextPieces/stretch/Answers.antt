@@ -12,6 +12,7 @@ use Rattle.text_pieces.specs.Content.{Content, text_of}
 use Rattle.text_pieces.specs.Stretches.{ReadsStretch, cut_text}
 use Rattle.text_pieces.specs.Tables.{table_of}
 use Rattle.text_pieces.specs.Touched.{AreTouched}
+use Rattle.text_pieces.proofs.ReadAgain.{few_again}
 use Rattle.text_pieces.proofs.Stretching.{accepted, begin_apart, chains, ended, few_ids, few_segments, full, mode_is, refused, room, some_segments, start_low}
 use Rattle.text_pieces.proofs.text.TextPieces.stretch.Goals as goal
 
@@ -239,4 +240,4 @@ returns g c =
     let v = c.in_ok-tail.tail.items in
     let follows = ended content t lo hi put p b order within old n touched g.row.A.Denot new is c.tails_may_end.ensures (slice_get (drop n behind) new.used) v refl (rw (later_is, c.deref-4.ensures.value) at c.in_ok-tail.ensures) in
     let both = accepted content t lo hi put p b order within old n touched g.row.A.Denot new is v follows in
-    rw (← c.self.view_is) (record { within = b.within; inside = b.inside; ends = both.0; whole = both.1; read = is.reads })
+    rw (← c.self.view_is) (record { within = b.within; inside = b.inside; ends = both.0; whole = both.1; read = is.reads; few = few_again content t lo hi put p b order within old n touched g.row.A.Denot new is c.texts_are_read.ensures v follows })
