@@ -10,6 +10,7 @@ mod Ids
 mod JoinedPieces
 mod LentPieces
 mod Neighbours
+mod NextPieces
 mod NewLists
 mod Opened
 mod PlacedPieces
@@ -20,6 +21,7 @@ mod Shown
 mod Slots
 mod StoredPieces
 mod Stretching
+mod Telling
 mod TouchedPieces
 mod Turning
 mod Weights

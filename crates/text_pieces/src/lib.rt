@@ -28,4 +28,5 @@ mod storing;
 mod stretch;
 mod table;
 pub mod text;
+pub mod told;
 mod writing;
