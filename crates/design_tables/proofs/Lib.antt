@@ -7,6 +7,7 @@ mod KeyedLemmas
 mod ListingLemmas
 mod MarkLemmas
 mod MarkRows
+mod OnceLemmas
 mod RecordLemmas
 mod TableLemmas
 mod TurnLemmas
