@@ -1,9 +1,9 @@
 mod EntryLists
 mod EntryPlaces
-mod Filling
 mod FoundNumbers
 mod FoundStatements
 mod KeptKeys
 mod Opened
 mod ReadPieces
 mod SectionEnds
+mod ToldKeys

@@ -27,10 +27,6 @@ text_of c = pieces.text_of c.pieces
 abbrev pub numbers_of : Content → List StmtId
 numbers_of c = ids_of c.pieces.table
 
--- what the statements of a text in pieces say, under their numbers
-abbrev pub numbered_records : pieces.Content → List (StmtId × Record)
-numbered_records c = zip (ids_of c.table) (map (λ x. x.1) (statements_of (pieces.text_of c)))
-
 -- the text reads as a design, and the tables are those of its statements under their numbers
 pub record IsDesignText (c : Content) : Type 0 where
   pub design : List Record

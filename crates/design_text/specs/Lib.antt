@@ -1,2 +1,3 @@
 pub mod DesignTexts
 pub mod EntryBytes
+pub mod ToldStatements
