@@ -1,6 +1,6 @@
 -- A text of which all statements read does so itself where they have once what a text has once, and UNITS.
-use Rattle.std.proofs.Common.{rules, ◌≡◌, ◌||◌, ℕ, Bool, true, false, List, [], ◌∷◌, length, map, None, Result, Ok, Err, IsOk, refl, sym, ap, ◌∙◌, subst, ⊎_elim, arith, append_assoc}
-use Rattle.std.specs.Prelude.{codes, count_by, nat_lt}
+use Rattle.std.proofs.Common.{rules, ◌≡◌, ◌||◌, ℕ, Bool, true, false, List, [], ◌∷◌, length, map, None, Ok, IsOk, refl, sym, ap, ◌∙◌, subst, ⊎_elim, arith}
+use Rattle.std.specs.Prelude.{codes, nat_lt}
 use Rattle.std.specs.List.{zip}
 use Rattle.std.proofs.lemmas.Bool.{cases_Bool as cases}
 use Rattle.std.proofs.lemmas.List.{length-map}

@@ -8,7 +8,7 @@ use Rattle.design_model.specs.declared.fault.ReadError.TheVariants.{Fault, Memor
 use Rattle.design_model.specs.declared.identifier.StmtId.{StmtId}
 use Rattle.design_model.specs.declared.mode.Mode.{Mode}
 use Rattle.design_model.specs.declared.mode.Mode.TheVariants.{Top, After}
-use Rattle.statement_model.specs.Tokens.{Token, left_from, tokens}
+use Rattle.statement_model.specs.Tokens.{Token, left_from}
 use Rattle.statement_model.specs.Reading.{read_at}
 use Rattle.def_grammar.specs.Records.{Record, def}
 use Rattle.piece_laws.specs.ChainLaws.{ChainsJoin, ChainsLead}
@@ -16,10 +16,9 @@ use Rattle.piece_laws.specs.PieceLaws.{TailsAreFound, TailsMayEnd}
 use Rattle.piece_laws.specs.PlaceLaws.{TextsAreRead}
 use Rattle.piece_laws.specs.Pieces.{AreChained}
 use Rattle.text_pieces.specs.Chunks.{Numbers, all_ids}
-use Rattle.text_pieces.specs.Content.{Content, IsText, Opens, bytes_of, text_of}
+use Rattle.text_pieces.specs.Content.{Content, IsText, Opens, bytes_of}
 use Rattle.text_pieces.specs.Lent.{numbered_records}
 use Rattle.text_pieces.specs.Opening.{AreTold, IsOpened, PieceAt, ReadsChunk}
-use Rattle.text_pieces.specs.Statements.{statements_of}
 use Rattle.text_pieces.specs.Storing.{Stores}
 use Rattle.text_pieces.specs.Tables.{Kept, ids_of, kept_at, standing}
 use Rattle.text_pieces.specs.Told.{Tells}

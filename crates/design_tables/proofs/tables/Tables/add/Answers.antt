@@ -1,4 +1,3 @@
-use Rattle.std.proofs.Common.{◌≡◌, Bool, false, subst, sym}
 use Rattle.design_tables.proofs.OnceLemmas.{added_once}
 use Rattle.design_tables.proofs.TableLemmas.{one_added}
 use Rattle.design_tables.proofs.tables.Tables.add.Goals as goal

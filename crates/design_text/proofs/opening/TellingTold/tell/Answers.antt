@@ -1,4 +1,3 @@
-use Rattle.std.proofs.Common.{true, false}
 use Rattle.design_text.proofs.opening.TellingTold.tell.Goals as goal
 
 pub returns-then-repeats : goal.returns-then-repeats
