@@ -23,7 +23,7 @@ use Rattle.design_tables.proofs.KeyLemmas.{Counts, CountsOf, counts_of, word_cou
 use Rattle.design_tables.proofs.ListingLemmas.{found_none, found_some, listed_both, same_name}
 use Rattle.design_tables.proofs.TableLemmas.{some_counted}
 
-same_key : (a b : Key) → same_words a b ≡ true → a ≡ b
+pub same_key : (a b : Key) → same_words a b ≡ true → a ≡ b
 same_key [] [] h = refl
 same_key (v ∷ vs) (w ∷ ws) h = by (bytes_eq v w) refl h (λ later. same_key vs ws later)
   where
@@ -50,14 +50,14 @@ stays true false h = refl
 stays false b h = refl
 
 -- statements of a key are as many as the marks under its name
-counted_in : (n : List ℕ) (role : Role) (key : Key) → Counts n role key → (ys : List (StmtId × Record)) (es : List (List ℕ × Listing)) → AreTablesOf ys es → count_in n role es ≡ count_by (same_words key) (keys_of ys)
+pub counted_in : (n : List ℕ) (role : Role) (key : Key) → Counts n role key → (ys : List (StmtId × Record)) (es : List (List ℕ × Listing)) → AreTablesOf ys es → count_in n role es ≡ count_by (same_words key) (keys_of ys)
 counted_in n role key c ys es are =
     (are n).marks (λ m. same_role m.role role)
     ∙ count_filter (λ m. not (is_member m)) (λ m. same_role m.role role) (marks_under n ys)
     ∙ counts_same (λ m. not (is_member m) && same_role m.role role) (λ m. same_role m.role role) (λ m. stays (is_member m) (same_role m.role role) (c.other m.role)) (marks_under n ys)
     ∙ c.under ys
 
-below_two : (n : ℕ) → nat_lt 1 n ≡ false → n ≤ 1
+pub below_two : (n : ℕ) → nat_lt 1 n ≡ false → n ≤ 1
 below_two n h = grind (arith, nat_tests, h)
 
 two_or_more : (n : ℕ) → nat_lt 1 n ≡ true → 1 < n

@@ -8,6 +8,7 @@ mod ListingLemmas
 mod MarkLemmas
 mod MarkRows
 mod Orders
+mod OnceLemmas
 mod RecordLemmas
 mod TableLemmas
 mod TurnLemmas

@@ -19,12 +19,16 @@ pub record IsKept (xs out kept : List (StmtId × Record)) : Type 0 where
   pub sums : (w : StmtId × Record → ℕ) → sum_by w xs ≡ sum_by w out + sum_by w kept
   pub apart : list_any (λ (x : StmtId × Record). has_number out x.0) kept ≡ false
 
--- what a text has once, it has once, and it has UNITS
+-- what a text has once, it has once
 abbrev pub keys_of : List (StmtId × Record) → List Key
 keys_of xs = map (λ (x : StmtId × Record). key_of x.1) xs
 
+abbrev pub HaveKeysOnce : List (StmtId × Record) → Type 0
+HaveKeysOnce xs = (key : Key) → key ≢ [] → count_by (same_words key) (keys_of xs) ≤ 1
+
+-- and it has UNITS
 pub record AreKeyed (xs : List (StmtId × Record)) : Type 0 where
-  pub once : (key : Key) → key ≢ [] → count_by (same_words key) (keys_of xs) ≤ 1
+  pub once : HaveKeysOnce xs
   pub units : is_among (keys_of xs) (codes "UNITS" ∷ []) ≡ true
 
 -- how many statements have a role under a name, in a table

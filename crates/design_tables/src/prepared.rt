@@ -54,7 +54,7 @@ impl<A: Allocator + Copy> Model for PreparedTables<A> {
 
 impl<A: Allocator + Copy> NameTable<A> {
     /// How many statements have a role under a name.
-    fn count(&self, name: &[u8], role: Role) -> usize
+    pub(crate) fn count(&self, name: &[u8], role: Role) -> usize
         ensures { result ≡ count_in name.now role self.now }
     {
         match self.get(name) {
@@ -64,7 +64,7 @@ impl<A: Allocator + Copy> NameTable<A> {
     }
 
     /// Whether what a text has once of a statement stands twice.
-    fn is_repeated(&self, statement: &Statement<'_>) -> bool
+    pub(crate) fn is_repeated(&self, statement: &Statement<'_>) -> bool
         ensures { result ≡ is_twice (key_mark (record_view statement.now)) self.now }
     {
         match key_mark(statement) {

@@ -1,11 +1,13 @@
 //! Tables of the statements of a text, and what they find.
 
-ghost use Rattle.std.specs.Prelude.{◌≡◌, ◌∷◌, ◌++◌, [], ℕ, List, MatchOption, OnOk, Some, length};
+ghost use Rattle.std.specs.Prelude.{◌≡◌, ◌↔◌, ◌∷◌, ◌++◌, [], ℕ, List, IfOk, MatchOption, OnOk, Some, codes, false, length};
+ghost use Rattle.statement_model.specs.Reading.{is_among};
 ghost use Rattle.def_grammar.specs.Records.{Record};
 ghost use Rattle.def_reader.specs.StatementViews.{record_view};
 ghost use Rattle.design_model.specs.declared.identifier.StmtId.{StmtId as TheStmtId};
 ghost use Rattle.design_tables.specs.Listings.{AreTablesOf, listed};
 ghost use Rattle.design_tables.specs.Lookups.{Finds, FindsAll, entries_of, ids_with, is_design_pin, is_end, is_header, is_named_entry, is_of, is_star_pin, lists};
+ghost use Rattle.design_tables.specs.Prepared.{HaveKeysOnce, is_repeated, keys_of};
 
 use crate::names::NameTable;
 use crate::role::{Mark, Role};
@@ -79,11 +81,15 @@ impl<A: Allocator + Copy> Tables<A> {
         }
     }
 
-    /// Puts one more statement in, under a number. Where memory is refused it may be put in part.
-    pub fn add(&mut self, id: StmtId, statement: &Statement<'_>) -> Result<(), AllocError>
-        ensures { (xs : List (TheStmtId × Record)) → AreTablesOf xs self.old → OnOk result (AreTablesOf (xs ++ (id, record_view statement.now) ∷ []) self.new) }
+    /// Puts one more statement in, under a number, and answers whether what a text has once of it stands more than once then.
+    /// Where memory is refused it may be put in part.
+    pub fn add(&mut self, id: StmtId, statement: &Statement<'_>) -> Result<bool, AllocError>
+        ensures added { (xs : List (TheStmtId × Record)) → AreTablesOf xs self.old → OnOk result (AreTablesOf (xs ++ (id, record_view statement.now) ∷ []) self.new) }
+        ensures repeated { IfOk result (λ repeats. repeats ≡ is_repeated self.new (id, record_view statement.now)) }
+        ensures once { (xs : List (TheStmtId × Record)) → AreTablesOf xs self.old → HaveKeysOnce xs → IfOk result (λ repeats. (repeats ≡ false) ↔ HaveKeysOnce (xs ++ (id, record_view statement.now) ∷ [])) }
     {
-        self.names.add(id, statement)
+        self.names.add(id, statement)?;
+        Ok(self.names.is_repeated(statement))
     }
 
     /// The marks under a name.
@@ -133,6 +139,13 @@ impl<A: Allocator + Copy> Tables<A> {
             Some(listing) => listing.entries,
             None => 0,
         }
+    }
+
+    /// Whether the text has UNITS.
+    pub fn has_units(&self) -> bool
+        ensures { (xs : List (TheStmtId × Record)) → AreTablesOf xs self.now → result ≡ is_among (keys_of xs) (codes "UNITS" ∷ []) }
+    {
+        self.names.count(b"UNITS", Role::Statement) > 0
     }
 
     /// The entries of NETS and SPECIALNETS that list a pin of a component by its name, one as often as it lists one.

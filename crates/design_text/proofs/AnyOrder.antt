@@ -10,7 +10,8 @@ use Rattle.def_grammar.specs.Records.{Record}
 use Rattle.text_pieces.specs.Chunks.{AreOnce, IsAbsent}
 use Rattle.text_pieces.specs.Changes.{Prepared}
 use Rattle.text_pieces.specs.Content.{Content}
-use Rattle.text_pieces.specs.KeptRecords.{AreParted, numbered_records, records_under}
+use Rattle.text_pieces.specs.KeptRecords.{AreParted, records_under}
+use Rattle.text_pieces.specs.Lent.{numbered_records}
 use Rattle.text_pieces.specs.Tables.{Kept}
 use Rattle.design_tables.specs.AnyOrder.{AreSame, KeysInAnyOrder, TablesInAnyOrder}
 use Rattle.design_tables.specs.Changes.{has_number}

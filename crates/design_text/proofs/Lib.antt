@@ -1,7 +1,6 @@
 mod AnyOrder
 mod EntryLists
 mod EntryPlaces
-mod Filling
 mod FoundNumbers
 mod FoundStatements
 mod KeptKeys
@@ -13,3 +12,4 @@ mod ReadTexts
 mod SectionEnds
 mod StepLemmas
 mod TwoCuts
+mod ToldKeys

@@ -15,11 +15,16 @@ use Rattle.def_grammar.specs.Records.{Record, def, read_def}
 use Rattle.piece_laws.specs.KeyLaws.{KeysAreApart}
 use Rattle.text_pieces.specs.Content as pieces
 use Rattle.text_pieces.specs.Content.{Opens, read_keyless}
+use Rattle.text_pieces.specs.Lent.{numbered_records}
 use Rattle.text_pieces.specs.Tables.{ids_of}
 use Rattle.design_tables.specs.Listings.{AreTablesOf, Listing}
 use Rattle.edit_laws.proofs.PlanTexts.{tokens_read}
 use Rattle.design_text.specs.DesignTexts.{IsDesignText}
-use Rattle.text_pieces.specs.KeptRecords.{numbered_records}
+use Rattle.design_text.specs.ToldStatements.{WereTold}
+
+-- no statement was told
+pub none_told : (names : List (List ℕ × Listing)) → AreTablesOf [] names → WereTold names false []
+none_told names are = (are, λ e key some. omega arith)
 
 has_records : (r : Result (List Record) fault.Fault) → IsOk r → (recs : List Record) × (r ≡ Ok recs)
 has_records (Ok recs) h = (recs, refl)

@@ -20,7 +20,7 @@ use Rattle.text_pieces.specs.Covering as covering
 use Rattle.text_pieces.specs.Changes.{IsBetween, Prepared}
 use Rattle.text_pieces.specs.Content as pieces
 use Rattle.text_pieces.specs.Content.{read_keyless}
-use Rattle.text_pieces.specs.KeptRecords.{numbered_records}
+use Rattle.text_pieces.specs.Lent.{numbered_records}
 use Rattle.text_pieces.specs.Lasting.{Leads}
 use Rattle.text_pieces.specs.Preparing.{StandsStill}
 use Rattle.text_pieces.specs.Statements.{statements_of}

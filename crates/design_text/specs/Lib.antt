@@ -2,3 +2,4 @@ pub mod DesignTexts
 pub mod Editing
 pub mod EntryBytes
 pub mod Steps
+pub mod ToldStatements

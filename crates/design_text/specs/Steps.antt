@@ -7,7 +7,7 @@ use Rattle.def_grammar.specs.Records.{read_def}
 use Rattle.splicing_laws.specs.KeepingLaws.{AreInOrder}
 use Rattle.text_pieces.specs.Changes.{Prepared}
 use Rattle.text_pieces.specs.Content as content
-use Rattle.text_pieces.specs.KeptRecords.{numbered_records}
+use Rattle.text_pieces.specs.Lent.{numbered_records}
 use Rattle.text_pieces.specs.Lasting.{Leads}
 use Rattle.text_pieces.specs.declared.prepared.PrepareError.{PrepareError}
 use Rattle.text_pieces.specs.declared.prepared.PrepareError.TheVariants.{Fault, Memory, Range, TooLong}

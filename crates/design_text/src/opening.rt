@@ -1,37 +1,94 @@
-//! Opening the text of a design.
+//! Opening the text of a design: each of its statements is read once, into its piece and for the tables.
 
-ghost use Rattle.std.specs.Prelude.{◌≡◌, IfOk};
+ghost use Rattle.std.specs.Prelude.{◌≡◌, List, Err, IfOk, true};
+ghost use Rattle.def_grammar.specs.Records.{Record};
+ghost use Rattle.design_model.specs.declared.identifier.StmtId.{StmtId as TheStmtId};
 ghost use Rattle.def_reader.specs.TextViews.{ReadsText};
-ghost use Rattle.design_tables.specs.Listings.{AreTablesOf};
+ghost use Rattle.design_tables.specs.Prepared.{AreKeyed};
 ghost use Rattle.design_text.specs.DesignTexts.{text_of};
-ghost use Rattle.text_pieces.specs.KeptRecords.{numbered_records};
+ghost use Rattle.design_text.specs.ToldStatements.{WereTold};
+ghost use Rattle.text_pieces.specs.Content.{Opens, text_of as text_in};
+ghost use Rattle.text_pieces.specs.Lent.{numbered_records};
 
-use crate::statements::statement_alone;
 use crate::text::DesignText;
 use def_reader::read_def::read_def;
 use def_reader::statement::Statement;
 use design_model::fault::ReadError;
+use design_model::identifier::StmtId;
 use design_tables::Tables;
-use piece_laws::keys::keys_are_apart;
+use piece_laws::keys::{fresh_is_once, keys_are_apart, keys_decide};
 use statement_reader::laws::records_are_read;
 use std::alloc::{AllocError, Allocator};
 use text_pieces::text::TextPieces;
+use text_pieces::told::Told;
 
-/// The tables of the statements of a text in pieces, under their numbers.
-fn tables_of<A: Allocator + Copy>(alloc: A, pieces: &TextPieces<A>) -> Result<Tables<A>, AllocError>
-    ensures { IfOk result (λ tables. AreTablesOf (numbered_records pieces.now) tables) }
-{
-    pieces.statements_are_numbered();
-    let mut tables = Tables::new(alloc);
-    let mut next = pieces.first();
-    while let Some(id) = next {
-        let Some(statement) = statement_alone(pieces, id) else {
-            unreachable!()
-        };
-        tables.add(id, &statement)?;
-        next = pieces.next(id);
+/// The tables of the statements that were told, and whether one came again of which a text has one.
+#[derive(Drop)]
+struct Telling<A: Allocator + Copy> {
+    tables: Tables<A>,
+    is_repeated: bool,
+}
+
+impl<A: Allocator + Copy> Told for Telling<A> {
+    ghost says = { λ t xs. WereTold t.tables t.is_repeated xs };
+
+    fn tell(&mut self, id: StmtId, statement: &Statement<'_>) -> Result<(), AllocError> {
+        let repeats = self.tables.add(id, statement)?;
+        if repeats {
+            self.is_repeated = true;
+            return Ok(());
+        }
+        Ok(())
     }
-    Ok(tables)
+}
+
+impl<A: Allocator + Copy> Telling<A> {
+    /// Whether what a text has once stands once, and UNITS is there.
+    fn is_keyed(&self) -> bool
+        ensures { (xs : List (TheStmtId × Record)) → WereTold self.now.tables self.now.is_repeated xs → result ≡ true → AreKeyed xs }
+    {
+        if self.is_repeated {
+            return false;
+        }
+        self.tables.has_units()
+    }
+}
+
+/// Whether a text reads of which all statements do. It is read again where it does not, for its fault.
+fn check_keys<A: Allocator + Copy>(
+    alloc: A,
+    text: &[u8],
+    pieces: &TextPieces<A>,
+    telling: &Telling<A>,
+) -> Result<(), ReadError>
+    requires is { text_in pieces.now ≡ text.now }
+    requires told { WereTold telling.now.tables telling.now.is_repeated (numbered_records pieces.now) }
+    ensures { ReadsText text.now result }
+{
+    keys_decide();
+    fresh_is_once();
+    pieces.statements_are_numbered();
+    if telling.is_keyed() {
+        return Ok(());
+    }
+    read_def(alloc, text)?;
+    Ok(())
+}
+
+/// What is answered of a text whose pieces can't be opened: its fault, which is the first of two, as a statement that comes again may
+/// stand before one that can't be read. Where it has none, memory was refused.
+fn unopened<A: Allocator + Copy>(
+    alloc: A,
+    text: &[u8],
+    error: ReadError,
+) -> Result<DesignText<A>, ReadError>
+    requires { Opens text.now (Err error) }
+    ensures opens { ReadsText text.now result }
+    ensures text { IfOk result (λ t. text_of t ≡ text.now) }
+{
+    keys_are_apart();
+    read_def(alloc, text)?;
+    Err(error)
 }
 
 impl<A: Allocator + Copy> DesignText<A> {
@@ -41,14 +98,18 @@ impl<A: Allocator + Copy> DesignText<A> {
         ensures text { IfOk result (λ t. text_of t ≡ text.now) }
     {
         records_are_read::<Statement<'_>>();
-        keys_are_apart();
-        read_def(alloc, text)?;
-        match TextPieces::open(alloc, text) {
+        let tables = Tables::new(alloc);
+        let mut telling = Telling {
+            tables,
+            is_repeated: false,
+        };
+        match TextPieces::open_telling(alloc, text, &mut telling) {
             Ok(pieces) => {
-                let tables = tables_of(alloc, &pieces)?;
+                check_keys(alloc, text, &pieces, &telling)?;
+                let tables = telling.tables;
                 Ok(DesignText { pieces, tables })
             }
-            Err(error) => Err(error),
+            Err(error) => unopened(alloc, text, error),
         }
     }
 }

@@ -4,7 +4,8 @@ ghost use Rattle.std.specs.Prelude.{◌≡◌, ◌⊎◌, ℕ, List, IfErr, IfOk
 ghost use Rattle.text_pieces.specs.Changes.{IsBetween};
 ghost use Rattle.text_pieces.specs.Content as content;
 ghost use Rattle.text_pieces.specs.Covering.{cut_of};
-ghost use Rattle.text_pieces.specs.KeptRecords.{HavePieces, numbered_records, records_under};
+ghost use Rattle.text_pieces.specs.KeptRecords.{HavePieces, records_under};
+ghost use Rattle.text_pieces.specs.Lent.{numbered_records};
 ghost use Rattle.text_pieces.specs.declared.prepared.PrepareError.TheVariants.{Fault as IsFault, Memory as IsMemory};
 ghost use Rattle.design_tables.specs.Listings.{AreTablesOf, Listing};
 ghost use Rattle.design_tables.specs.Prepared as prepared;

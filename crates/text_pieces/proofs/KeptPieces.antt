@@ -15,7 +15,8 @@ use Rattle.piece_laws.specs.Pieces.{AreChained, IsPiece, modes_from}
 use Rattle.text_pieces.specs.Changes.{IsBetween, Prepared, changed}
 use Rattle.text_pieces.specs.Chunks.{Numbers, AreOnce, all_ids}
 use Rattle.text_pieces.specs.Content.{Content, IsText, bytes_of, text_of}
-use Rattle.text_pieces.specs.KeptRecords.{AreParted, HasPiece, HavePieces, numbered_records, record_of, record_or, records_under}
+use Rattle.text_pieces.specs.KeptRecords.{AreParted, HasPiece, HavePieces, record_of, record_or, records_under}
+use Rattle.text_pieces.specs.Lent.{numbered_records}
 use Rattle.text_pieces.specs.Statements.{statements_of}
 use Rattle.text_pieces.specs.Tables.{AreChunks, AreHome, Kept, ids_of, kept_at, slot, standing}
 use Rattle.text_pieces.proofs.PlacedPieces.{as_many, reads_as}

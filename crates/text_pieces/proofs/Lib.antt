@@ -14,6 +14,7 @@ mod LastingChanges
 mod LentPieces
 mod Neighbours
 mod NewEnds
+mod NextPieces
 mod NewLists
 mod Opened
 mod PieceEnds
@@ -27,6 +28,7 @@ mod Slots
 mod StoredPieces
 mod StretchRows
 mod Stretching
+mod Telling
 mod TouchedPieces
 mod Turning
 mod Weights

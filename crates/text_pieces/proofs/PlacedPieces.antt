@@ -51,7 +51,7 @@ piece_spans k m next bytes rec is =
     ∙ span_moved k (length bytes) is.statement is.one is.ends
     ∙ ap (λ (ps : List Token). record { lo = k + (span_of ps).lo; hi = k + length bytes }) (sym own)
 
-records_placed : (start : ℕ) (m last : Mode) (ps : List (List ℕ)) (recs : List Record) → AreChained def m ps recs last → map (λ x. x.1) (placed_pieces start ps recs) ≡ recs
+pub records_placed : (start : ℕ) (m last : Mode) (ps : List (List ℕ)) (recs : List Record) → AreChained def m ps recs last → map (λ x. x.1) (placed_pieces start ps recs) ≡ recs
 records_placed start m last [] [] chain = refl
 records_placed start m last [] (r ∷ rs) chain = absurd chain
 records_placed start m last (p ∷ ps) [] chain = absurd chain

@@ -22,8 +22,8 @@ use Rattle.text_pieces.specs.Content.{bytes_of}
 use Rattle.text_pieces.specs.Opening.{AreRead, PieceAt}
 use Rattle.text_pieces.specs.Tables.{Kept}
 
-pub read_start : (text : List ℕ) → AreRead text [] Top 0
-read_start text = record { recs = []; chained = refl; modes = refl; left = text; whole = refl; at = refl; apart = tt }
+pub read_start : (text : List ℕ) → AreRead text [] [] Top 0
+read_start text = record { chained = refl; modes = refl; left = text; whole = refl; at = refl; apart = tt }
 
 modes_more : (m : Mode) (recs : List Record) (rec : Record) → modes_from def m (recs ++ rec ∷ []) ≡ modes_from def m recs ++ fold def.after m recs ∷ []
 modes_more m [] rec = refl
@@ -46,24 +46,24 @@ split_at text pos end low =
 pub range_long : (text : List ℕ) (pos end : ℕ) → pos < end → end ≤ length text → pos + length (slice_range text pos end) ≡ end
 range_long text pos end low high = omega (arith, low, high, length-take (end - pos) (drop pos text), length-drop pos text)
 
-module _ (text : List ℕ) (ks : List Kept) (mode : Mode) (pos : ℕ) (g : AreRead text ks mode pos) where
+module _ (text : List ℕ) (ks : List Kept) (recs : List Record) (mode : Mode) (pos : ℕ) (g : AreRead text ks recs mode pos) where
   pub left_at : drop pos text ≡ g.left
   left_at = ap (drop pos) g.whole ∙ drop_at (concat (bytes_of ks)) g.left pos (sym g.at)
 
   -- one piece more
-  pub read_on : ChainsJoin def → ChainsLead def → (end : ℕ) (next : Mode) (k : Kept) → PieceAt mode text pos (end, next) → k.bytes ≡ slice_range text pos end → k.mode ≡ mode → AreRead text (ks ++ k ∷ []) next end
-  read_on joins leads end next k piece bytes same =
+  pub read_on : ChainsJoin def → ChainsLead def → (end : ℕ) (next : Mode) (rec : Record) (k : Kept) → PieceAt mode text pos end next rec → k.bytes ≡ slice_range text pos end → k.mode ≡ mode
+      → AreRead text (ks ++ k ∷ []) (recs ++ rec ∷ []) next end
+  read_on joins leads end next rec k piece bytes same =
       let b = slice_range text pos end in
       let left = drop end text in
       let done = bytes_of ks in
       let more : bytes_of (ks ++ k ∷ []) ≡ done ++ b ∷ [] = map-append (λ (q : Kept). q.bytes) ks (k ∷ []) ∙ ap (λ (t : List ℕ). done ++ t ∷ []) bytes in
       let split : g.left ≡ b ++ left = sym left_at ∙ split_at text pos end (omega (arith, piece.0)) in
       let long = range_long text pos end piece.0 piece.1 in
-      let leads_here : k.mode ≡ fold def.after Top g.recs = same ∙ leads Top mode done g.recs g.chained in
+      let leads_here : k.mode ≡ fold def.after Top recs = same ∙ leads Top mode done recs g.chained in
       record {
-        recs = g.recs ++ piece.2.0 ∷ [];
-        chained = rw more (joins Top mode next done (b ∷ []) g.recs (piece.2.0 ∷ []) g.chained (next, piece.2.1, refl));
-        modes = map-append (λ (q : Kept). q.mode) ks (k ∷ []) ∙ ap₂ (λ (ms : List Mode) (m : Mode). ms ++ m ∷ []) g.modes leads_here ∙ sym (modes_more Top g.recs piece.2.0);
+        chained = rw more (joins Top mode next done (b ∷ []) recs (rec ∷ []) g.chained (next, piece.2, refl));
+        modes = map-append (λ (q : Kept). q.mode) ks (k ∷ []) ∙ ap₂ (λ (ms : List Mode) (m : Mode). ms ++ m ∷ []) g.modes leads_here ∙ sym (modes_more Top recs rec);
         left = left;
         whole = rw more (g.whole ∙ ap (λ (t : List ℕ). concat done ++ t) split ∙ sym (append_assoc (concat done) b left) ∙ ap (λ (t : List ℕ). t ++ left) (sym (joined_one done b)));
         at = rw more (omega (arith, g.at, long, ap (λ (t : List ℕ). length t) (joined_one done b), length-append (concat done) b));
@@ -79,5 +79,5 @@ module _ (text : List ℕ) (ks : List Kept) (mode : Mode) (pos : ℕ) (g : AreRe
       let here : read_at (keyless def) mode l ≡ Err f = ap (read_at (keyless def) mode) same ∙ same_read def mode (left_from text pos) ∙ read in
       let state : Mode × List Key = (Top, []) in
       ap (λ (t : List ℕ). read_from (keyless def) state (tokens t)) g.whole
-      ∙ law 0 Top mode (bytes_of ks) g.recs g.left g.chained g.apart
-      ∙ ap (λ (r : Result (List Record) Fault). r >> λ later. Ok (g.recs ++ later)) (faults_stop (keyless def) mode [] l f here)
+      ∙ law 0 Top mode (bytes_of ks) recs g.left g.chained g.apart
+      ∙ ap (λ (r : Result (List Record) Fault). r >> λ later. Ok (recs ++ later)) (faults_stop (keyless def) mode [] l f here)

@@ -5,7 +5,7 @@ use Rattle.std.proofs.lemmas.List.{map-append}
 use Rattle.slab.specs.Slab.{Slab, Updates, get}
 use Rattle.design_model.specs.declared.identifier.StmtId.{StmtId}
 use Rattle.design_model.specs.declared.mode.Mode.{Mode}
-use Rattle.def_grammar.specs.Records.{def}
+use Rattle.def_grammar.specs.Records.{Record, def}
 use Rattle.piece_laws.specs.ChainLaws.{ChainsJoin, ChainsLead}
 use Rattle.text_pieces.specs.Chunks.{Numbers, all_ids, IsAbsent, AreOnce}
 use Rattle.text_pieces.specs.Opening.{AreRead, IsOpened, PieceAt}
@@ -73,32 +73,33 @@ once_more : (xs : List StmtId) (id : StmtId) → AreOnce xs → IsAbsent id xs �
 once_more [] id h a = (tt, tt)
 once_more (x ∷ xs) id h a = (absent_append x xs (id ∷ []) h.0 (λ e. a.0 (sym e), tt), once_more xs id h.1 a.1)
 
-abbrev numbers_of : List StmtId → ℕ → Numbers
+abbrev pub numbers_of : List StmtId → ℕ → Numbers
 numbers_of ids len = record { ids = ids; len = len }
 
-last_ids : (front : List Numbers) (c : Numbers) → all_ids (front ++ c ∷ []) ≡ all_ids front ++ c.ids
+pub last_ids : (front : List Numbers) (c : Numbers) → all_ids (front ++ c ∷ []) ≡ all_ids front ++ c.ids
 last_ids front c = all_ids_append front (c ∷ []) ∙ ap (λ (l : List StmtId). all_ids front ++ l) (append-nil c.ids)
 
-ids_more : (front : List Numbers) (ids : List StmtId) (len more : ℕ) (id : StmtId) → all_ids (front ++ numbers_of (ids ++ id ∷ []) more ∷ []) ≡ all_ids (front ++ numbers_of ids len ∷ []) ++ id ∷ []
+pub ids_more : (front : List Numbers) (ids : List StmtId) (len more : ℕ) (id : StmtId) → all_ids (front ++ numbers_of (ids ++ id ∷ []) more ∷ []) ≡ all_ids (front ++ numbers_of ids len ∷ []) ++ id ∷ []
 ids_more front ids len more id =
     last_ids front (numbers_of (ids ++ id ∷ []) more) ∙ sym (append_assoc (all_ids front) ids (id ∷ [])) ∙ ap (λ (l : List StmtId). l ++ id ∷ []) (sym (last_ids front (numbers_of ids len)))
 
 -- a chunk that has no numbers yet
-pub opened_empty : (text : List ℕ) (front : List Numbers) (slots : List (Option Kept)) (mode : Mode) (pos len : ℕ) → len ≡ 0 → IsOpened text front slots mode pos → IsOpened text (front ++ numbers_of [] len ∷ []) slots mode pos
-opened_empty text front slots mode pos len none o =
+pub opened_empty : (text : List ℕ) (front : List Numbers) (recs : List Record) (slots : List (Option Kept)) (mode : Mode) (pos len : ℕ) → len ≡ 0 → IsOpened text front recs slots mode pos
+    → IsOpened text (front ++ numbers_of [] len ∷ []) recs slots mode pos
+opened_empty text front recs slots mode pos len none o =
     let same : all_ids (front ++ numbers_of [] len ∷ []) ≡ all_ids front = last_ids front (numbers_of [] len) ∙ append-nil (all_ids front) in
     record {
-      read = subst (λ (l : List StmtId). AreRead text (map (kept_at slots) l) mode pos) (sym same) o.read;
+      read = subst (λ (l : List StmtId). AreRead text (map (kept_at slots) l) recs mode pos) (sym same) o.read;
       chunks = chunks_more slots 0 front (numbers_of [] len) o.chunks tt none;
       once = subst AreOnce (sym same) o.once;
     }
 
 -- a piece more in the last chunk
-module _ (text : List ℕ) (front : List Numbers) (ids : List StmtId) (old new : List (Option Kept)) (mode : Mode) (from pos : ℕ) where
-  pub opened_more : ChainsJoin def → ChainsLead def → IsOpened text (front ++ numbers_of ids (pos - from) ∷ []) old mode pos → from ≤ pos → (end : ℕ) (next : Mode) (k : Kept) (id : StmtId)
-      → PieceAt mode text pos (end, next) → k.mode ≡ mode → k.bytes ≡ slice_range text pos end → k.chunk ≡ length front → Stores old new k id
-      → IsOpened text (front ++ numbers_of (ids ++ id ∷ []) (end - from) ∷ []) new next end
-  opened_more joins leads o low end next k id piece mode_is bytes chunk s =
+module _ (text : List ℕ) (front : List Numbers) (ids : List StmtId) (recs : List Record) (old new : List (Option Kept)) (mode : Mode) (from pos : ℕ) where
+  pub opened_more : ChainsJoin def → ChainsLead def → IsOpened text (front ++ numbers_of ids (pos - from) ∷ []) recs old mode pos → from ≤ pos → (end : ℕ) (next : Mode) (rec : Record) (k : Kept) (id : StmtId)
+      → PieceAt mode text pos end next rec → k.mode ≡ mode → k.bytes ≡ slice_range text pos end → k.chunk ≡ length front → Stores old new k id
+      → IsOpened text (front ++ numbers_of (ids ++ id ∷ []) (end - from) ∷ []) (recs ++ rec ∷ []) new next end
+  opened_more joins leads o low end next rec k id piece mode_is bytes chunk s =
       let before = front ++ numbers_of ids (pos - from) ∷ [] in
       let more = ids_more front ids (pos - from) (end - from) id in
       let own : kept_at new id ≡ k = ap kept_or s.held in
@@ -111,8 +112,8 @@ module _ (text : List ℕ) (front : List Numbers) (ids : List StmtId) (old new :
       let bytes_long : length (kept_at new id).bytes ≡ length k.bytes = ap (λ (p : Kept). length p.bytes) own in
       let heavy : end - from ≡ weight new (ids ++ id ∷ []) = omega (arith, long, low, piece.0, last.1, bytes_long, ap (λ (b : List ℕ). length b) bytes, weight_append new ids (id ∷ [])) in
       record {
-        read = subst (λ (l : List StmtId). AreRead text (map (kept_at new) l) next end) (sym more)
-            (subst (λ (l : List Kept). AreRead text l next end) (sym ks) (read_on text (map (kept_at old) (all_ids before)) mode pos o.read joins leads end next k piece bytes mode_is));
+        read = subst (λ (l : List StmtId). AreRead text (map (kept_at new) l) (recs ++ rec ∷ []) next end) (sym more)
+            (subst (λ (l : List Kept). AreRead text l (recs ++ rec ∷ []) next end) (sym ks) (read_on text (map (kept_at old) (all_ids before)) recs mode pos o.read joins leads end next rec k piece bytes mode_is));
         chunks = chunks_more new 0 front (numbers_of (ids ++ id ∷ []) (end - from)) (chunks_front new 0 front (numbers_of ids (pos - from)) stays) (home_append new (0 + length front) ids (id ∷ []) last.0 home) heavy;
         once = subst AreOnce (sym more) (once_more (all_ids before) id o.once (unheld old 0 before id o.chunks s.free));
       }

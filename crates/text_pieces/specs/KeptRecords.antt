@@ -13,12 +13,8 @@ use Rattle.piece_laws.specs.Pieces.{IsPiece}
 use Rattle.text_pieces.specs.Changes.{Prepared}
 use Rattle.text_pieces.specs.Chunks.{AreOnce}
 use Rattle.text_pieces.specs.Content.{Content, read_keyless, text_of}
-use Rattle.text_pieces.specs.Statements.{statements_of}
+use Rattle.text_pieces.specs.Lent.{numbered_records}
 use Rattle.text_pieces.specs.Tables.{Kept, ids_of, kept_at, slot}
-
--- what a text in pieces says, statement by statement under its numbers
-abbrev pub numbered_records : Content → List (StmtId × Record)
-numbered_records c = zip (ids_of c.table) (map (λ x. x.1) (statements_of (text_of c)))
 
 -- what a piece says by itself in its mode; one that doesn't read is kept nowhere
 abbrev pub record_or : Result (Record × Mode) fault.Fault → Record

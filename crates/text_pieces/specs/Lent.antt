@@ -17,6 +17,10 @@ use Rattle.text_pieces.specs.declared.lent.LentPiece.{LentPiece}
 abbrev pub numbered_statements : Content → List (StmtId × (List Token × Record))
 numbered_statements c = zip (ids_of c.table) (statements_of (text_of c))
 
+-- what they say, under their numbers
+abbrev pub numbered_records : Content → List (StmtId × Record)
+numbered_records c = zip (ids_of c.table) (map (λ x. x.1) (statements_of (text_of c)))
+
 -- bytes are a statement by themselves in a mode; from a place on they lie in the text, what comes behind them there begins apart, and
 -- this statement of the text has the number
 pub record IsLent (c : Content) (id : StmtId) (mode : Mode) (bytes : List ℕ) (at : ℕ) : Type 0 where

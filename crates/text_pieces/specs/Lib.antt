@@ -14,5 +14,6 @@ pub mod Statements
 pub mod Storing
 pub mod Stretches
 pub mod Tables
+pub mod Told
 pub mod Touched
 pub mod Writing

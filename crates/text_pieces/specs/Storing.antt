@@ -16,8 +16,8 @@ pub record Stores (old new : List (Option Kept)) (k : Kept) (id : StmtId) : Type
   pub stays : StaysKept old new
 
 -- its number comes behind others
-abbrev pub StoresBehind : List (Option Kept) → List (Option Kept) → Kept → List StmtId → List StmtId → Type 0
-StoresBehind old new k before after = (id : StmtId) × (after ≡ before ++ id ∷ []) × Stores old new k id
+abbrev pub StoresBehind : List (Option Kept) → List (Option Kept) → Kept → List StmtId → List StmtId → StmtId → Type 0
+StoresBehind old new k before after id = (after ≡ before ++ id ∷ []) × Stores old new k id
 
 -- new pieces as they are kept, as those of a chunk
 abbrev pub new_kept : {A : Type 0} → ℕ → NewPiece A → Kept

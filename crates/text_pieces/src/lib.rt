@@ -2,7 +2,8 @@
 //!
 //! Begin with `TextPieces::open`, which reads each statement of a text once, and keeps it with the blanks and comments before it
 //! as a piece of its own. `statement`, `mode` and `offset` answer by a statement's number, `find_at` finds the one at a position,
-//! `first`, `next` and `prev` go from one to another, and `write_to` writes the text. `TextPieces::prepare` prepares a change
+//! `first`, `next` and `prev` go from one to another, and `write_to` writes the text. `TextPieces::open_telling` tells each statement as it
+//! is read, with its number, to what is `Told`. `TextPieces::prepare` prepares a change
 //! beside the text, as a `PreparedText`, which says how many statements were read for it, which numbers go out, and which come
 //! in; `TextPieces::commit` makes it, takes no memory, and leaves the change that takes it back. One that is dropped changes
 //! nothing, but the pieces that were made for it are kept with the text. `prepare_all` prepares several cuts as one change.
@@ -30,4 +31,5 @@ mod storing;
 mod stretch;
 mod table;
 pub mod text;
+pub mod told;
 mod writing;

@@ -7,7 +7,8 @@ ghost use Rattle.text_pieces.specs.Tables.{kept};
 use crate::chunks::Chunk;
 use crate::storing::store;
 use crate::table::Piece;
-use def_reader::read_statement::read_statement;
+use crate::told::Told;
+use def_reader::read_statement::{Read, read_statement};
 use design_model::fault::{Fault, ReadError};
 use design_model::mode::Mode;
 use piece_laws::chains::{chains_join, chains_lead};
@@ -28,30 +29,29 @@ pub(crate) struct Part<A: Allocator = Global> {
     pub(crate) is_last: bool,
 }
 
-/// The next statement from a position on: the position after its last byte, and the mode after it.
-fn next_piece(mode: Mode, text: &[u8], pos: usize) -> Result<Option<(usize, Mode)>, Fault>
+/// The next statement from a position on, which is a piece up to its last byte.
+#[inline(always)]
+fn next_piece<'t>(mode: Mode, text: &'t [u8], pos: usize) -> Result<Option<Read<'t>>, Fault>
     requires { pos ≤ length text.now }
     ensures { NextPiece mode text.now pos result }
 {
     statements_are_pieces();
     statements_end_before_blanks();
-    let Some(read) = read_statement(mode, text, pos)? else {
-        return Ok(None);
-    };
-    Ok(Some((read.end, read.place)))
+    read_statement(mode, text, pos)
 }
 
-/// Reads the statements of a text from a position on, as many as a chunk has or as there are, and keeps their pieces.
-pub(crate) fn read_chunk<A: Allocator + Copy>(
+/// Reads the statements of a text from a position on, as many as a chunk has or as there are, keeps their pieces, and tells each.
+pub(crate) fn read_chunk<A: Allocator + Copy, T: Told>(
     alloc: A,
     text: &[u8],
     from: usize,
     first: Mode,
     number: usize,
     pieces: &mut Slab<Piece<A>, A>,
+    told: &mut T,
 ) -> Result<Part<A>, ReadError>
     requires { from ≤ length text.now }
-    ensures reads { ReadsChunk text.now first from number (map (option_map kept) pieces.old.slots) (map (option_map kept) pieces.new.slots) result }
+    ensures reads { ReadsChunk T.says text.now first from number (map (option_map kept) pieces.old.slots) (map (option_map kept) pieces.new.slots) told.old told.new result }
     ensures last { EndsLast text.now from result }
 {
     pieces_are_read();
@@ -61,7 +61,7 @@ pub(crate) fn read_chunk<A: Allocator + Copy>(
     let mut mode = first;
     let mut pos = from;
     'statements: while ids.len() < CHUNK {
-        let Some((end, after)) = next_piece(mode, text, pos)? else {
+        let Some(read) = next_piece(mode, text, pos)? else {
             let chunk = Chunk {
                 ids,
                 len: pos - from,
@@ -73,9 +73,10 @@ pub(crate) fn read_chunk<A: Allocator + Copy>(
                 is_last: true,
             });
         };
-        store(alloc, pieces, &mut ids, &text[pos..end], mode, number)?;
-        mode = after;
-        pos = end;
+        let id = store(alloc, pieces, &mut ids, &text[pos..read.end], mode, number)?;
+        told.tell(id, &read.statement)?;
+        mode = read.place;
+        pos = read.end;
     }
     let chunk = Chunk {
         ids,

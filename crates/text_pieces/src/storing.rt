@@ -11,22 +11,22 @@ use rereading::pieces::NewPiece;
 use slab::Slab;
 use std::alloc::{AllocError, Allocator};
 
-/// Keeps a piece, and puts its number behind others.
+/// Keeps a piece, and puts its number, which is answered, behind others.
 fn keep<A: Allocator + Copy>(
     pieces: &mut Slab<Piece<A>, A>,
     ids: &mut Vec<StmtId, A>,
     piece: Piece<A>,
-) -> Result<(), AllocError>
-    ensures kept { IfOk result (λ _. StoresBehind (map (option_map kept) pieces.old.slots) (map (option_map kept) pieces.new.slots) (kept piece) ids.old.items ids.new.items) }
+) -> Result<StmtId, AllocError>
+    ensures kept { IfOk result (StoresBehind (map (option_map kept) pieces.old.slots) (map (option_map kept) pieces.new.slots) (kept piece) ids.old.items ids.new.items) }
     ensures stays { StaysKept (map (option_map kept) pieces.old.slots) (map (option_map kept) pieces.new.slots) }
 {
     pieces.reserve(1)?;
-    let id = pieces.insert_reserved(piece);
-    ids.push(StmtId(id))?;
-    Ok(())
+    let id = StmtId(pieces.insert_reserved(piece));
+    ids.push(id)?;
+    Ok(id)
 }
 
-/// Keeps a copy of bytes as a piece, and puts its number behind others.
+/// Keeps a copy of bytes as a piece, and puts its number, which is answered, behind others.
 pub(crate) fn store<A: Allocator + Copy>(
     alloc: A,
     pieces: &mut Slab<Piece<A>, A>,
@@ -34,8 +34,8 @@ pub(crate) fn store<A: Allocator + Copy>(
     bytes: &[u8],
     mode: Mode,
     chunk: usize,
-) -> Result<(), AllocError>
-    ensures { IfOk result (λ _. StoresBehind (map (option_map kept) pieces.old.slots) (map (option_map kept) pieces.new.slots) (record { mode = mode; bytes = bytes.now; chunk = chunk }) ids.old.items ids.new.items) }
+) -> Result<StmtId, AllocError>
+    ensures { IfOk result (StoresBehind (map (option_map kept) pieces.old.slots) (map (option_map kept) pieces.new.slots) (record { mode = mode; bytes = bytes.now; chunk = chunk }) ids.old.items ids.new.items) }
 {
     let bytes = Vec::from_slice(alloc, bytes)?;
     keep(pieces, ids, Piece { bytes, mode, chunk })

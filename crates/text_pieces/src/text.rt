@@ -13,9 +13,11 @@ ghost use Rattle.text_pieces.specs.Content.{Content, Opens, read_keyless, text_o
 ghost use Rattle.text_pieces.specs.Lasting.{Leads};
 ghost use Rattle.text_pieces.specs.NewStretches.{new_stretch};
 ghost use Rattle.text_pieces.specs.Statements.{bytes_in, lead, lent_bytes, look_up, modes_by_number, number_at, spans_by_number, statements_of};
+ghost use Rattle.text_pieces.specs.Lent.{numbered_records};
 ghost use Rattle.text_pieces.specs.Preparing.{Prepares, StandsStill};
 ghost use Rattle.text_pieces.specs.Stretches.{ReadsStretch, cut_text};
 ghost use Rattle.text_pieces.specs.Tables.{ids_of};
+ghost use Rattle.text_pieces.specs.Told.{Tells};
 
 use crate::behind::Behind;
 use crate::chunks::exchange;
@@ -24,6 +26,7 @@ use crate::opening::read_chunk;
 use crate::prepared::{PrepareError, PreparedText, TextCut};
 use crate::stretch::{Stretch, append_part, first_mode, spliced, tail_after, touched};
 use crate::table::PieceTable;
+use crate::told::{Told, Untold};
 use crate::writing::write_pieces;
 use counted_devices::counted::CountedWrite;
 use counted_devices::output::{MAX_INTERRUPTIONS, WriteFault, write_whole};
@@ -69,10 +72,15 @@ fn lead(bytes: &[u8]) -> usize
     }
 }
 
-/// Reads all statements of a text that isn't too long.
-fn read_all<A: Allocator + Copy>(alloc: A, text: &[u8]) -> Result<TextPieces<A>, ReadError>
+/// Reads all statements of a text that isn't too long, and tells each.
+fn read_all<A: Allocator + Copy, T: Told>(
+    alloc: A,
+    text: &[u8],
+    told: &mut T,
+) -> Result<TextPieces<A>, ReadError>
     requires { length text.now ≤ MAX_TEXT }
-    ensures { Opens text.now result }
+    ensures opens { Opens text.now result }
+    ensures told { IfOk result (λ t. Tells T.says told.old told.new (numbered_records t)) }
 {
     tails_are_found();
     tails_may_end();
@@ -82,7 +90,7 @@ fn read_all<A: Allocator + Copy>(alloc: A, text: &[u8]) -> Result<TextPieces<A>,
     let mut mode = Mode::Top;
     let mut pos = 0;
     'chunks: loop {
-        match read_chunk(alloc, text, pos, mode, chunks.len(), &mut pieces) {
+        match read_chunk(alloc, text, pos, mode, chunks.len(), &mut pieces, told) {
             Ok(part) => {
                 mode = part.mode;
                 pos = part.pos;
@@ -104,13 +112,25 @@ impl<A: Allocator + Copy> TextPieces<A> {
     pub fn open(alloc: A, text: &[u8]) -> Result<TextPieces<A>, ReadError>
         ensures { Opens text.now result }
     {
+        TextPieces::open_telling(alloc, text, &mut Untold)
+    }
+
+    /// The same, and each statement is told with its number as it is read.
+    pub fn open_telling<T: Told>(
+        alloc: A,
+        text: &[u8],
+        told: &mut T,
+    ) -> Result<TextPieces<A>, ReadError>
+        ensures opens { Opens text.now result }
+        ensures told { IfOk result (λ t. Tells T.says told.old told.new (numbered_records t)) }
+    {
         if text.len() > MAX_TEXT {
             return Err(ReadError::Fault(Fault {
                 code: FaultCode::TooLong,
                 pos: 0,
             }));
         }
-        read_all(alloc, text)
+        read_all(alloc, text, told)
     }
 
     /// How many bytes the text has.

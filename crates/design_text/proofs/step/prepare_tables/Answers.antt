@@ -1,7 +1,8 @@
 use Rattle.std.proofs.Common.{◌≡◌, ◌++◌, ◌∙◌, List, map, refl, sym, ap, inl, subst}
 use Rattle.text_pieces.specs.Changes.{IsBetween}
 use Rattle.text_pieces.specs.Content.{Content}
-use Rattle.text_pieces.specs.KeptRecords.{numbered_records, records_under}
+use Rattle.text_pieces.specs.KeptRecords.{records_under}
+use Rattle.text_pieces.specs.Lent.{numbered_records}
 use Rattle.design_tables.specs.TableViews.{numbered_view}
 use Rattle.design_text.proofs.AnyOrder.{keyed_left, keyed_other, leads_to_other, left, left_is_kept}
 use Rattle.design_text.proofs.step.prepare_tables.Goals as goal

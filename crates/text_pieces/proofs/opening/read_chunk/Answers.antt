@@ -1,16 +1,21 @@
 use Rattle.std.proofs.Common.{◌≡◌, ◌-◌, [], ◌∷◌, refl, sym, ap, length, map, arith, length-append}
 use Rattle.std.specs.Prelude.{option_map}
 use Rattle.std.proofs.lemmas.Result.{err_from_is_err_and}
+use Rattle.def_reader.specs.StatementViews.{record_view}
 use Rattle.text_pieces.specs.Tables.{kept}
 use Rattle.text_pieces.proofs.ReadPieces.{read_fault}
-use Rattle.text_pieces.proofs.StoredPieces.{opened_empty, opened_more}
+use Rattle.text_pieces.proofs.Telling.{told_empty, told_more}
 use Rattle.text_pieces.proofs.opening.read_chunk.Goals as goal
 
 pub statements-init : goal.statements-init
 statements-init g c =
     let none : c.args.from - c.args.from ≡ 0 = omega arith in
-    let long = ap length c.new-ids.ensures.items in
-    (omega (arith, long), c.requires, λ front n o. rw c.new-ids.ensures.items (opened_empty c.args.text.now front (map (option_map kept) c.args.pieces.now.slots) c.args.first c.args.from (c.args.from - c.args.from) none o))
+    let long = ap length c.new-ids.ensures.items in (
+      omega (arith, long),
+      c.requires,
+      λ begun front n t.
+          rw c.new-ids.ensures.items (told_empty g.T.Told.says begun c.args.told.now c.args.text.now front (map (option_map kept) c.args.pieces.now.slots) c.args.first c.args.from (c.args.from - c.args.from) none t),
+    )
 
 pub statements-preserved : goal.statements-preserved
 statements-preserved g c =
@@ -19,18 +24,22 @@ statements-preserved g c =
     let text = c.args.text.now in
     let old = map (option_map kept) s.pieces.slots in
     let new = map (option_map kept) c.store.new.pieces.slots in
-    let piece = rw c.in-Some.is at c.in_ok-end.ensures in
-    let stored = c.in_ok-store.ensures in
-    let long = ap length stored.1 in (
-      omega (arith, i.0, piece.0, long, length-append s.ids.items (stored.0 ∷ [])),
+    let read = c.in-Some.read in
+    let piece = rw c.in-Some.is at c.in_ok-read.ensures in
+    let id = c.in_ok-id.id in
+    let stored = c.in_ok-id.ensures in
+    let long = ap length stored.0 in (
+      omega (arith, i.0, piece.0, long, length-append s.ids.items (id ∷ [])),
       piece.1,
-      λ front n o.
-          rw stored.1 (opened_more text front s.ids.items old new s.mode c.args.from s.pos c.chains_join.ensures c.chains_lead.ensures (i.2 front n o) (omega (arith, i.0)) c.in-Some.end c.in-Some.after _ stored.0 piece refl refl (sym n) stored.2),
+      λ begun front n t.
+          rw stored.0 (told_more g.T.Told.says begun s.told c.tell.new.self text front s.ids.items old new s.mode c.args.from s.pos c.chains_join.ensures c.chains_lead.ensures (i.2 begun front n t) (omega (arith, i.0)) read.end read.place (record_view read.statement) _ id piece refl refl (sym n) stored.1 c.in_ok-tell.ensures),
     )
 
-pub returns-in_err-end-clause-reads : goal.returns-in_err-end-clause-reads
-returns-in_err-end-clause-reads g c =
+pub returns-in_err-read-clause-reads : goal.returns-in_err-read-clause-reads
+returns-in_err-read-clause-reads g c =
     let s = c.statements in
     let text = c.args.text.now in
     let p = err_from_is_err_and c.from_residual.result c.from_residual.ensures.1 in
-    rw (p.1, p.2) (λ front n o. read_fault text _ s.mode s.pos (s.invariant.2 front n o).read c.pieces_are_read.ensures c.in_err-end.field-0.0 c.in_err-end.ensures)
+    rw (p.1, p.2) (λ begun front n t.
+    let told = s.invariant.2 begun front n t in
+    read_fault text _ told.recs s.mode s.pos told.opened.read c.pieces_are_read.ensures c.in_err-read.field-0.0 c.in_err-read.ensures)

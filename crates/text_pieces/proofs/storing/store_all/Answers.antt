@@ -14,7 +14,7 @@ loop-piece-preserved g c =
     let new = map (option_map kept) c.keep.new.pieces.slots in
     let s = c.in_ok-keep.ensures.kept in
     let p = c.in-Some.piece in
-    let more = all_more old mid new (news_of c.args.chunk l.yielded) c.args.chunk c.args.ids.now.items l.ids.items c.keep.new.ids.items _ s.0 l.invariant.0 l.invariant.1 s.2 refl s.1 in (
+    let more = all_more old mid new (news_of c.args.chunk l.yielded) c.args.chunk c.args.ids.now.items l.ids.items c.keep.new.ids.items _ c.in_ok-keep.field-0 l.invariant.0 l.invariant.1 s.1 refl s.0 in (
       subst (λ (ks : List Kept). StoresAll old new ks c.args.chunk c.args.ids.now.items c.keep.new.ids.items) (sym (map-append (new_kept c.args.chunk) l.yielded (p ∷ []))) more,
       stays_on old mid new l.invariant.1 c.keep.ensures.stays,
     )

@@ -1,6 +1,6 @@
 use Rattle.std.proofs.Common.{◌≡◌, ◌∙◌, IsOk, refl, sym, subst}
 use Rattle.def_grammar.specs.Records.{read_def}
-use Rattle.text_pieces.specs.KeptRecords.{numbered_records}
+use Rattle.text_pieces.specs.Lent.{numbered_records}
 use Rattle.design_tables.specs.Listings.{AreTablesOf}
 use Rattle.design_tables.specs.Prepared as tables
 use Rattle.design_text.proofs.StepLemmas.{made_text, still_records}

@@ -2,7 +2,7 @@ use Rattle.std.proofs.Common.{◌≡◌, ◌∙◌, List, IsOk, refl, sym, ap, s
 use Rattle.std.proofs.lemmas.Result.{err_from_is_err_and}
 use Rattle.def_grammar.specs.Records.{read_def}
 use Rattle.text_pieces.specs.Content as pieces
-use Rattle.text_pieces.specs.KeptRecords.{numbered_records}
+use Rattle.text_pieces.specs.Lent.{numbered_records}
 use Rattle.design_tables.specs.Listings.{AreTablesOf}
 use Rattle.design_tables.specs.Prepared.{AreKeyed}
 use Rattle.design_text.proofs.ReadTexts.{is_read}
