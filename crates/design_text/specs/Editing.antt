@@ -42,14 +42,18 @@ ReadsEdited old change new = (design : List Record) × (read_def old ≡ Ok desi
 abbrev pub KeepsTheRest : Library → List ℕ → Change → List ℕ → Type 0
 KeepsTheRest library old change new = (cuts : List Cut) × Makes library old change (Ok cuts) × (new ≡ with_cuts cuts old) × AreInOrder 0 cuts (length old)
 
--- the same of bytes in the place of others: refused memory comes only where the range and the length are good
+-- why bytes don't take the place of others: the range, the length, or the fault of the new text; refused memory comes only where the
+-- range and the length are good
+abbrev pub IsRefused : List ℕ → ℕ → ℕ → List ℕ → EditRefusal → Type 0
+IsRefused old a b put NoMemory = (a ≤ b) × (b ≤ length old) × (is_long (new_text old a b put) ≡ false)
+IsRefused old a b put refusal = text_outcome old a b put ≡ Err refusal
+
+-- they do in a text that is made anew
 abbrev pub ReplacesText : {V : Type 0} → (V → List ℕ) → List ℕ → ℕ → ℕ → List ℕ → Result V EditRefusal → Type 0
 ReplacesText items old a b put (Ok v) = text_outcome old a b put ≡ Ok (items v)
-ReplacesText items old a b put (Err NoMemory) = (a ≤ b) × (b ≤ length old) × (is_long (new_text old a b put) ≡ false)
-ReplacesText items old a b put (Err refusal) = text_outcome old a b put ≡ Err refusal
+ReplacesText items old a b put (Err refusal) = IsRefused old a b put refusal
 
--- and that the text is new then, or as it was
+-- and in one that is new then, or as it was
 abbrev pub ReplacesIn : {T : Type 0} → List ℕ → ℕ → ℕ → List ℕ → Result T EditRefusal → List ℕ → Type 0
 ReplacesIn old a b put (Ok t) new = text_outcome old a b put ≡ Ok new
-ReplacesIn old a b put (Err NoMemory) new = (new ≡ old) × (a ≤ b) × (b ≤ length old) × (is_long (new_text old a b put) ≡ false)
-ReplacesIn old a b put (Err refusal) new = (new ≡ old) × (text_outcome old a b put ≡ Err refusal)
+ReplacesIn old a b put (Err refusal) new = (new ≡ old) × IsRefused old a b put refusal

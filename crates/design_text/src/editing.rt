@@ -9,7 +9,7 @@ ghost use Rattle.splicing_laws.specs.KeepingLaws.{AreInOrder};
 ghost use Rattle.text_pieces.specs.Covering.{cut_of};
 ghost use Rattle.def_splice.specs.SpliceViews.{cut_view};
 ghost use Rattle.design_text.specs.DesignTexts.{text_of};
-ghost use Rattle.design_text.specs.Editing.{EditsText, KeepsTheRest, MakesCuts, MakesTwo, ReadsEdited, ReplacesIn};
+ghost use Rattle.design_text.specs.Editing.{EditsText, IsRefused, KeepsTheRest, MakesCuts, MakesTwo, ReadsEdited, ReplacesIn};
 
 use crate::replacing::replaced_text;
 use crate::text::DesignText;
@@ -117,7 +117,7 @@ impl<A: Allocator + Copy> DesignText<A> {
         requires order { lo ≤ hi }
         requires within { hi ≤ length (text_of self.now) }
         requires fault { (f : fault.Fault) × (read_def (new_text (text_of self.now) lo hi put.now) ≡ Err f) }
-        ensures { ReplacesIn (text_of self.now) lo hi put.now (Err result) (text_of self.now) }
+        ensures { IsRefused (text_of self.now) lo hi put.now result }
     {
         self.text_reads();
         let Ok(text) = self.text(alloc) else {

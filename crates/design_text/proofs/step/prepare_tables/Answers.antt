@@ -58,5 +58,5 @@ returns-in-Err-Duplicate-clause-fails g c = λ base other b.
     let o = c.order_makes_no_difference.ensures in
     let kept = left o.tables o.keys slots c.args.change.now now other parted outs puts out_is put_is in
     let is_kept = left_is_kept o.tables o.keys slots c.args.change.now now other parted outs puts out_is put_is in
-    inl (refl, λ keyed. c.in-Err-Duplicate.ensures.duplicate (numbered_records now) kept c.requires.tables is_kept c.requires.keyed refl
+    inl (refl, λ keyed. c.in-Err-Duplicate.ensures.duplicate (numbered_records now) kept c.requires.tables is_kept c.requires.keyed c.in-Err-Duplicate.field-0-is
     (keyed_left o.tables o.keys slots c.args.change.now now other parted outs puts out_is put_is keyed))

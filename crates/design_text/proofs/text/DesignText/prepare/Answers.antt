@@ -1,10 +1,13 @@
-use Rattle.std.proofs.Common.{◌≡◌, ◌∙◌, List, IsOk, refl, sym, ap, subst}
+use Rattle.std.proofs.Common.{◌≡◌, ◌∙◌, ℕ, List, IsOk, map, refl, sym, ap, subst}
 use Rattle.std.proofs.lemmas.Result.{err_from_is_err_and}
 use Rattle.def_grammar.specs.Records.{read_def}
 use Rattle.text_pieces.specs.Content as pieces
 use Rattle.text_pieces.specs.Lent.{numbered_records}
 use Rattle.design_tables.specs.Listings.{AreTablesOf}
 use Rattle.design_tables.specs.Prepared.{AreKeyed}
+use Rattle.text_pieces.specs.Covering.{cut_of}
+use Rattle.design_text.specs.DesignTexts.{text_of}
+use Rattle.design_text.specs.Steps.{PreparesCuts}
 use Rattle.design_text.proofs.ReadTexts.{is_read}
 use Rattle.design_text.proofs.StepLemmas.{leads_on, leads_still, made_text, not_keyed, not_prepared, own_keys, own_tables, still_records}
 use Rattle.design_text.proofs.text.DesignText.prepare.Goals as goal
@@ -33,7 +36,8 @@ invariant_of-self-2 g c =
 pub returns-in_err-text-clause-prepares : goal.returns-in_err-text-clause-prepares
 returns-in_err-text-clause-prepares g c =
     let p = err_from_is_err_and c.from_residual.result c.from_residual.ensures.1 in
-    rw (p.1, p.2, ← c.self.view_is) (not_prepared c.keys_are_apart.ensures c.self.inside.pieces c.prepare_all.new.self _ _ _ c.in_err-text.ensures.prepares)
+    subst (λ (t : List ℕ). PreparesCuts t (map cut_of c.args.cuts.now) c.from_residual.result (record { pieces = c.prepare_all.new.self; names = c.self.inside.tables })) (ap text_of c.self.view_is)
+    (rw (p.1, p.2) (not_prepared c.keys_are_apart.ensures c.self.inside.pieces c.prepare_all.new.self (map cut_of c.args.cuts.now) _ _ c.in_err-text.ensures.prepares))
 
 pub returns-in_err-text-clause-lasts : goal.returns-in_err-text-clause-lasts
 returns-in_err-text-clause-lasts g c = λ change text l.
@@ -45,8 +49,9 @@ returns-in_err-tables-clause-prepares g c =
     let now = c.prepare_all.new.self in
     let parted = c.statements_are_parted.ensures now is.other is.between in
     let p = err_from_is_err_and c.from_residual-in_err-tables.result c.from_residual-in_err-tables.ensures.1 in
-    rw (p.1, p.2, ← c.self.view_is)
-    (not_keyed c.keys_are_apart.ensures c.fresh_is_once.ensures (pieces.text_of c.self.inside.pieces) _ _ _ is.other is.text parted.reads (c.in_err-tables.ensures.fails now is.other is.between))
+    subst (λ (t : List ℕ). PreparesCuts t (map cut_of c.args.cuts.now) c.from_residual-in_err-tables.result (record { pieces = c.prepare_all.new.self; names = c.prepare_tables.new.tables })) (ap text_of c.self.view_is)
+    (rw (p.1, p.2)
+    (not_keyed c.keys_are_apart.ensures c.fresh_is_once.ensures (pieces.text_of c.self.inside.pieces) (map cut_of c.args.cuts.now) _ _ is.other is.text parted.reads (c.in_err-tables.ensures.fails now is.other is.between)))
 
 pub returns-in_err-tables-clause-lasts : goal.returns-in_err-tables-clause-lasts
 returns-in_err-tables-clause-lasts g c = λ change text l.
