@@ -4,11 +4,11 @@ use Rattle.std.specs.Prelude.{count_by, sum_by, not, ◌&&◌}
 use Rattle.std.proofs.lemmas.List.Sums.{sum_by-cons}
 use Rattle.design_model.specs.declared.identifier.StmtId.{StmtId}
 use Rattle.statement_model.specs.Grammar.{Key}
-use Rattle.statement_model.specs.Reading.{is_among, same_words}
+use Rattle.statement_model.specs.Reading.{same_words}
 use Rattle.def_grammar.specs.Records.{Record, key_of}
 use Rattle.design_tables.specs.AnyOrder.{AreSame, KeysInAnyOrder, TablesInAnyOrder}
-use Rattle.design_tables.specs.Listings.{Listing, SameListing, is_member, listed, marks_in, marks_named, marks_under, unlisted, with_marks}
-use Rattle.design_tables.specs.Prepared.{AreKeyed, keys_of}
+use Rattle.design_tables.specs.Listings.{SameListing, is_member, marks_in, marks_named, marks_under, unlisted, with_marks}
+use Rattle.design_tables.specs.Prepared.{keys_of}
 use Rattle.design_tables.specs.declared.role.Mark.{Mark}
 use Rattle.design_tables.proofs.ChangeLemmas.{count_filter, under_sums}
 use Rattle.design_tables.proofs.TableLemmas.{any_same}

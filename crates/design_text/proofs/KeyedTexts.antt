@@ -1,11 +1,10 @@
 -- A text that reads without its keys reads exactly where what it has once stands once, and UNITS at all.
-use Rattle.std.proofs.Common.{◌≡◌, ◌≤◌, ℕ, Bool, true, false, ◌||◌, List, [], ◌∷◌, length, map, None, Ok, refl, sym, ap, ◌∙◌, ⊎_elim, codes}
-use Rattle.std.specs.List.{list_any}
+use Rattle.std.proofs.Common.{◌≡◌, ℕ, Bool, true, false, ◌||◌, List, [], ◌∷◌, map, None, Ok, refl, sym, ap, ◌∙◌, ⊎_elim, codes}
 use Rattle.std.proofs.lemmas.Bool.{cases_Bool as cases}
 use Rattle.design_model.specs.declared.identifier.StmtId.{StmtId}
 use Rattle.design_model.specs.declared.mode.Mode.TheVariants.{Top}
 use Rattle.statement_model.specs.Grammar.{Key}
-use Rattle.statement_model.specs.Reading.{is_among, read_text, same_words, with_key}
+use Rattle.statement_model.specs.Reading.{is_among, read_text, same_words}
 use Rattle.statement_model.specs.Tokens.{tokens}
 use Rattle.def_grammar.specs.Records.{Record, def, key_of, read_def}
 use Rattle.edit_rules.specs.Plans.{is_long}

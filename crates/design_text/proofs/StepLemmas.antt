@@ -1,5 +1,5 @@
 -- Changes of the text of a design.
-use Rattle.std.proofs.Common.{◌≡◌, ◌≤◌, ◌⊎◌, ℕ, Bool, true, false, List, [], ◌∷◌, length, map, Result, Ok, Err, IsOk, refl, sym, ap, ap₂, subst, ◌∙◌, ⊎_elim, inl, inr}
+use Rattle.std.proofs.Common.{◌≡◌, ◌⊎◌, ℕ, true, false, List, [], ◌∷◌, length, map, Result, Ok, Err, IsOk, refl, sym, ap, ap₂, subst, ◌∙◌, ⊎_elim}
 use Rattle.std.specs.List.{zip}
 use Rattle.std.proofs.lemmas.Bool.{cases_Bool as cases}
 use Rattle.std.proofs.lemmas.List.{length-map}
@@ -9,7 +9,7 @@ use Rattle.design_model.specs.declared.identifier.StmtId.{StmtId}
 use Rattle.design_model.specs.declared.mode.Mode.TheVariants.{Top}
 use Rattle.statement_model.specs.Cuts.{Cut, with_cuts}
 use Rattle.statement_model.specs.Reading.{read_text}
-use Rattle.statement_model.specs.Tokens.{Token, tokens}
+use Rattle.statement_model.specs.Tokens.{tokens}
 use Rattle.statement_reader.specs.ReadingLaws.{RecordsAreLocated}
 use Rattle.def_grammar.specs.Records.{Record, def, read_def}
 use Rattle.edit_rules.specs.Plans.{is_long}
@@ -17,7 +17,7 @@ use Rattle.edit_laws.proofs.PlanTexts.{tokens_read}
 use Rattle.piece_laws.specs.KeyLaws.{FreshIsOnce, KeysAreApart, KeysDecide}
 use Rattle.splicing_laws.specs.KeepingLaws.{AreInOrder}
 use Rattle.text_pieces.specs.Covering as covering
-use Rattle.text_pieces.specs.Changes.{IsBetween, Prepared}
+use Rattle.text_pieces.specs.Changes.{Prepared}
 use Rattle.text_pieces.specs.Content as pieces
 use Rattle.text_pieces.specs.Content.{read_keyless}
 use Rattle.text_pieces.specs.Lent.{numbered_records}
@@ -30,7 +30,7 @@ use Rattle.text_pieces.specs.declared.prepared.PrepareError.{PrepareError}
 use Rattle.text_pieces.specs.declared.prepared.PrepareError.TheVariants.{Fault, Memory, Range, TooLong}
 use Rattle.design_tables.specs.Prepared as tables
 use Rattle.design_tables.specs.Prepared.{AreKeyed}
-use Rattle.design_text.specs.DesignTexts.{Content, IsDesignText, IsNumbered, numbers_of, text_of}
+use Rattle.design_text.specs.DesignTexts.{Content, IsDesignText, IsNumbered, numbers_of}
 use Rattle.design_text.specs.Steps.{Both, LeadsTo, PreparesCuts}
 use Rattle.design_text.proofs.KeyedTexts.{keyed_reads, reads_keyed}
 use Rattle.design_text.proofs.Opened.{opened}

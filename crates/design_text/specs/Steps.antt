@@ -13,7 +13,7 @@ use Rattle.text_pieces.specs.declared.prepared.PrepareError.{PrepareError}
 use Rattle.text_pieces.specs.declared.prepared.PrepareError.TheVariants.{Fault, Memory, Range, TooLong}
 use Rattle.design_tables.specs.Listings.{Listing}
 use Rattle.design_tables.specs.Prepared as tables
-use Rattle.design_text.specs.DesignTexts.{Content, text_of}
+use Rattle.design_text.specs.DesignTexts.{Content}
 
 -- a change of the pieces, and one of the tables
 pub record Both : Type 0 where

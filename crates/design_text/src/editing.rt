@@ -1,9 +1,9 @@
 //! Edits of the text of a design.
 
-ghost use Rattle.std.specs.Prelude.{◌≡◌, ◌≤◌, ◌∷◌, [], Err, IfOk, length, map};
+ghost use Rattle.std.specs.Prelude.{◌≡◌, ◌≤◌, ◌∷◌, [], Err, IfOk, false, length, map};
 ghost use Rattle.design_model.specs.declared.fault.Fault as fault;
 ghost use Rattle.def_grammar.specs.Records.{read_def};
-ghost use Rattle.edit_rules.specs.Edits.{change_of};
+ghost use Rattle.edit_rules.specs.Edits.{change_of, is_long};
 ghost use Rattle.edit_rules.specs.Runs.{new_text};
 ghost use Rattle.splicing_laws.specs.KeepingLaws.{AreInOrder};
 ghost use Rattle.text_pieces.specs.Covering.{cut_of};
@@ -107,8 +107,8 @@ impl<A: Allocator + Copy> DesignText<A> {
         let cuts = text_cuts(alloc, splices.as_slice())?;
         match self.make_apart(alloc, &cuts) {
             Ok(reads) => Ok(reads),
-            Err(PrepareError::Memory) => Err(EditRefusal::Memory),
-            Err(_) => unreachable!(),
+            // The cuts of an edit stand in order, and the text with them made reads: what is left is want of memory.
+            Err(_) => Err(EditRefusal::Memory),
         }
     }
 
@@ -116,6 +116,7 @@ impl<A: Allocator + Copy> DesignText<A> {
     fn refusal(&self, alloc: A, lo: usize, hi: usize, put: &[u8]) -> EditRefusal
         requires order { lo ≤ hi }
         requires within { hi ≤ length (text_of self.now) }
+        requires short { is_long (new_text (text_of self.now) lo hi put.now) ≡ false }
         requires fault { (f : fault.Fault) × (read_def (new_text (text_of self.now) lo hi put.now) ≡ Err f) }
         ensures { IsRefused (text_of self.now) lo hi put.now result }
     {
@@ -147,7 +148,10 @@ impl<A: Allocator + Copy> DesignText<A> {
             return Err(EditRefusal::Refused(EditCode::TooLong));
         }
         match self.make(alloc, &[TextCut { lo, hi, put }]) {
-            Ok(reads) => Ok(reads),
+            Ok(reads) => {
+                self.text_reads();
+                Ok(reads)
+            }
             Err(PrepareError::Memory) => Err(EditRefusal::Memory),
             Err(PrepareError::Fault) => Err(self.refusal(alloc, lo, hi, put)),
             Err(_) => unreachable!(),

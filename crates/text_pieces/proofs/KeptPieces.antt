@@ -7,15 +7,15 @@ use Rattle.design_model.specs.declared.identifier.StmtId.{StmtId}
 use Rattle.design_model.specs.declared.mode.Mode.{Mode}
 use Rattle.design_model.specs.declared.mode.Mode.TheVariants.{Top, After}
 use Rattle.statement_model.specs.Reading.{read_form}
-use Rattle.statement_model.specs.Tokens.{Token, tokens}
+use Rattle.statement_model.specs.Tokens.{Token}
 use Rattle.def_grammar.specs.Records.{Record, def}
 use Rattle.piece_laws.specs.ChainLaws.{ChainsLead}
 use Rattle.piece_laws.specs.PlaceLaws.{TextsAreRead, placed_pieces}
 use Rattle.piece_laws.specs.Pieces.{AreChained, IsPiece, modes_from}
-use Rattle.text_pieces.specs.Changes.{IsBetween, Prepared, changed}
-use Rattle.text_pieces.specs.Chunks.{Numbers, AreOnce, all_ids}
+use Rattle.text_pieces.specs.Changes.{IsBetween, Prepared}
+use Rattle.text_pieces.specs.Chunks.{Numbers, all_ids}
 use Rattle.text_pieces.specs.Content.{Content, IsText, bytes_of, text_of}
-use Rattle.text_pieces.specs.KeptRecords.{AreParted, HasPiece, HavePieces, record_of, record_or, records_under}
+use Rattle.text_pieces.specs.KeptRecords.{AreParted, HavePieces, record_of, record_or, records_under}
 use Rattle.text_pieces.specs.Lent.{numbered_records}
 use Rattle.text_pieces.specs.Statements.{statements_of}
 use Rattle.text_pieces.specs.Tables.{AreChunks, AreHome, Kept, ids_of, kept_at, slot, standing}

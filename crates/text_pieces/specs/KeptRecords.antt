@@ -1,7 +1,6 @@
 -- What the statements say that are kept under numbers, of a text and of a change of it.
 use Rattle.std.specs.Prelude.{◌≡◌, ℕ, List, [], ◌∷◌, ◌++◌, map, Option, Some, None, Result, Ok, Err, MatchOption}
 use Rattle.std.specs.Borrow.{Bor}
-use Rattle.std.specs.List.{zip}
 use Rattle.design_model.specs.declared.fault.Fault as fault
 use Rattle.design_model.specs.declared.identifier.StmtId.{StmtId}
 use Rattle.design_model.specs.declared.mode.Mode.{Mode}
@@ -14,7 +13,7 @@ use Rattle.text_pieces.specs.Changes.{Prepared}
 use Rattle.text_pieces.specs.Chunks.{AreOnce}
 use Rattle.text_pieces.specs.Content.{Content, read_keyless, text_of}
 use Rattle.text_pieces.specs.Lent.{numbered_records}
-use Rattle.text_pieces.specs.Tables.{Kept, ids_of, kept_at, slot}
+use Rattle.text_pieces.specs.Tables.{Kept, kept_at, slot}
 
 -- what a piece says by itself in its mode; one that doesn't read is kept nowhere
 abbrev pub record_or : Result (Record × Mode) fault.Fault → Record

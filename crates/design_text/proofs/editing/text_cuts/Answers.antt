@@ -1,6 +1,5 @@
-use Rattle.std.proofs.Common.{◌∙◌, ap}
+use Rattle.std.proofs.Common.{ap}
 use Rattle.text_pieces.specs.Covering.{cut_of}
-use Rattle.statement_model.specs.Cuts.{Cut}
 use Rattle.def_splice.specs.SpliceViews.{cut_view}
 use Rattle.design_text.proofs.Pushing.{pushed}
 use Rattle.design_text.proofs.editing.text_cuts.Goals as goal

@@ -1,9 +1,6 @@
-use Rattle.std.proofs.Common.{◌∙◌, ◌≡◌, List, get_or, map, refl, ap, arith}
+use Rattle.std.proofs.Common.{◌∙◌, get_or, map, refl, ap, arith}
 use Rattle.std.proofs.lemmas.List.{take_all}
-use Rattle.design_model.specs.declared.identifier.StmtId.{StmtId}
-use Rattle.design_model.specs.declared.mode.Mode.{Mode}
-use Rattle.def_grammar.specs.Records.{Record, def}
-use Rattle.piece_laws.specs.Pieces.{IsPiece}
+use Rattle.def_grammar.specs.Records.{Record}
 use Rattle.text_pieces.specs.KeptRecords.{record_of}
 use Rattle.text_pieces.specs.Tables.{Kept, kept_at}
 use Rattle.design_tables.specs.TableViews.{numbered_view}

@@ -1,6 +1,5 @@
-use Rattle.std.proofs.Common.{◌≡◌, ◌++◌, ◌∙◌, List, map, refl, sym, ap, inl, subst}
+use Rattle.std.proofs.Common.{◌∙◌, map, refl, sym, ap, inl, subst}
 use Rattle.text_pieces.specs.Changes.{IsBetween}
-use Rattle.text_pieces.specs.Content.{Content}
 use Rattle.text_pieces.specs.KeptRecords.{records_under}
 use Rattle.text_pieces.specs.Lent.{numbered_records}
 use Rattle.design_tables.specs.TableViews.{numbered_view}
@@ -58,5 +57,8 @@ returns-in-Err-Duplicate-clause-fails g c = λ base other b.
     let o = c.order_makes_no_difference.ensures in
     let kept = left o.tables o.keys slots c.args.change.now now other parted outs puts out_is put_is in
     let is_kept = left_is_kept o.tables o.keys slots c.args.change.now now other parted outs puts out_is put_is in
-    inl (refl, λ keyed. c.in-Err-Duplicate.ensures.duplicate (numbered_records now) kept c.requires.tables is_kept c.requires.keyed c.in-Err-Duplicate.field-0-is
-    (keyed_left o.tables o.keys slots c.args.change.now now other parted outs puts out_is put_is keyed))
+    inl (
+      refl,
+      λ keyed. c.in-Err-Duplicate.ensures.duplicate (numbered_records now) kept c.requires.tables is_kept c.requires.keyed c.in-Err-Duplicate.field-0-is
+          (keyed_left o.tables o.keys slots c.args.change.now now other parted outs puts out_is put_is keyed),
+    )

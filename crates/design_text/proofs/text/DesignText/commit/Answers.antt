@@ -1,4 +1,4 @@
-use Rattle.std.proofs.Common.{◌≡◌, ◌∙◌, IsOk, refl, sym, subst}
+use Rattle.std.proofs.Common.{◌∙◌, IsOk, refl, sym, subst}
 use Rattle.def_grammar.specs.Records.{read_def}
 use Rattle.text_pieces.specs.Lent.{numbered_records}
 use Rattle.design_tables.specs.Listings.{AreTablesOf}

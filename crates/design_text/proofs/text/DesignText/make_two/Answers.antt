@@ -1,8 +1,7 @@
-use Rattle.std.proofs.Common.{◌≡◌, ◌∙◌, ℕ, List, [], ◌∷◌, ap}
+use Rattle.std.proofs.Common.{◌∙◌, [], ◌∷◌, ap}
 use Rattle.statement_model.specs.Cuts.{with_cuts}
 use Rattle.text_pieces.specs.Covering.{cut_of}
 use Rattle.design_text.specs.DesignTexts.{text_of}
-use Rattle.design_text.proofs.StepLemmas.{in_order_too}
 use Rattle.design_text.proofs.TwoCuts.{both_made}
 use Rattle.design_text.proofs.text.DesignText.make_two.Goals as goal
 

@@ -1,8 +1,7 @@
-use Rattle.std.proofs.Common.{◌≡◌, ◌∙◌, ℕ, List, IsOk, map, refl, sym, ap, subst}
+use Rattle.std.proofs.Common.{ℕ, List, IsOk, map, sym, ap, subst}
 use Rattle.std.proofs.lemmas.Result.{err_from_is_err_and}
 use Rattle.def_grammar.specs.Records.{read_def}
 use Rattle.text_pieces.specs.Content as pieces
-use Rattle.text_pieces.specs.Lent.{numbered_records}
 use Rattle.design_tables.specs.Listings.{AreTablesOf}
 use Rattle.design_tables.specs.Prepared.{AreKeyed}
 use Rattle.text_pieces.specs.Covering.{cut_of}

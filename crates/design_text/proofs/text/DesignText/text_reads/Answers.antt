@@ -1,5 +1,3 @@
-use Rattle.std.proofs.Common.{rules, IsOk}
-use Rattle.def_grammar.specs.Records.{read_def}
 use Rattle.design_text.specs.DesignTexts.{text_of}
 use Rattle.design_text.proofs.ReadTexts.{is_read, read_fits}
 use Rattle.design_text.proofs.text.DesignText.text_reads.Goals as goal
