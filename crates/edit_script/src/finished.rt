@@ -53,17 +53,17 @@ where
     };
     let bytes = read_script(alloc, script)?;
     match answer_lines(alloc, &mut session, bytes.as_slice(), out) {
-        Ok(tally) => match session.into_text() {
-            Ok(text) => Ok(Finished { tally, text }),
-            Err(_) => Err(RunFault::Memory),
-        },
+        Ok(tally) => Ok(Finished {
+            tally,
+            text: session.into_text(),
+        }),
         Err(Stop::Memory) => Err(RunFault::Memory),
         Err(Stop::Write) => Err(RunFault::Write),
     }
 }
 
 /// Runs a script over a DEF text, which it takes, and the library of LEF texts, as `run` does, and gives the text in the end
-/// where that writes it.
+/// where that writes it: so there is one copy of the text at any time.
 pub fn run_owned<A, B, R, W>(
     alloc: A,
     lefs: &LefTexts<B>,
