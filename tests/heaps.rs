@@ -12,17 +12,21 @@ use linked_list_allocator::LocalHeap;
 use std::alloc::{AllocError, Global};
 use std::test::Fail;
 
-/// How long the comment is that the design begins with: so long that keeping the text needs more than reading it.
-const COMMENT: usize = 4000;
+/// How long the comment is before the first component: so long that an edit of it needs more than is left of opening the text.
+const COMMENT: usize = 2000;
 
-/// The two inverters behind a comment.
+/// Where the first component begins.
+const FIRST: usize = 183;
+
+/// The two inverters, the first behind a comment.
 fn commented(alloc: Global) -> Result<Vec<u8>, AllocError> {
-    let mut text = Vec::from_slice(alloc, b"#")?;
+    let mut text = Vec::from_slice(alloc, &TWO_INVERTERS[..FIRST])?;
+    text.push(b'#')?;
     for _ in 2..COMMENT {
         text.push(b'x')?;
     }
     text.push(b'\n')?;
-    text.extend_from_slice(TWO_INVERTERS)?;
+    text.extend_from_slice(&TWO_INVERTERS[FIRST..])?;
     Ok(text)
 }
 
@@ -151,7 +155,7 @@ fn a_run_goes_on_after_an_edit_that_memory_is_refused_for(rt: HostRuntime) -> Re
     let design = commented(rt.alloc())?;
     let scripts: [&[u8]; 2] = [
         b"place u1 460 0 N\nundo\n",
-        b"text 4185 4187 a_much_longer_name\nundo\n",
+        b"text 2185 2187 a_much_longer_name\nundo\n",
     ];
     for script in scripts {
         let mut done = 0u64;

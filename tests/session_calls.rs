@@ -93,7 +93,7 @@ fn answers(alloc: Global) -> Result<Given, Fail> {
 #[test]
 fn a_session_from_its_opening_to_its_text(rt: HostRuntime) -> Result<(), Fail> {
     let given = answers(rt.alloc())?;
-    let done = Done { reads: 0, tests: 0 };
+    let done = Done { reads: 1, tests: 0 };
     let out_of_range = EditRefusal::Refused(EditCode::Number);
     assert_eq!(rt; given.opened, 252);
     assert_eq!(rt; given.placed, Ok(done));

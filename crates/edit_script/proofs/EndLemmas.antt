@@ -9,7 +9,7 @@ use Rattle.edit_rules.specs.Script.{script_lines}
 use Rattle.report_rules.specs.Output.{Counts}
 use Rattle.edit_script.specs.declared.run.RunFault.{RunFault}
 use Rattle.edit_script.specs.declared.run.RunFault.TheVariants as faults
-use Rattle.edit_script.specs.Ends.{Known, WritesNothing, WritesRun, WritesRunPart, AnswersCut, StopsBy, StopsOver, StopsUnread}
+use Rattle.edit_script.specs.Ends.{Known, WritesNothing, WritesRun, WritesRunPart, AnswersCut, AnswersSome, StopsBy, StopsOver, StopsUnread}
 
 pub stopped_by_out : (library : Library) (text script : List ℕ) (o o' d : Known) → WritesRunPart library text (script_lines script) o o' → AnswersCut library text script o o' d d
 stopped_by_out library text script o o' d (part, rest, last, counts, run, w) =
@@ -19,6 +19,10 @@ pub stopped_by_text : (library : Library) (text script : List ℕ) (o o' d d' : 
     → WritesRun library text (script_lines script) o o' last counts → WritesPart d d' last → AnswersCut library text script o o' d d'
 stopped_by_text library text script o o' d d' last counts (bytes, run, w) (done, rest, split, more) =
     (bytes, done, rest, bytes, last, counts, run, ap (λ l. bytes ++ l) split ∙ sym (append_assoc bytes done rest), inr refl, w, more)
+
+-- all answers were written, and no text
+pub answered_some : (library : Library) (text script : List ℕ) (o o' d : Known) (last : List ℕ) (counts : Counts) → WritesRun library text (script_lines script) o o' last counts → AnswersSome library text script o o' d d
+answered_some library text script o o' d last counts (bytes, run, w) = (bytes, [], last, counts, rw (append-nil bytes) run, w, Appends-nil d)
 
 -- what holds of an answer holds of it in other words
 pub ok_so : {T E : Type 0} (P Q : T → Type 0) (r : Result T E) → ((t : T) → P t → Q t) → IfOk r P → IfOk r Q

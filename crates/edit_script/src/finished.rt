@@ -1,6 +1,7 @@
 //! A script's run over a text that is handed over, and given back in the end.
 
-ghost use Rattle.std.specs.Prelude.{◌≡◌, ◌+◌, ◌<◌, ◌≤◌, ◌^◌, [], IfErr, IfOk, IsErrOf, Some};
+ghost use Rattle.std.specs.Prelude.{◌≡◌, ◌+◌, ◌<◌, ◌≤◌, ◌^◌, [], IfErr, IfOk, IsErrOf, IsOk, Some};
+ghost use Rattle.def_grammar.specs.Records.{read_def};
 ghost use Rattle.counted_devices.specs.Counting.{HasFailed};
 ghost use Rattle.edit_script.specs.Answered.{counts_of};
 ghost use Rattle.edit_script.specs.Ends.{RunsOver, RunsWhole, StopsBy, StopsOver, TookAllTurns, hard_after_run};
@@ -21,6 +22,38 @@ pub struct Finished<A: Allocator = Global> {
     pub tally: Tally,
     /// The DEF text in the end.
     pub text: Vec<u8, A>,
+}
+
+/// Reads a script, and answers its lines over a session.
+fn finish_in<A, R, W>(
+    alloc: A,
+    session: &mut Session<'_, '_, A>,
+    script: &mut R,
+    out: &mut W,
+) -> Result<Tally, RunFault>
+where
+    A: Allocator + Copy,
+    R: CountedRead,
+    W: CountedWrite,
+    requires reads { IsOk (read_def session.old.text) }
+    requires script { R.failed script.old < 2 ^ 63 }
+    requires out { W.failed out.old < 2 ^ 63 }
+    ensures ok { IfOk result (λ tally. RunsOver session.old.library session.old.text (R.remaining script.old) (W.contents out.old) (W.contents out.new) (Some []) (Some session.new.text) (counts_of tally)) }
+    ensures some { IfOk result (λ _. StopsOver session.old.library session.old.text (R.remaining script.old) (W.contents out.old) (W.contents out.new) (Some []) (Some []) RunFault.Memory) }
+    ensures fault { IfErr result (λ e. StopsOver session.old.library session.old.text (R.remaining script.old) (W.contents out.old) (W.contents out.new) (Some []) (Some []) e) }
+    ensures read { IsErrOf result RunFault.Read → R.failed script.old < R.failed script.new }
+    ensures read_hard { R.failed_hard script.new ≡ hard_after_run result (R.failed_hard script.old) }
+    ensures write { IsErrOf result RunFault.Write → HasFailed (W.failed_hard out.old) (W.failed_hard out.new) (W.failed out.old) (W.failed out.new) 33554431 }
+    ensures write_few { W.failed out.new ≤ W.failed out.old + 33554432 }
+    ensures read_few { R.failed script.new ≤ R.failed script.old + 33554432 }
+    ensures endless { IsErrOf result RunFault.Endless → TookAllTurns (R.remaining script.old) (R.failed script.old) (R.failed script.new) }
+{
+    let bytes = read_script(alloc, script)?;
+    match answer_lines(alloc, session, bytes.as_slice(), out) {
+        Ok(tally) => Ok(tally),
+        Err(Stop::Memory) => Err(RunFault::Memory),
+        Err(Stop::Write) => Err(RunFault::Write),
+    }
 }
 
 /// Runs a script over a DEF text and a library.
@@ -51,19 +84,15 @@ where
         Err(ReadError::Fault(fault)) => return Err(RunFault::Def(fault)),
         Err(ReadError::Memory) => return Err(RunFault::Memory),
     };
-    let bytes = read_script(alloc, script)?;
-    match answer_lines(alloc, &mut session, bytes.as_slice(), out) {
-        Ok(tally) => Ok(Finished {
-            tally,
-            text: session.into_text(),
-        }),
-        Err(Stop::Memory) => Err(RunFault::Memory),
-        Err(Stop::Write) => Err(RunFault::Write),
+    let tally = finish_in(alloc, &mut session, script, out)?;
+    match session.into_text() {
+        Ok(text) => Ok(Finished { tally, text }),
+        Err(_) => Err(RunFault::Memory),
     }
 }
 
 /// Runs a script over a DEF text, which it takes, and the library of LEF texts, as `run` does, and gives the text in the end
-/// where that writes it: so there is one copy of the text at any time.
+/// where that writes it.
 pub fn run_owned<A, B, R, W>(
     alloc: A,
     lefs: &LefTexts<B>,

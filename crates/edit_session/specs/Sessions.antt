@@ -35,35 +35,6 @@ OpensAs text (Err error.TheVariants.Memory) = Unit {0}
 abbrev pub AreDiagnostics : {A : Type 0} → Library → List ℕ → List (DiagLine A) → Type 0
 AreDiagnostics library text lines = (design : List Record) × (read_def text ≡ Ok design) × (texts lines ≡ diagnostics library design)
 
--- what editing a text says: it has the edit's cuts made, or is as it was and refused as the edit is
-abbrev pub EditsText : {T : Type 0} → Library → List ℕ → Change → Result T EditRefusal → List ℕ → Type 0
-EditsText library old change (Ok t) new = (cuts : List Cut) × Makes library old change (Ok cuts) × (new ≡ with_cuts cuts old)
-EditsText library old change (Err (Refused code)) new = (new ≡ old) × Makes library old change (Err code)
-EditsText library old change (Err (Unreadable fault)) new = ⊥
-EditsText library old change (Err Memory) new = (new ≡ old) × WantsMemory library old change
-
--- the text after an accepted edit reads as the edited design
-abbrev pub ReadsEdited : List ℕ → Change → List ℕ → Type 0
-ReadsEdited old change new = (design : List Record) × (read_def old ≡ Ok design) × (read_def new ≡ Ok (applied change design))
-
--- and it has all bytes of the text before, but those of the cuts that the edit makes, which stand in order within it
-abbrev pub KeepsTheRest : Library → List ℕ → Change → List ℕ → Type 0
-KeepsTheRest library old change new = (cuts : List Cut) × Makes library old change (Ok cuts) × (new ≡ with_cuts cuts old) × AreInOrder 0 cuts (length old)
-
--- the same of bytes in the place of others: refused memory comes only where the range and the length are good
-abbrev pub ReplacesText : {V : Type 0} → (V → List ℕ) → List ℕ → ℕ → ℕ → List ℕ → Result V EditRefusal → Type 0
-ReplacesText items old a b put (Ok v) = text_outcome old a b put ≡ Ok (items v)
-ReplacesText items old a b put (Err Memory) = (a ≤ b) × (b ≤ length old) × (is_long (new_text old a b put) ≡ false)
-ReplacesText items old a b put (Err refusal) = text_outcome old a b put ≡ Err refusal
-
--- where an entry stands, in the text that reads as a design: from the first of its tokens to the last; or there is none
-abbrev pub StandsAt : List ℕ → Section → List ℕ → Option Span → Type 0
-StandsAt text s name found =
-    (design : List Record)
-    × (read_def text ≡ Ok design)
-    × MatchOption found (entry_at s name (located text design) ≡ None)
-    (λ span. (x : List Token × Record) × (entry_at s name (located text design) ≡ Some x) × (pos_of x.0 ≡ span.lo) × (end_of_all x.0 ≡ span.hi))
-
 -- these bytes alone say this entry of a section
 abbrev pub SaysAlone : Section → List ℕ → Entry → Type 0
 SaysAlone s bytes e = (left : Lexed) × (read_at def (In s) (left_from bytes 0) ≡ Ok (Some (entry e, In s, left)))

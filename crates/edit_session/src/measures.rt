@@ -2,11 +2,13 @@
 
 ghost use Rattle.std.specs.Prelude.{IfOk, IfSome, IsOk};
 ghost use Rattle.def_grammar.specs.Records.{read_def};
+ghost use Rattle.design_text.specs.DesignTexts.{text_of};
 ghost use Rattle.edit_session.specs.Sessions.{AnswersOn};
 
 use cell_library::library::Library;
 use def_reader::records::statements_of;
 use design_names::names::names_of;
+use design_text::text::DesignText;
 use line_laws::scales::scales_are_good;
 use measure_laws::lengths::lengths_fit;
 use measure_laws::ranges::lines_fit;
@@ -30,19 +32,31 @@ fn reports_of<'t, A: Allocator + Copy>(
     Reports::open(alloc, library, &names)
 }
 
-/// What was measured of a text, if that is kept, and else what is measured of it now.
-pub(crate) fn kept_or_made<'t, A: Allocator + Copy>(
+/// What is measured of a text in pieces, which is put together for it.
+fn reports_on<A: Allocator + Copy>(
     alloc: A,
-    library: &'t Library<'_, A>,
-    text: &'t [u8],
+    library: &Library<'_, A>,
+    text: &DesignText<A>,
+) -> Result<Reports<A>, AllocError>
+    ensures { IfOk result (AnswersOn library.now (text_of text.now)) }
+{
+    text.text_reads();
+    let text = text.text(alloc)?;
+    reports_of(alloc, library, &text)
+}
+
+/// What was measured of a text, if that is kept, and else what is measured of it now.
+pub(crate) fn kept_or_made<A: Allocator + Copy>(
+    alloc: A,
+    library: &Library<'_, A>,
+    text: &DesignText<A>,
     kept: Option<Reports<A>>,
 ) -> Result<Reports<A>, AllocError>
-    requires reads { IsOk (read_def text.now) }
-    requires kept { IfSome kept (AnswersOn library.now text.now) }
-    ensures { IfOk result (AnswersOn library.now text.now) }
+    requires { IfSome kept (AnswersOn library.now (text_of text.now)) }
+    ensures { IfOk result (AnswersOn library.now (text_of text.now)) }
 {
     match kept {
         Some(reports) => Ok(reports),
-        None => reports_of(alloc, library, text),
+        None => reports_on(alloc, library, text),
     }
 }

@@ -15,25 +15,22 @@ ghost use Rattle.lef_grammar.specs.Measures.{place_among};
 ghost use Rattle.measure_rules.specs.Density.{cell_density, place_density};
 ghost use Rattle.measure_rules.specs.Lengths.{net_length, total_length};
 ghost use Rattle.measure_rules.specs.NetBoxes.{net_box};
-ghost use Rattle.edit_session.specs.Sessions.{AnswersOn, AreDiagnostics, EditsText, HasParts, KeepsTheRest, Measures, OpensAs, ReadsEdited, ReplacesText, Views};
+ghost use Rattle.design_text.specs.Editing.{KeepsTheRest, ReadsEdited};
+ghost use Rattle.edit_session.specs.Sessions.{AnswersOn, AreDiagnostics, HasParts, Measures, OpensAs, Views};
 
 use crate::measures::kept_or_made;
 use crate::report::report;
 use crate::view::{View, view_of};
 use cell_library::library::Library;
 use counted_devices::counted::{CountedWrite, Failures};
-use counted_devices::output::{MAX_INTERRUPTIONS, WriteFault, write_whole};
-use def_reader::read_def::read_def;
-use def_splice::in_place::make_splices;
-use def_splice::splices::splices;
-use design_model::MAX_TEXT;
+use counted_devices::output::WriteFault;
 use design_model::diagnostic::DiagLines;
 use design_model::fault::ReadError;
 use design_model::geometry::Rect;
 use design_model::identifier::LayerId;
 use design_model::mode::Section;
-use edit_laws::editing::{edits_are_applied, edits_keep_the_rest};
-use edit_model::edit::{Done, Edit, EditCode, EditRefusal};
+use design_text::text::DesignText;
+use edit_model::edit::{Done, Edit, EditRefusal};
 use reports::Reports;
 use std::alloc::{AllocError, Allocator, Global};
 use std::io::Write;
@@ -41,25 +38,26 @@ use std::marker::Model;
 
 /// An editor session over the text of a design.
 #[derive(Drop)]
-pub struct Session<'s, 'l, A: Allocator = Global> {
+pub struct Session<'s, 'l, A: Allocator + Copy = Global> {
+    alloc: A,
     library: &'s Library<'l, A>,
-    text: Vec<u8, A>,
+    text: DesignText<A>,
     /// What was measured of the present text, if that was asked since it was last edited.
     reports: Option<Reports<A>>,
 }
 
-impl<'s, 'l, A: Allocator> Model for Session<'s, 'l, A> {
-    ghost use Rattle.std.specs.Prelude.{◌≤◌, length, IfSome, IsOk};
-    ghost use Rattle.design_model.specs.declared.TheConstants.{MAX_TEXT};
+impl<'s, 'l, A: Allocator + Copy> Model for Session<'s, 'l, A> {
+    ghost use Rattle.std.specs.Prelude.{IfSome, IsOk};
     ghost use Rattle.def_grammar.specs.Records.{read_def};
+    ghost use Rattle.design_text.specs.DesignTexts.{text_of};
     ghost use Rattle.edit_session.specs.Contents.{Content};
     ghost use Rattle.edit_session.specs.Sessions.{AnswersOn};
 
     ghost Value = { Content };
 
-    ghost view = { λ s. record { library = s.library.now; text = s.text.items } };
+    ghost view = { λ s. record { library = s.library.now; text = text_of s.text } };
 
-    ghost invariant = { λ s. (length s.text.items ≤ MAX_TEXT) × IsOk (read_def s.text.items) × IfSome s.reports (AnswersOn s.library.now s.text.items) };
+    ghost invariant = { λ s. IsOk (read_def (text_of s.text)) × IfSome s.reports (AnswersOn s.library.now (text_of s.text)) };
 }
 
 impl<'s, 'l, A: Allocator + Copy> Session<'s, 'l, A> {
@@ -73,16 +71,17 @@ impl<'s, 'l, A: Allocator + Copy> Session<'s, 'l, A> {
         ensures text { IfOk result (λ s. s.text ≡ text.now) }
         ensures library { IfOk result (λ s. s.library ≡ library.now) }
     {
-        read_def(alloc, text)?;
-        let text = Vec::from_slice(alloc, text)?;
+        let text = DesignText::open(alloc, text)?;
+        text.text_reads();
         Ok(Session {
+            alloc,
             library,
             text,
             reports: None,
         })
     }
 
-    /// Opens a session on a text, which it takes. One that doesn't read is let go.
+    /// Opens a session on a text, which it takes and lets go.
     pub fn open_owned(
         library: &'s Library<'l, A>,
         text: Vec<u8, A>,
@@ -91,19 +90,14 @@ impl<'s, 'l, A: Allocator + Copy> Session<'s, 'l, A> {
         ensures text { IfOk result (λ s. s.text ≡ text.items) }
         ensures library { IfOk result (λ s. s.library ≡ library.now) }
     {
-        read_def(*text.allocator(), &text)?;
-        Ok(Session {
-            library,
-            text,
-            reports: None,
-        })
+        Session::open(*text.allocator(), library, &text)
     }
 
-    /// The present text.
-    pub fn into_text(self) -> Vec<u8, A>
-        ensures { result.items ≡ self.entry.text }
+    /// The present text, put together.
+    pub fn into_text(self) -> Result<Vec<u8, A>, AllocError>
+        ensures { IfOk result (λ v. v.items ≡ self.entry.text) }
     {
-        self.text
+        self.text.text(self.alloc)
     }
 
     /// Makes an edit, or refuses it and leaves the text as it was.
@@ -114,9 +108,11 @@ impl<'s, 'l, A: Allocator + Copy> Session<'s, 'l, A> {
         ensures library { self.new.library ≡ self.old.library }
         ensures reads { IsOk (read_def self.new.text) }
     {
-        edit_text(self.library, &mut self.text, edit)?;
+        let edited = self.text.edit(self.alloc, self.library, edit);
+        self.text.text_reads();
+        let reads = edited?;
         self.reports = None;
-        Ok(Done { reads: 0, tests: 0 })
+        Ok(Done { reads, tests: 0 })
     }
 
     /// Puts bytes in the place of those from `a` up to `b`, or refuses it and leaves the text as it was.
@@ -125,10 +121,11 @@ impl<'s, 'l, A: Allocator + Copy> Session<'s, 'l, A> {
         ensures library { self.new.library ≡ self.old.library }
         ensures reads { IsOk (read_def self.new.text) }
     {
-        let new = replaced_text(*self.text.allocator(), &self.text, a, b, new)?;
-        self.text = new;
+        let edited = self.text.replace(self.alloc, a, b, new);
+        self.text.text_reads();
+        let reads = edited?;
         self.reports = None;
-        Ok(Done { reads: 0, tests: 0 })
+        Ok(Done { reads, tests: 0 })
     }
 
     /// The entry of a section that has this name, of the present text. There is none of BLOCKAGES and of sections whose
@@ -145,7 +142,8 @@ impl<'s, 'l, A: Allocator + Copy> Session<'s, 'l, A> {
         ensures lines { IfOk result (λ lines. AreDiagnostics self.now.library self.now.text lines) }
         ensures kinds { IfOk result (λ lines. HaveTheirKinds lines) }
     {
-        report(*self.text.allocator(), self.library, &self.text)
+        let text = self.text.text(self.alloc)?;
+        report(self.alloc, self.library, &text)
     }
 
     /// What is measured of the present text, which no field has then.
@@ -154,7 +152,7 @@ impl<'s, 'l, A: Allocator + Copy> Session<'s, 'l, A> {
         ensures same { self.new ≡ self.old }
     {
         let kept = self.reports.take();
-        kept_or_made(*self.text.allocator(), self.library, &self.text, kept)
+        kept_or_made(self.alloc, self.library, &self.text, kept)
     }
 
     /// The length of the wires of a net, in database units; `None` where there is no such net. Measures are made at the first
@@ -241,59 +239,6 @@ impl<'s, 'l, A: Allocator + Copy> Session<'s, 'l, A> {
         ensures failed { OnErr result (HasFailed (W.failed_hard out.old) (W.failed_hard out.new) (W.failed out.old) (W.failed out.new) 33554431) }
         ensures few { W.failed out.new ≤ W.failed out.old + 33554432 }
     {
-        let mut patience = MAX_INTERRUPTIONS;
-        write_whole(out, self.text.as_slice(), &mut patience)
-    }
-}
-
-/// Makes an edit of a text that reads, or refuses it and leaves the text as it was.
-fn edit_text<A: Allocator + Copy>(
-    library: &Library<'_, A>,
-    text: &mut Vec<u8, A>,
-    edit: &Edit<'_>,
-) -> Result<(), EditRefusal>
-    requires fits { length text.old.items ≤ MAX_TEXT }
-    requires reads { IsOk (read_def text.old.items) }
-    ensures edits { EditsText library.now text.old.items (change_of edit.now) result text.new.items }
-    ensures applied { IfOk result (λ _. ReadsEdited text.old.items (change_of edit.now) text.new.items) }
-    ensures keeps { IfOk result (λ _. KeepsTheRest library.now text.old.items (change_of edit.now) text.new.items) }
-    ensures fits { length text.new.items ≤ MAX_TEXT }
-    ensures reads { IsOk (read_def text.new.items) }
-{
-    edits_are_applied();
-    edits_keep_the_rest();
-    let splices = splices(*text.allocator(), library, text.as_slice(), edit)?;
-    make_splices(text, splices)?;
-    Ok(())
-}
-
-/// The text after bytes took the place of those from `a` up to `b`.
-fn replaced_text<A: Allocator + Copy>(
-    alloc: A,
-    text: &[u8],
-    a: usize,
-    b: usize,
-    new: &[u8],
-) -> Result<Vec<u8, A>, EditRefusal>
-    requires { length text.now ≤ MAX_TEXT }
-    ensures makes { ReplacesText (λ v. v.items) text.now a b new.now result }
-    ensures fits { IfOk result (λ v. length v.items ≤ MAX_TEXT) }
-    ensures reads { IfOk result (λ v. IsOk (read_def v.items)) }
-{
-    if a > b || b > text.len() {
-        return Err(EditRefusal::Refused(EditCode::Range));
-    }
-    let kept = text.len() - (b - a);
-    if new.len() > MAX_TEXT - kept {
-        return Err(EditRefusal::Refused(EditCode::TooLong));
-    }
-    let mut all = Vec::with_capacity(alloc, kept + new.len())?;
-    all.extend_from_slice(&text[..a])?;
-    all.extend_from_slice(new)?;
-    all.extend_from_slice(&text[b..])?;
-    match read_def(alloc, &all) {
-        Ok(_) => Ok(all),
-        Err(ReadError::Fault(fault)) => Err(EditRefusal::Unreadable(fault)),
-        Err(ReadError::Memory) => Err(EditRefusal::Memory),
+        self.text.write_to(out)
     }
 }

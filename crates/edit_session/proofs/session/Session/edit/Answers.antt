@@ -3,8 +3,8 @@ use Rattle.edit_session.proofs.session.Session.edit.Goals as goal
 
 pub returns-clause-answer : goal.returns-clause-answer
 returns-clause-answer g c =
-    let edits = c.in_ok-edit_text.ensures.edits in
+    let edits = c.in_ok-reads.ensures.edits in
     rw (← c.self.view_is) (edits.0, edits.1, edits.2, refl)
 
 pub returns-clause-keeps : goal.returns-clause-keeps
-returns-clause-keeps g c = rw (← c.self.view_is) c.in_ok-edit_text.ensures.keeps
+returns-clause-keeps g c = rw (← c.self.view_is) c.in_ok-reads.ensures.keeps
