@@ -1,6 +1,6 @@
 //! All edits of a design by the calls of a session, what is measured of it, and each growth of each edit refused in turn.
 
-use crate::texts::{PINNED, TWO_CONNECTED};
+use crate::texts::{INVERTER, PINNED, TWO_CONNECTED, TWO_INVERTERS};
 use cell_library::lef_texts::LefTexts;
 use cell_library::library::Library;
 use counted_devices::counted::Counted;
@@ -49,6 +49,47 @@ fn each_kind_of_edit_of_a_session(rt: HostRuntime) -> Result<(), Fail> {
     let mut out = Counted::new(Vec::new(alloc));
     session.write_to(&mut out)?;
     assert_eq!(rt; out.into_inner().as_slice(), EDITED);
+    Ok(())
+}
+
+/// A design of so many components that aren't placed.
+fn unplaced(alloc: Global, count: usize) -> Result<Vec<u8>, Fail> {
+    let mut text = Vec::new(alloc);
+    text.extend_from_slice(b"UNITS DISTANCE MICRONS 1000 ;\nCOMPONENTS 10000 ;\n")?;
+    for number in 0..count {
+        text.extend_from_slice(b"- c")?;
+        let mut rest = number;
+        for _ in 0..5 {
+            text.push(b'0' + (rest % 10) as u8)?;
+            rest /= 10;
+        }
+        text.extend_from_slice(b" INV ;\n")?;
+    }
+    text.extend_from_slice(b"END COMPONENTS\nEND DESIGN\n")?;
+    Ok(text)
+}
+
+#[test]
+fn few_statements_are_read(rt: HostRuntime) -> Result<(), Fail> {
+    let alloc = rt.alloc();
+    let mut lefs = LefTexts::new(alloc);
+    lefs.push(INVERTER)?;
+    let library = Library::read(alloc, &lefs)?;
+    let text = unplaced(alloc, 10000)?;
+    let mut session = Session::open(alloc, &library, &text)?;
+    // an entry, what is behind it, and the first and the last of a section
+    for component in [b"c01000".as_slice(), b"c00000", b"c99990", b"c01000"] {
+        let done = session.edit(&Edit::Place { component, x: 0, y: 0, orient: Orient::N })?;
+        assert!(rt; done.reads > 0 && done.reads <= 2, "{}", done.reads);
+    }
+    let done = session.edit(&Edit::Add { component: b"u9", cell: b"INV" })?;
+    assert!(rt; done.reads > 0 && done.reads <= 5, "{}", done.reads);
+    let done = session.edit(&Edit::Remove { component: b"c05000" })?;
+    assert!(rt; done.reads > 0 && done.reads <= 5, "{}", done.reads);
+    // a comment that hides the end of an entry
+    let mut session = Session::open(alloc, &library, TWO_INVERTERS)?;
+    let done = session.text_edit(183, 183, b"#")?;
+    assert!(rt; done.reads > 0 && done.reads <= 2, "{}", done.reads);
     Ok(())
 }
 

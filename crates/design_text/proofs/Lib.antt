@@ -1,6 +1,7 @@
 mod AnyOrder
 mod EntryLists
 mod EntryPlaces
+mod FewMade
 mod FoundNumbers
 mod FoundStatements
 mod KeptKeys

@@ -1,7 +1,7 @@
 -- Two cuts made one after the other, the later one first.
 use Rattle.std.proofs.Common.{◌≡◌, ◌+◌, ◌-◌, ℕ, List, [], ◌∷◌, ◌++◌, length, take, drop, refl, sym, ap, ap₂, ◌∙◌, arith, slice_range}
 use Rattle.std.proofs.Math.Seq.{take-add}
-use Rattle.std.proofs.lemmas.List.{drop-append-le, drop-take, length-take-le, take-append-le}
+use Rattle.std.proofs.lemmas.List.{drop-append-le, drop-take, length-append, length-take-le, take-append-le}
 use Rattle.statement_model.specs.Cuts.{Cut, with_cuts}
 use Rattle.splicing_laws.specs.KeepingLaws.{AreInOrder}
 
@@ -52,3 +52,9 @@ module _ (t : List ℕ) (f l : Cut) (order : AreInOrder 0 (f ∷ l ∷ []) (leng
 
   pub last_in_order : AreInOrder 0 (l ∷ []) (length t)
   last_in_order = (omega arith, order.2.1, order.2.2)
+
+  -- the first stands in the text with the later one made
+  pub first_in_order : AreInOrder 0 (f ∷ []) (length once)
+  first_in_order =
+      let long = ap length once_is ∙ length-append (take l.lo t) rest in
+      (omega arith, order.1, omega (arith, long, front_long, order.2.0))

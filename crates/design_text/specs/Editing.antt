@@ -1,5 +1,5 @@
 -- What edits of the text of a design say.
-use Rattle.std.specs.Prelude.{◌≡◌, ◌≤◌, ◌<◌, ℕ, false, List, [], ◌∷◌, length, Result, Ok, Err}
+use Rattle.std.specs.Prelude.{◌≡◌, ◌≤◌, ◌<◌, ℕ, false, List, [], ◌∷◌, length, Option, Some, None, Result, Ok, Err, IsOk}
 use Rattle.design_model.specs.declared.TheConstants.{MAX_TEXT}
 use Rattle.design_model.specs.declared.fault.Fault as fault
 use Rattle.edit_model.specs.declared.edit.EditRefusal.{EditRefusal}
@@ -22,9 +22,11 @@ MakesCuts old cuts (Err TooLong) new = (new ≡ old) × AreInOrder 0 cuts (lengt
 MakesCuts old cuts (Err Fault) new = (new ≡ old) × (f : fault.Fault) × (read_def (with_cuts cuts old) ≡ Err f)
 MakesCuts old cuts (Err Memory) new = new ≡ old
 
--- the same of two cuts that stand in order, of which each may be made by itself; where they aren't made the text is as it was
-abbrev pub MakesTwo : {T : Type 0} → List ℕ → Cut → Cut → Result T PrepareError → List ℕ → Type 0
-MakesTwo old first last (Ok t) new = new ≡ with_cuts (first ∷ last ∷ []) old
+-- The same of two cuts that stand in order, which are made one after the other, the later one first: where they aren't, the text is as
+-- it was, and it doesn't read with the later one alone, or with both; refused memory says nothing more.
+abbrev pub MakesTwo : {T E : Type 0} → List ℕ → Cut → Cut → Result (Option T) E → List ℕ → Type 0
+MakesTwo old first last (Ok (Some t)) new = (new ≡ with_cuts (first ∷ last ∷ []) old) × IsOk (read_def (with_cuts (last ∷ []) old))
+MakesTwo old first last (Ok None) new = (new ≡ old) × (IsOk (read_def (with_cuts (last ∷ []) old)) → IsOk (read_def (with_cuts (first ∷ last ∷ []) old)) → ⊥)
 MakesTwo old first last (Err e) new = new ≡ old
 
 -- what editing a text says: it has the edit's cuts made, or is as it was and refused as the edit is

@@ -1,5 +1,6 @@
 pub mod DesignTexts
 pub mod Editing
 pub mod EntryBytes
+pub mod FewReads
 pub mod Steps
 pub mod ToldStatements

@@ -1,14 +1,17 @@
 //! Edits of the text of a design.
 
-ghost use Rattle.std.specs.Prelude.{◌≡◌, ◌≤◌, ◌∷◌, [], Err, IfOk, false, length, map};
+ghost use Rattle.std.specs.Prelude.{◌≡◌, ◌+◌, ◌≤◌, ◌∷◌, [], Err, IfOk, IfSome, None, false, length, map};
 ghost use Rattle.design_model.specs.declared.fault.Fault as fault;
 ghost use Rattle.def_grammar.specs.Records.{read_def};
 ghost use Rattle.edit_rules.specs.Edits.{change_of, is_long};
 ghost use Rattle.edit_rules.specs.Runs.{new_text};
 ghost use Rattle.splicing_laws.specs.KeepingLaws.{AreInOrder};
-ghost use Rattle.text_pieces.specs.Covering.{cut_of};
+ghost use Rattle.statement_model.specs.Cuts.{with_cuts};
+ghost use Rattle.text_pieces.specs.Covering.{cover_of, cut_of};
+ghost use Rattle.text_pieces.specs.declared.prepared.PrepareError.TheVariants.{Memory as IsMemory};
 ghost use Rattle.def_splice.specs.SpliceViews.{cut_view};
 ghost use Rattle.design_text.specs.DesignTexts.{text_of};
+ghost use Rattle.design_text.specs.FewReads.{ReadsFew, most_reads, new_in};
 ghost use Rattle.design_text.specs.Editing.{EditsText, IsRefused, KeepsTheRest, MakesCuts, MakesTwo, ReadsEdited, ReplacesIn};
 
 use crate::replacing::replaced_text;
@@ -38,38 +41,56 @@ fn text_cuts<'s, A: Allocator + Copy>(
     Ok(cuts)
 }
 
+/// What is answered of cuts that aren't prepared: nothing, or want of memory.
+fn not_made(error: PrepareError) -> Result<Option<u64>, AllocError>
+    ensures { IfOk result (λ made. (made ≡ None) × (error ≡ IsMemory → ⊥)) }
+{
+    match error {
+        PrepareError::Memory => Err(AllocError),
+        PrepareError::Range | PrepareError::TooLong | PrepareError::Fault => Ok(None),
+    }
+}
+
 impl<A: Allocator + Copy> DesignText<A> {
     /// Makes cuts as one change, and says how many statements were read for it; or leaves the text as it was. It is a fault where
     /// the text with the cuts made doesn't read.
     fn make(&mut self, alloc: A, cuts: &[TextCut<'_>]) -> Result<u64, PrepareError>
-        ensures { MakesCuts (text_of self.old) (map cut_of cuts.now) result (text_of self.new) }
+        ensures makes { MakesCuts (text_of self.old) (map cut_of cuts.now) result (text_of self.new) }
+        ensures few { IfOk result (λ n. n ≤ new_in (text_of self.old) (cover_of (text_of self.old) (map cut_of cuts.now))) }
     {
         let mut step = self.prepare(alloc, cuts)?;
+        let reads = step.reads();
         self.commit(&mut step);
-        Ok(step.reads())
+        Ok(reads)
     }
 
-    /// Makes two cuts one after the other, the later one first, so that no statement between them is read; or leaves the text as it
-    /// was, also where it doesn't read with the later one alone.
+    /// Makes two cuts one after the other, the later one first, so that no statement between them is read, and says how many were;
+    /// or leaves the text as it was: there is nothing where it doesn't read with the later one alone, or with both.
     fn make_two(
         &mut self,
         alloc: A,
         first: TextCut<'_>,
         last: TextCut<'_>,
-    ) -> Result<u64, PrepareError>
+    ) -> Result<Option<u64>, AllocError>
         requires { AreInOrder 0 (cut_of first ∷ cut_of last ∷ []) (length (text_of self.old)) }
-        ensures { MakesTwo (text_of self.old) (cut_of first.entry) (cut_of last.entry) result (text_of self.new) }
+        ensures makes { MakesTwo (text_of self.old) (cut_of first.entry) (cut_of last.entry) result (text_of self.new) }
+        ensures few { IfOk result (λ made. IfSome made (λ n. n ≤ new_in (text_of self.old) (cut_of last.entry) + new_in (with_cuts (cut_of last.entry ∷ []) (text_of self.old)) (cut_of first.entry))) }
     {
-        let mut later = self.prepare(alloc, &[last])?;
+        let mut later = match self.prepare(alloc, &[last]) {
+            Ok(step) => step,
+            Err(error) => return not_made(error),
+        };
+        let last_reads = later.reads();
         self.commit(&mut later);
         match self.prepare(alloc, &[first]) {
             Ok(mut step) => {
+                let first_reads = step.reads();
                 self.commit(&mut step);
-                Ok(later.reads().saturating_add(step.reads()))
+                Ok(Some(last_reads.saturating_add(first_reads)))
             }
             Err(error) => {
                 self.commit(&mut later);
-                Err(error)
+                not_made(error)
             }
         }
     }
@@ -77,16 +98,21 @@ impl<A: Allocator + Copy> DesignText<A> {
     /// Makes cuts that stand in order; two of them apart, if the text reads between.
     fn make_apart(&mut self, alloc: A, cuts: &[TextCut<'_>]) -> Result<u64, PrepareError>
         requires { AreInOrder 0 (map cut_of cuts.now) (length (text_of self.old)) }
-        ensures { MakesCuts (text_of self.old) (map cut_of cuts.now) result (text_of self.new) }
+        ensures makes { MakesCuts (text_of self.old) (map cut_of cuts.now) result (text_of self.new) }
+        ensures few { IfOk result (λ n. n ≤ most_reads (text_of self.old) (map cut_of cuts.now)) }
     {
-        if let [first, last] = cuts {
-            match self.make_two(alloc, *first, *last) {
-                Ok(reads) => return Ok(reads),
-                Err(PrepareError::Memory) => return Err(PrepareError::Memory),
-                Err(_) => {}
-            }
+        match cuts {
+            [] => Ok(0),
+            [first, last] => match self.make_two(alloc, *first, *last)? {
+                Some(reads) => Ok(reads),
+                None => {
+                    let made = self.make(alloc, cuts);
+                    self.text_reads();
+                    made
+                }
+            },
+            _ => self.make(alloc, cuts),
         }
-        self.make(alloc, cuts)
     }
 
     /// Makes an edit, and says how many statements were read for the new text; or refuses it and leaves the text as it was.
@@ -99,6 +125,7 @@ impl<A: Allocator + Copy> DesignText<A> {
         ensures edits { EditsText library.now (text_of self.old) (change_of edit.now) result (text_of self.new) }
         ensures applied { IfOk result (λ _. ReadsEdited (text_of self.old) (change_of edit.now) (text_of self.new)) }
         ensures keeps { IfOk result (λ _. KeepsTheRest library.now (text_of self.old) (change_of edit.now) (text_of self.new)) }
+        ensures few { IfOk result (ReadsFew library.now (text_of self.old) (change_of edit.now)) }
     {
         edits_are_applied();
         edits_keep_the_rest();
@@ -139,7 +166,8 @@ impl<A: Allocator + Copy> DesignText<A> {
         hi: usize,
         put: &[u8],
     ) -> Result<u64, EditRefusal>
-        ensures { ReplacesIn (text_of self.old) lo hi put.now result (text_of self.new) }
+        ensures replaces { ReplacesIn (text_of self.old) lo hi put.now result (text_of self.new) }
+        ensures few { IfOk result (λ n. n ≤ new_in (text_of self.old) (record { lo = lo; hi = hi; put = put.now })) }
     {
         if lo > hi || hi > self.pieces.len() {
             return Err(EditRefusal::Refused(EditCode::Range));

@@ -1,9 +1,9 @@
 //! Changes of the text of a design: its pieces and its tables are changed together, or neither is.
 
-ghost use Rattle.std.specs.Prelude.{◌≡◌, ◌⊎◌, ℕ, List, IfErr, IfOk, OnOk, map};
+ghost use Rattle.std.specs.Prelude.{◌≡◌, ◌≤◌, ◌⊎◌, ℕ, List, IfErr, IfOk, OnOk, map};
 ghost use Rattle.text_pieces.specs.Changes.{IsBetween};
 ghost use Rattle.text_pieces.specs.Content as content;
-ghost use Rattle.text_pieces.specs.Covering.{cut_of};
+ghost use Rattle.text_pieces.specs.Covering.{cover_of, cut_of};
 ghost use Rattle.text_pieces.specs.KeptRecords.{HavePieces, records_under};
 ghost use Rattle.text_pieces.specs.Lent.{numbered_records};
 ghost use Rattle.text_pieces.specs.declared.prepared.PrepareError.TheVariants.{Fault as IsFault, Memory as IsMemory};
@@ -12,6 +12,7 @@ ghost use Rattle.design_tables.specs.Prepared as prepared;
 ghost use Rattle.design_tables.specs.Prepared.{AreKeyed};
 ghost use Rattle.design_tables.specs.TableViews.{numbered_view};
 ghost use Rattle.design_text.specs.DesignTexts.{text_of};
+ghost use Rattle.design_text.specs.FewReads.{new_in};
 ghost use Rattle.design_text.specs.Steps.{Both, LeadsTo, PreparesCuts};
 
 use crate::statements::read_piece;
@@ -36,7 +37,8 @@ pub(crate) struct Step<A: Allocator + Copy = Global> {
 }
 
 impl<A: Allocator + Copy> Model for Step<A> {
-    ghost use Rattle.design_text.specs.Steps.{Both};
+    ghost use Rattle.design_text.specs.FewReads.{new_in};
+ghost use Rattle.design_text.specs.Steps.{Both};
 
     ghost Value = { Both };
 
@@ -110,6 +112,7 @@ impl<A: Allocator + Copy> DesignText<A> {
     ) -> Result<Step<A>, PrepareError>
         ensures prepares { PreparesCuts (text_of self.old) (map cut_of cuts.now) result self.new }
         ensures still { text_of self.new ≡ text_of self.old }
+        ensures few { IfOk result (λ s. s.text.reads ≤ new_in (text_of self.old) (cover_of (text_of self.old) (map cut_of cuts.now))) }
         ensures lasts { (change : Both) (text : List ℕ) → LeadsTo self.old change text → LeadsTo self.new change text }
     {
         records_are_read::<Statement<'_>>();
