@@ -1,5 +1,5 @@
 -- How many statements are read at most where cuts of a text are made.
-use Rattle.std.specs.Prelude.{◌≡◌, ◌+◌, ◌≤◌, ℕ, List, [], ◌∷◌, length, Ok, is_ok, if◌then◌else◌}
+use Rattle.std.specs.Prelude.{◌+◌, ◌≤◌, ℕ, List, [], ◌∷◌, length, Ok, is_ok, if◌then◌else◌}
 use Rattle.statement_model.specs.Cuts.{Cut, with_cuts}
 use Rattle.def_grammar.specs.Records.{read_def}
 use Rattle.lef_grammar.specs.Library.{Library}

@@ -1,38 +1,48 @@
-use Rattle.std.proofs.Common.{◌∙◌, [], ◌∷◌, Err, ap, sym, arith, subst}
+use Rattle.std.proofs.Common.{◌∙◌, [], ◌∷◌, Err, ap, sym, subst}
 use Rattle.std.specs.Prelude.{IsOk}
 use Rattle.statement_model.specs.Cuts.{with_cuts}
 use Rattle.def_grammar.specs.Records.{read_def}
 use Rattle.text_pieces.specs.Covering.{cut_of}
 use Rattle.design_text.specs.DesignTexts.{text_of}
 use Rattle.design_text.specs.Steps.{PreparesCuts}
-use Rattle.design_text.proofs.FewMade.{not_both, one_cover, only_memory}
+use Rattle.design_text.proofs.FewMade.{not_made_two, only_memory, two_few}
 use Rattle.design_text.proofs.TwoCuts.{both_made, first_in_order, last_in_order}
 use Rattle.design_text.proofs.text.DesignText.make_two.Goals as goal
 
 pub returns-in-Err-clause-makes : goal.returns-in-Err-clause-makes
-returns-in-Err-clause-makes g c = ?
-
-pub returns-in-Ok-clause-makes : goal.returns-in-Ok-clause-makes
-returns-in-Ok-clause-makes g c =
+returns-in-Err-clause-makes g c =
     let t = text_of c.args.self.now in
     let f = cut_of c.args.first in
     let l = cut_of c.args.last in
-    (c.commit-in-Ok.ensures.made (with_cuts (f ∷ []) (text_of c.commit.new.self)) c.in-Ok.ensures.prepares
-    ∙ ap (with_cuts (f ∷ [])) (c.commit.ensures.made (with_cuts (l ∷ []) t) c.in_ok-later.ensures.prepares)
-    ∙ both_made t f l c.requires, c.in_ok-later.ensures.prepares.reads)
+    not_made_two t _ f l c.in-Err.error c.not_made.result c.not_made.ensures c.prepare.ensures.still
+    (λ one both. only_memory t (l ∷ []) c.in-Err.error _ (last_in_order t f l c.requires) c.in-Err.ensures.prepares one)
 
-pub returns-in-Ok-clause-few : goal.returns-in-Ok-clause-few
-returns-in-Ok-clause-few g c =
+pub returns-in-Ok-prepare-clause-makes : goal.returns-in-Ok-prepare-clause-makes
+returns-in-Ok-prepare-clause-makes g c =
     let t = text_of c.args.self.now in
     let f = cut_of c.args.first in
     let l = cut_of c.args.last in
-    let made = c.commit.ensures.made (with_cuts (l ∷ []) t) c.in_ok-later.ensures.prepares in
-    let later = rw (one_cover t l) at c.in_ok-later.ensures.few in
-    let step = rw (made, one_cover (with_cuts (l ∷ []) t) f) at c.in-Ok.ensures.few in
-    omega (arith, later, step, c.saturating_add.ensures)
+    (c.commit-in-Ok-prepare.ensures.made (with_cuts (f ∷ []) (text_of c.commit.new.self)) c.in-Ok-prepare.ensures.prepares
+    ∙ ap (with_cuts (f ∷ [])) (c.commit.ensures.made (with_cuts (l ∷ []) t) c.in-Ok.ensures.prepares)
+    ∙ both_made t f l c.requires, c.in-Ok.ensures.prepares.reads)
 
-pub commit-requires-in-Err : goal.commit-requires-in-Err
-commit-requires-in-Err g c = (text_of c.prepare.new.self, c.prepare-2.ensures.lasts _ _ c.commit.ensures.back)
+pub returns-in-Ok-prepare-clause-few : goal.returns-in-Ok-prepare-clause-few
+returns-in-Ok-prepare-clause-few g c =
+    let t = text_of c.args.self.now in
+    let f = cut_of c.args.first in
+    let l = cut_of c.args.last in
+    two_few t _ f l _ _ _ _ _ (c.commit.ensures.made (with_cuts (l ∷ []) t) c.in-Ok.ensures.prepares) c.in-Ok.ensures.few c.in-Ok-prepare.ensures.few c.reads-last_reads.ensures c.reads-first_reads.ensures c.saturating_add.ensures
+
+pub commit-requires-in-Err-prepare : goal.commit-requires-in-Err-prepare
+commit-requires-in-Err-prepare g c = (text_of c.prepare.new.self, c.prepare-2.ensures.lasts _ _ c.commit.ensures.back)
 
 pub returns-clause-makes : goal.returns-clause-makes
-returns-clause-makes g c = ?
+returns-clause-makes g c =
+    let t = text_of c.args.self.now in
+    let f = cut_of c.args.first in
+    let l = cut_of c.args.last in
+    let made = c.commit.ensures.made (with_cuts (l ∷ []) t) c.in-Ok.ensures.prepares in
+    let why = subst (λ u. PreparesCuts u (f ∷ []) (Err c.in-Err-prepare.error) c.prepare-2.new.self) made c.in-Err-prepare.ensures.prepares in
+    let same = c.commit-in-Err-prepare.ensures.made (text_of c.prepare.new.self) (c.prepare-2.ensures.lasts _ _ c.commit.ensures.back) ∙ c.prepare.ensures.still in
+    not_made_two t _ f l c.in-Err-prepare.error c.not_made-in-Err-prepare.result c.not_made-in-Err-prepare.ensures same
+    (λ one both. only_memory (with_cuts (l ∷ []) t) (f ∷ []) c.in-Err-prepare.error _ (first_in_order t f l c.requires) why (subst (λ u. IsOk (read_def u)) (sym (both_made t f l c.requires)) both))
