@@ -38,7 +38,7 @@ pub(crate) struct Step<A: Allocator + Copy = Global> {
 
 impl<A: Allocator + Copy> Model for Step<A> {
     ghost use Rattle.design_text.specs.FewReads.{new_in};
-ghost use Rattle.design_text.specs.Steps.{Both};
+    ghost use Rattle.design_text.specs.Steps.{Both};
 
     ghost Value = { Both };
 

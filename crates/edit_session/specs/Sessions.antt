@@ -1,26 +1,19 @@
 -- What the calls of a session say.
-use Rattle.std.specs.Prelude.{◌≡◌, ◌≤◌, ℕ, false, List, length, Option, Some, None, Result, Ok, Err, IsOk, MatchOption}
+use Rattle.std.specs.Prelude.{◌≡◌, ℕ, List, Option, Some, None, Result, Ok, Err, IsOk, MatchOption}
 use Rattle.design_model.specs.declared.diagnostic.DiagLine.{DiagLine}
-use Rattle.edit_model.specs.declared.edit.EditRefusal.{EditRefusal}
-use Rattle.edit_model.specs.declared.edit.EditRefusal.TheVariants.{Refused, Unreadable, Memory}
 use Rattle.design_model.specs.declared.fault.ReadError as error
 use Rattle.design_model.specs.declared.fault.ReadError.{ReadError}
 use Rattle.design_model.specs.Order.{texts}
 use Rattle.design_model.specs.declared.mode.Mode.TheVariants.{In}
 use Rattle.design_model.specs.declared.mode.Section.{Section}
-use Rattle.lefdef_tokens.specs.declared.span.Span.{Span}
 use Rattle.statement_model.specs.Boundaries.{statement_at}
-use Rattle.statement_model.specs.Cuts.{Cut, with_cuts, end_of_all}
 use Rattle.statement_model.specs.Reading.{pos_of, read_at}
 use Rattle.statement_model.specs.Tokens.{Token, Lexed, left_from}
 use Rattle.def_grammar.specs.Records.{Entry, Record, def, entry, read_def}
 use Rattle.lef_grammar.specs.Library.{Library}
 use Rattle.report_rules.specs.Diagnostics.{diagnostics}
 use Rattle.reports.specs.Answers.{Answers, ReportsOn}
-use Rattle.edit_rules.specs.Edits.{Change, applied, is_long}
 use Rattle.def_grammar.specs.Located.{located, bytes_of, entry_at}
-use Rattle.edit_rules.specs.Runs.{Makes, WantsMemory, new_text, text_outcome}
-use Rattle.splicing_laws.specs.KeepingLaws.{AreInOrder}
 use Rattle.def_reader.specs.EntryViews.{EntryAt, entry_view}
 use Rattle.def_reader.specs.declared.entry.Entry as code
 use Rattle.edit_session.specs.declared.view.View.{View}

@@ -1,5 +1,4 @@
 use Rattle.std.proofs.Common.{◌∙◌, ap, Some}
-use Rattle.statement_model.specs.Tokens.{Token}
 use Rattle.def_grammar.specs.Records.{Record}
 use Rattle.def_reader.specs.EntryViews.{entry_view}
 use Rattle.design_text.specs.DesignTexts.{text_of}

@@ -21,10 +21,12 @@ pub returns-in-Ok-prepare-clause-makes : goal.returns-in-Ok-prepare-clause-makes
 returns-in-Ok-prepare-clause-makes g c =
     let t = text_of c.args.self.now in
     let f = cut_of c.args.first in
-    let l = cut_of c.args.last in
-    (c.commit-in-Ok-prepare.ensures.made (with_cuts (f ∷ []) (text_of c.commit.new.self)) c.in-Ok-prepare.ensures.prepares
-    ∙ ap (with_cuts (f ∷ [])) (c.commit.ensures.made (with_cuts (l ∷ []) t) c.in-Ok.ensures.prepares)
-    ∙ both_made t f l c.requires, c.in-Ok.ensures.prepares.reads)
+    let l = cut_of c.args.last in (
+      c.commit-in-Ok-prepare.ensures.made (with_cuts (f ∷ []) (text_of c.commit.new.self)) c.in-Ok-prepare.ensures.prepares
+          ∙ ap (with_cuts (f ∷ [])) (c.commit.ensures.made (with_cuts (l ∷ []) t) c.in-Ok.ensures.prepares)
+          ∙ both_made t f l c.requires,
+      c.in-Ok.ensures.prepares.reads,
+    )
 
 pub returns-in-Ok-prepare-clause-few : goal.returns-in-Ok-prepare-clause-few
 returns-in-Ok-prepare-clause-few g c =

@@ -8,3 +8,6 @@ returns-clause-answer g c =
 
 pub returns-clause-keeps : goal.returns-clause-keeps
 returns-clause-keeps g c = rw (← c.self.view_is) c.in_ok-reads.ensures.keeps
+
+pub returns-clause-few : goal.returns-clause-few
+returns-clause-few g c = rw (← c.self.view_is) c.in_ok-reads.ensures.few
