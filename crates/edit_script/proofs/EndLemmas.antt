@@ -1,6 +1,6 @@
 -- How the ends of a run follow from those of its parts.
 use Rattle.std.proofs.Common.{◌≡◌, ℕ, List, [], ◌++◌, Result, Ok, Err, refl, inl, inr, sym, ap, ◌∙◌, append_assoc, append-nil}
-use Rattle.std.specs.Prelude.{IfErr, IfOk, IsOk}
+use Rattle.std.specs.Prelude.{IfErr, IfOk, IsErrOf, IsOk}
 use Rattle.counted_devices.specs.Known.{WritesPart}
 use Rattle.std.proofs.KnownBytes.{Appends-nil}
 use Rattle.lef_grammar.specs.Library.{Library, library_of}
@@ -60,3 +60,7 @@ stops_unread library def input o d faults.Endless reads is = (reads, wrote_nothi
 stops_unread library def input o d (faults.Lef file fault) reads is = absurd is
 stops_unread library def input o d (faults.Def fault) reads is = absurd is
 stops_unread library def input o d faults.Write reads is = absurd is
+
+-- the error of one answer is that of another one
+pub err_of_other : {T U E : Type 0} (e w : E) → IsErrOf {T = T} (Err e) w → IsErrOf {T = U} (Err e) w
+err_of_other e w is = let same : e ≡ w = cc in ap (λ x. Err x) same

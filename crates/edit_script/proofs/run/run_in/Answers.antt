@@ -1,5 +1,4 @@
 use Rattle.std.proofs.Common.{inr, rules}
-use Rattle.edit_script.proofs.EndLemmas.{stops_unread}
 use Rattle.edit_script.proofs.run.run_in.Goals as goal
 
 pub returns-in-Err-Memory-clause-fault : goal.returns-in-Err-Memory-clause-fault
