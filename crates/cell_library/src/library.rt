@@ -31,6 +31,7 @@ use lef_reader::block::Block;
 use lef_reader::read_lef::read_lef_statement;
 use lef_reader::statement::LefStatement;
 use std::alloc::{AllocError, Allocator, Global};
+use std::hash::RandomState;
 use std::marker::Model;
 
 /// Why a library is not read: the fault of a text, with the text's number from 1, or memory that was refused.
@@ -63,16 +64,17 @@ impl<'l, A: Allocator + Copy> Library<'l, A> {
     /// Reads the texts in their order.
     pub fn read<B: Allocator + Copy>(
         alloc: A,
+        hash_builder: RandomState,
         texts: &'l LefTexts<B>,
     ) -> Result<Library<'l, A>, LibraryError>
         ensures { ReadsLibrary texts.now result }
     {
         let mut library = Library {
-            layers: Named::new(alloc),
-            sites: Named::new(alloc),
-            vias: Named::new(alloc),
-            rules: Named::new(alloc),
-            macros: Named::new(alloc),
+            layers: Named::new(alloc, hash_builder),
+            sites: Named::new(alloc, hash_builder),
+            vias: Named::new(alloc, hash_builder),
+            rules: Named::new(alloc, hash_builder),
+            macros: Named::new(alloc, hash_builder),
         };
         for (number, text) in texts.as_slice().iter().enumerate() {
             match library.add_text(alloc, text.as_slice()) {
@@ -85,6 +87,11 @@ impl<'l, A: Allocator + Copy> Library<'l, A> {
             }
         }
         Ok(library)
+    }
+
+    /// What its names are hashed with.
+    pub fn hash_builder(&self) -> RandomState {
+        self.layers.hash_builder()
     }
 
     /// The place of a layer among the others, from the bottom up.

@@ -32,6 +32,7 @@ use lef_reader::macro_block::MacroStatement;
 use lef_reader::outermost::{NamedHeader, OutermostStatement};
 use lef_reader::statement::LefStatement;
 use std::alloc::{AllocError, Allocator, Global};
+use std::hash::RandomState;
 
 /// A macro of a library, with its name.
 #[derive(Clone, Copy)]
@@ -192,6 +193,7 @@ fn sites_of<'l, A: Allocator + Copy>(
 /// The macro of the statements behind its header.
 fn read_macro<'l, A: Allocator + Copy>(
     alloc: A,
+    hash_builder: RandomState,
     behind: &[LefStatement<'l>],
 ) -> Result<Macro<'l, A>, AllocError>
     ensures { IfOk result (λ cell. (name : List ℕ) → macro_view (name, cell) ≡ macro_with (name, front inner_record (records_view behind.now))) }
@@ -202,7 +204,7 @@ fn read_macro<'l, A: Allocator + Copy>(
         size: size_of(inner),
         origin: origin_of(inner),
         sites: sites_of(alloc, inner)?,
-        pins: read_pins(alloc, inner)?,
+        pins: read_pins(alloc, hash_builder, inner)?,
     })
 }
 
@@ -228,7 +230,7 @@ pub(crate) fn add_macros<'l, A: Allocator + Copy>(
 {
     for place in 0..statements.len() {
         if let Some(name) = opened_macro(&statements[place]) {
-            let cell = read_macro(alloc, &statements[place + 1..])?;
+            let cell = read_macro(alloc, macros.hash_builder(), &statements[place + 1..])?;
             macros.add(name, cell)?;
         }
     }

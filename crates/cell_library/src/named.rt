@@ -9,13 +9,13 @@ ghost use Rattle.lefdef_tokens.specs.Views.{word_view};
 
 use indexmap::IndexMap;
 use std::alloc::{AllocError, Allocator, Global};
-use std::hash::{BuildHasherDefault, FoldHasher};
+use std::hash::RandomState;
 use std::marker::Model;
 
 /// Definitions with their names, in the order in which they came: the first of each name.
 #[derive(Drop)]
 pub struct Named<'l, D: Drop, A: Allocator = Global> {
-    entries: IndexMap<&'l [u8], D, BuildHasherDefault<FoldHasher>, A>,
+    entries: IndexMap<&'l [u8], D, RandomState, A>,
 }
 
 impl<'l, D: Drop, A: Allocator> Model for Named<'l, D, A> {
@@ -29,12 +29,17 @@ impl<'l, D: Drop, A: Allocator> Model for Named<'l, D, A> {
 
 impl<'l, D: Drop, A: Allocator + Copy> Named<'l, D, A> {
     /// No definition. It takes no memory.
-    pub fn new(alloc: A) -> Named<'l, D, A>
+    pub fn new(alloc: A, hash_builder: RandomState) -> Named<'l, D, A>
         ensures { result ≡ [] }
     {
         Named {
-            entries: IndexMap::with_hasher(alloc, BuildHasherDefault::new()),
+            entries: IndexMap::with_hasher(alloc, hash_builder),
         }
+    }
+
+    /// What the names are hashed with.
+    pub fn hash_builder(&self) -> RandomState {
+        *self.entries.hasher()
     }
 
     /// The definition of a name.

@@ -19,6 +19,7 @@ use lef_reader::macro_block::{InnerHeader, MacroStatement};
 use lef_reader::port_block::{PortRect, PortStatement};
 use lef_reader::statement::LefStatement;
 use std::alloc::{AllocError, Allocator, Global};
+use std::hash::RandomState;
 
 /// A pin of a macro: the shapes of its ports, and how many of their parts aren't checked.
 #[derive(Drop)]
@@ -128,11 +129,12 @@ fn opened_pin<'l>(statement: &LefStatement<'l>) -> Option<&'l [u8]>
 /// The pins of the statements in a macro.
 pub(crate) fn read_pins<'l, A: Allocator + Copy>(
     alloc: A,
+    hash_builder: RandomState,
     inner: &[LefStatement<'l>],
 ) -> Result<Named<'l, Pin<'l, A>, A>, AllocError>
     ensures { IfOk result (λ pins. pins_view pins ≡ pins_of (records_view inner.now)) }
 {
-    let mut pins = Named::new(alloc);
+    let mut pins = Named::new(alloc, hash_builder);
     for place in 0..inner.len() {
         if let Some(name) = opened_pin(&inner[place]) {
             let pin = read_pin(alloc, &inner[place + 1..])?;

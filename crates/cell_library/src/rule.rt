@@ -18,6 +18,7 @@ use lef_reader::outermost::{NamedHeader, OutermostStatement};
 use lef_reader::rule_block::{RuleLayerStatement, RuleStatement};
 use lef_reader::statement::LefStatement;
 use std::alloc::{AllocError, Allocator, Global};
+use std::hash::RandomState;
 use unit_numbers::Microns;
 
 /// A layer of a rule: its first `WIDTH`.
@@ -70,11 +71,12 @@ fn opened_rule_layer<'l>(statement: &LefStatement<'l>) -> Option<&'l [u8]>
 /// The layers of the statements in a rule.
 fn read_rule_layers<'l, A: Allocator + Copy>(
     alloc: A,
+    hash_builder: RandomState,
     inner: &[LefStatement<'l>],
 ) -> Result<Named<'l, RuleLayer, A>, AllocError>
     ensures { IfOk result (λ layers. rule_layers_view layers ≡ rule_layers_of (records_view inner.now)) }
 {
-    let mut layers = Named::new(alloc);
+    let mut layers = Named::new(alloc, hash_builder);
     for place in 0..inner.len() {
         if let Some(name) = opened_rule_layer(&inner[place]) {
             layers.add(name, read_rule_layer(&inner[place + 1..]))?;
@@ -86,12 +88,13 @@ fn read_rule_layers<'l, A: Allocator + Copy>(
 /// The rule of the statements behind its header.
 fn read_rule<'l, A: Allocator + Copy>(
     alloc: A,
+    hash_builder: RandomState,
     behind: &[LefStatement<'l>],
 ) -> Result<Rule<'l, A>, AllocError>
     ensures { IfOk result (λ rule. (name : List ℕ) → rule_view (name, rule) ≡ rule_with (name, front inner_record (records_view behind.now))) }
 {
     Ok(Rule {
-        layers: read_rule_layers(alloc, inner_of(behind))?,
+        layers: read_rule_layers(alloc, hash_builder, inner_of(behind))?,
     })
 }
 
@@ -117,7 +120,7 @@ pub(crate) fn add_rules<'l, A: Allocator + Copy>(
 {
     for place in 0..statements.len() {
         if let Some(name) = opened_rule(&statements[place]) {
-            let rule = read_rule(alloc, &statements[place + 1..])?;
+            let rule = read_rule(alloc, rules.hash_builder(), &statements[place + 1..])?;
             rules.add(name, rule)?;
         }
     }

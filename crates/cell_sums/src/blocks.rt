@@ -9,7 +9,7 @@ use crate::row_cells::{RowCells, Strip};
 use crate::stretch::Stretch;
 use indexmap::IndexSet;
 use std::alloc::{AllocError, Allocator, Global};
-use std::hash::{BuildHasherDefault, FoldHasher};
+use std::hash::RandomState;
 use std::marker::Model;
 
 /// How many cells of a row share a block.
@@ -21,7 +21,7 @@ type Key = (usize, usize, usize);
 /// Sums by layer, row and column. They take memory only for blocks to which something was added.
 #[derive(Drop)]
 pub(crate) struct Blocks<A: Allocator = Global> {
-    keys: IndexSet<Key, BuildHasherDefault<FoldHasher>, A>,
+    keys: IndexSet<Key, RandomState, A>,
     /// The sums of one block after the other, in the order of the keys. Others may follow where a key's growth was refused.
     sums: Vec<u128, A>,
 }
@@ -70,11 +70,11 @@ fn add_areas<A: Allocator>(
 
 impl<A: Allocator + Copy> Blocks<A> {
     /// No sums. It takes no memory.
-    pub(crate) fn new(alloc: A) -> Blocks<A>
+    pub(crate) fn new(alloc: A, hash_builder: RandomState) -> Blocks<A>
         ensures { result ≡ no_sums }
     {
         Blocks {
-            keys: IndexSet::with_hasher(alloc, BuildHasherDefault::new()),
+            keys: IndexSet::with_hasher(alloc, hash_builder),
             sums: Vec::new(alloc),
         }
     }

@@ -13,6 +13,7 @@ use crate::row_cells::{RowCells, Strip};
 use crate::stretch::Stretch;
 use design_model::geometry::Rect;
 use std::alloc::{AllocError, Allocator, Global};
+use std::hash::RandomState;
 use std::marker::Model;
 
 /// Sums of areas by the cells of a grid, layer by layer, in squares of database units.
@@ -76,13 +77,18 @@ fn add_area<A: Allocator + Copy>(
 
 impl<A: Allocator + Copy> CellSums<A> {
     /// No sums yet, for the cells between these lines. It takes no memory.
-    pub fn new(alloc: A, columns: GridLines<A>, rows: GridLines<A>) -> CellSums<A>
+    pub fn new(
+        alloc: A,
+        hash_builder: RandomState,
+        columns: GridLines<A>,
+        rows: GridLines<A>,
+    ) -> CellSums<A>
         ensures { IsNew columns rows result }
     {
         CellSums {
             columns,
             rows,
-            blocks: Blocks::new(alloc),
+            blocks: Blocks::new(alloc, hash_builder),
             added: 0,
         }
     }

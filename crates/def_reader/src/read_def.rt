@@ -15,13 +15,18 @@ use design_model::sequence::Sequence;
 use lefdef_tokens::Span;
 use statement_reader::laws::records_are_read;
 use std::alloc::{Allocator, Global};
+use std::hash::RandomState;
 
 /// Where the statements of a text stand, in its order.
 pub type Spans<A = Global> = Sequence<Span, A>;
 
 /// Reads a whole text: where its statements stand, or its fault, which is that of its length, of its first statement that has
 /// one, or of missing `UNITS`.
-pub fn read_def<A: Allocator + Copy>(alloc: A, text: &[u8]) -> Result<Spans<A>, ReadError>
+pub fn read_def<A: Allocator + Copy>(
+    alloc: A,
+    hash_builder: RandomState,
+    text: &[u8],
+) -> Result<Spans<A>, ReadError>
     ensures fits { IfOk result (λ _. length text.now ≤ MAX_TEXT) }
     ensures reads { ReadsText text.now result }
     ensures spans { IfOk result (λ spans. (design : List Record) → read_def text.now ≡ Ok design → spans ≡ statement_spans text.now design) }
@@ -34,7 +39,7 @@ pub fn read_def<A: Allocator + Copy>(alloc: A, text: &[u8]) -> Result<Spans<A>, 
         }));
     }
     let mut spans = Vec::new(alloc);
-    let mut seen = Seen::new(alloc);
+    let mut seen = Seen::new(alloc, hash_builder);
     let mut mode = Mode::Top;
     let mut pos = 0;
     while let Some(read) = read_statement(mode, text, pos)? {

@@ -7,7 +7,7 @@ use design_model::fault::{FaultCode, ReadError};
 use design_model::mode::Section;
 use indexmap::IndexSet;
 use std::alloc::Allocator;
-use std::hash::{BuildHasherDefault, FoldHasher};
+use std::hash::RandomState;
 
 /// What of a statement a text has once.
 #[derive(Clone, Copy)]
@@ -20,7 +20,7 @@ pub enum Key<'t> {
     Entry(Section, &'t [u8]),
 }
 
-type Words<'t, A> = IndexSet<&'t [u8], BuildHasherDefault<FoldHasher>, A>;
+type Words<'t, A> = IndexSet<&'t [u8], RandomState, A>;
 
 /// The words that statements began with, and the names in the present section. A text has each section once, so the
 /// names of earlier ones are not needed any more.
@@ -32,13 +32,13 @@ pub(crate) struct Seen<'t, A: Allocator> {
 
 impl<'t, A: Allocator + Copy> Seen<'t, A> {
     /// Before the first statement.
-    pub fn new(alloc: A) -> Seen<'t, A>
+    pub fn new(alloc: A, hash_builder: RandomState) -> Seen<'t, A>
         ensures words { result.words.keys ≡ [] }
         ensures names { result.names.keys ≡ [] }
     {
         Seen {
-            words: IndexSet::with_hasher(alloc, BuildHasherDefault::new()),
-            names: IndexSet::with_hasher(alloc, BuildHasherDefault::new()),
+            words: IndexSet::with_hasher(alloc, hash_builder),
+            names: IndexSet::with_hasher(alloc, hash_builder),
         }
     }
 

@@ -37,6 +37,7 @@ run_ends faults.Endless = Device
 
 abbrev pub ends : Stop → Outcome
 ends stops.NoText = Usage
+ends stops.NoRandom = Device
 ends (stops.CannotRead path) = Device
 ends (stops.CannotWrite path) = Device
 ends stops.WriteFailed = Device

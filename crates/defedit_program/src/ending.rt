@@ -11,6 +11,7 @@ use counted_devices::counted::{CountedRead, CountedWrite, Failures};
 use edit_script::finished::run_owned;
 use edit_script::run::RunFault;
 use std::alloc::Global;
+use std::hash::RandomState;
 use std::io::{Read, Write};
 
 /// What is left after a run to its end.
@@ -25,6 +26,7 @@ pub struct Ended {
 /// Runs a script over a DEF text, which it takes, and the library of LEF texts. The answers go to `out`.
 pub fn run_to_end<R: CountedRead, W: CountedWrite>(
     alloc: Global,
+    hash_builder: RandomState,
     lefs: &LefTexts,
     def: Vec<u8>,
     script: &mut R,
@@ -43,7 +45,7 @@ pub fn run_to_end<R: CountedRead, W: CountedWrite>(
     ensures read_few { R.failed script.new ≤ R.failed script.old + 33554432 }
     ensures endless { IsErrOf result RunFault.Endless → TookAllTurns (R.remaining script.old) (R.failed script.old) (R.failed script.new) }
 {
-    let finished = run_owned(alloc, lefs, def, script, out)?;
+    let finished = run_owned(alloc, hash_builder, lefs, def, script, out)?;
     Ok(Ended {
         outcome: Outcome::of_tally(finished.tally),
         text: finished.text,

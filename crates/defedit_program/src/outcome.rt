@@ -57,6 +57,8 @@ impl Outcome {
 pub enum Stop<'a> {
     /// An argument of the command line is no text.
     NoText,
+    /// There are no random numbers for the key that names are hashed with.
+    NoRandom,
     /// A file that can't be opened, or can't be read.
     CannotRead(&'a str),
     /// A file that can't be made.
@@ -76,7 +78,9 @@ impl<'a> Stop<'a> {
     {
         match self {
             Stop::NoText => Outcome::Usage,
-            Stop::CannotRead(_) | Stop::CannotWrite(_) | Stop::WriteFailed => Outcome::Device,
+            Stop::NoRandom | Stop::CannotRead(_) | Stop::CannotWrite(_) | Stop::WriteFailed => {
+                Outcome::Device
+            }
             Stop::Memory => Outcome::Memory,
             Stop::Run(fault) => match fault {
                 RunFault::Lef { .. } | RunFault::Def(_) => Outcome::Fault,
@@ -100,6 +104,7 @@ impl<'a> fmt::Display for Stop<'a> {
     fn fmt<W: fmt::Write>(&self, f: &mut fmt::Formatter<W>) -> fmt::Result {
         match self {
             Stop::NoText => f.write_str("an argument is no text"),
+            Stop::NoRandom => f.write_str("no random numbers"),
             Stop::CannotRead(path) => write!(f, "cannot read {path}"),
             Stop::CannotWrite(path) => write!(f, "cannot write {path}"),
             Stop::WriteFailed => f.write_str("write failed"),

@@ -15,6 +15,8 @@ use counted_devices::counted::Counted;
 use counted_devices::input::InputError;
 use output_file::{OutputFault, write_file};
 use std::alloc::Global;
+use std::hash::RandomState;
+use std::random::RandomSource;
 use std::rt::{Env, Files};
 use std::{env, fs, io};
 
@@ -44,11 +46,14 @@ fn read_lefs<'a, R: Files>(alloc: Global, rt: &R, paths: &[&'a str]) -> Result<L
 }
 
 /// Runs the script, and writes the file of the text in the end.
-fn run_request<'a, R: Files + Print>(
+fn run_request<'a, R: Files + Print + RandomSource>(
     alloc: Global,
     rt: &R,
     request: &Request<'a>,
 ) -> Result<Outcome, Stop<'a>> {
+    let Ok(hash_builder) = RandomState::new(rt) else {
+        return Err(Stop::NoRandom);
+    };
     let lefs = read_lefs(alloc, rt, request.lefs.as_slice())?;
     let def = match read_text(alloc, rt, request.def) {
         Ok(def) => def,
@@ -59,7 +64,7 @@ fn run_request<'a, R: Files + Print>(
     };
     let mut script = Counted::new(script);
     let mut out = Counted::new(io::writer(rt));
-    let ended = match run_to_end(alloc, &lefs, def, &mut script, &mut out) {
+    let ended = match run_to_end(alloc, hash_builder, &lefs, def, &mut script, &mut out) {
         Ok(ended) => ended,
         Err(fault) => return Err(Stop::Run(fault)),
     };
@@ -101,7 +106,7 @@ fn refuse<R: Eprint>(rt: &R, error: &Error) -> Outcome
 }
 
 /// Runs the program, and says how it ends.
-pub fn end_of<R: Files + Env + AllocGlobal + Print + Eprint>(rt: &R) -> Outcome {
+pub fn end_of<R: Files + Env + AllocGlobal + RandomSource + Print + Eprint>(rt: &R) -> Outcome {
     let alloc = rt.alloc();
     let Ok(args) = env::args(rt) else {
         return say(rt, Stop::NoText);

@@ -17,7 +17,7 @@ use design_model::mode::Section;
 use indexmap::IndexMap;
 use place_parts::component_parts::ComponentParts;
 use std::alloc::{AllocError, Allocator, Global};
-use std::hash::{BuildHasherDefault, FoldHasher};
+use std::hash::RandomState;
 use std::marker::Model;
 use via_parts::rules::RuleParts;
 use via_parts::vias::ViaParts;
@@ -26,7 +26,7 @@ use via_parts::vias::ViaParts;
 type Key<'t> = (&'static [u8], &'t [u8]);
 
 /// The first entry of each section and name.
-type Table<'r, 't, A> = IndexMap<Key<'t>, &'r Entry<'t>, BuildHasherDefault<FoldHasher>, A>;
+type Table<'r, 't, A> = IndexMap<Key<'t>, &'r Entry<'t>, RandomState, A>;
 
 /// The statements of a design, with its entries by their names.
 #[derive(Drop)]
@@ -100,6 +100,7 @@ fn rule_of<'r, 't>(entry: &'r Entry<'t>) -> Option<&'r RuleParts<'t>>
 /// The names of the statements of a text. One pass over them makes a table of their entries.
 pub fn names_of<'r, 't, A: Allocator + Copy>(
     alloc: A,
+    hash_builder: RandomState,
     records: &'r [Statement<'t>],
 ) -> Result<Names<'r, 't, A>, AllocError>
     ensures { IfOk result (λ names. names ≡ records_view records.entry.now) }
@@ -107,7 +108,7 @@ pub fn names_of<'r, 't, A: Allocator + Copy>(
     let mut table: Table<'r, 't, A> = IndexMap::with_capacity_and_hasher(
         alloc,
         records.len(),
-        BuildHasherDefault::new(),
+        hash_builder,
     )?;
     for statement in records {
         if let Statement::Entry(entry) = statement {
@@ -118,6 +119,11 @@ pub fn names_of<'r, 't, A: Allocator + Copy>(
 }
 
 impl<'r, 't, A: Allocator + Copy> Names<'r, 't, A> {
+    /// What the names are hashed with.
+    pub fn hash_builder(&self) -> RandomState {
+        *self.table.hasher()
+    }
+
     /// The statements of the text, in their order.
     pub fn records(&self) -> &'r [Statement<'t>]
         ensures { records_view result.now ≡ self.now }

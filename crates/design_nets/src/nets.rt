@@ -63,7 +63,7 @@ pub fn measured_nets<'a, 'l: 'a, 'r: 'a, 't: 'a, A: Allocator + Copy>(
     ensures nets { IfOk result (λ m. m.nets ≡ all_nets library.entry.now names.entry.now (scale names.entry.now)) }
     ensures lengths { let u = scale names.entry.now in IfOk result (λ m. m.lengths.items ≡ map (λ name. capped (length_of library.entry.now names.entry.now u name)) (net_names library.entry.now names.entry.now u)) }
 {
-    let groups = entries_by_net(alloc, names.records())?;
+    let groups = entries_by_net(alloc, names.hash_builder(), names.records())?;
     let pins = Pins::new(alloc, library, names, wires)?;
     let mut nets = NetList::new(alloc);
     let mut lengths = Vec::new(alloc);

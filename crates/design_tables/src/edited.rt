@@ -132,7 +132,7 @@ pub(crate) fn edited<A: Allocator + Copy>(
 {
     let alloc = from.allocator();
     let gone = ids_of(alloc, out)?;
-    let mut table = NameTable::new(alloc);
+    let mut table = NameTable::new(alloc, from.hash_builder());
     table.take_all(from, &gone, out)?;
     table.put_all(from, &gone, put)?;
     Ok(table)

@@ -16,7 +16,7 @@ use def_reader::statement::Statement;
 use design_model::identifier::StmtId;
 use indexmap::{IndexMap, IndexSet};
 use std::alloc::{AllocError, Allocator, Global};
-use std::hash::{BuildHasherDefault, FoldHasher};
+use std::hash::{BuildHasherDefault, FoldHasher, RandomState};
 use std::marker::Model;
 
 /// What stands under a name: marks of statements, and how many entries the section of this word has. These are only counted, as a
@@ -98,7 +98,7 @@ pub(crate) type Ids<A> = IndexSet<usize, BuildHasherDefault<FoldHasher>, A>;
 /// Names with what stands under them, in the order in which they came.
 #[derive(Drop)]
 pub(crate) struct NameTable<A: Allocator + Copy = Global> {
-    pub names: IndexMap<Vec<u8, A>, Listing<A>, BuildHasherDefault<FoldHasher>, A>,
+    pub names: IndexMap<Vec<u8, A>, Listing<A>, RandomState, A>,
 }
 
 impl<A: Allocator + Copy> Model for NameTable<A> {
@@ -113,17 +113,22 @@ impl<A: Allocator + Copy> Model for NameTable<A> {
 
 impl<A: Allocator + Copy> NameTable<A> {
     /// No names. It takes no memory.
-    pub fn new(alloc: A) -> NameTable<A>
+    pub fn new(alloc: A, hash_builder: RandomState) -> NameTable<A>
         ensures { result ≡ [] }
     {
         NameTable {
-            names: IndexMap::with_hasher(alloc, BuildHasherDefault::new()),
+            names: IndexMap::with_hasher(alloc, hash_builder),
         }
     }
 
     /// Where it has its memory from.
     pub fn allocator(&self) -> A {
         *self.names.allocator()
+    }
+
+    /// What the names are hashed with.
+    pub fn hash_builder(&self) -> RandomState {
+        *self.names.hasher()
     }
 
     /// What stands under a name, where it has a place.

@@ -15,6 +15,7 @@ use def_reader::statement::Statement;
 use design_model::identifier::StmtId;
 use design_model::mode::Section;
 use std::alloc::{AllocError, Allocator, Global};
+use std::hash::RandomState;
 use std::marker::Model;
 
 /// A statement with its number.
@@ -73,12 +74,17 @@ impl<A: Allocator + Copy> Model for Tables<A> {
 
 impl<A: Allocator + Copy> Tables<A> {
     /// Tables of no statements. It takes no memory.
-    pub fn new(alloc: A) -> Tables<A>
+    pub fn new(alloc: A, hash_builder: RandomState) -> Tables<A>
         ensures { AreTablesOf [] result }
     {
         Tables {
-            names: NameTable::new(alloc),
+            names: NameTable::new(alloc, hash_builder),
         }
+    }
+
+    /// What the names are hashed with.
+    pub fn hash_builder(&self) -> RandomState {
+        self.names.hash_builder()
     }
 
     /// Puts one more statement in, under a number, and answers whether what a text has once of it stands more than once then.

@@ -151,7 +151,7 @@ impl<A: Allocator + Copy> DesignText<A> {
         let Ok(text) = self.text(alloc) else {
             return EditRefusal::Memory;
         };
-        match replaced_text(alloc, &text, lo, hi, put) {
+        match replaced_text(alloc, self.tables.hash_builder(), &text, lo, hi, put) {
             Ok(_) => unreachable!(),
             Err(refusal) => refusal,
         }

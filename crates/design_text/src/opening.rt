@@ -19,6 +19,7 @@ use design_tables::Tables;
 use piece_laws::keys::{fresh_is_once, keys_are_apart, keys_decide};
 use statement_reader::laws::records_are_read;
 use std::alloc::{AllocError, Allocator};
+use std::hash::RandomState;
 use text_pieces::text::TextPieces;
 use text_pieces::told::Told;
 
@@ -57,6 +58,7 @@ impl<A: Allocator + Copy> Telling<A> {
 /// Whether a text reads of which all statements do. It is read again where it does not, for its fault.
 fn check_keys<A: Allocator + Copy>(
     alloc: A,
+    hash_builder: RandomState,
     text: &[u8],
     pieces: &TextPieces<A>,
     telling: &Telling<A>,
@@ -71,7 +73,7 @@ fn check_keys<A: Allocator + Copy>(
     if telling.is_keyed() {
         return Ok(());
     }
-    read_def(alloc, text)?;
+    read_def(alloc, hash_builder, text)?;
     Ok(())
 }
 
@@ -79,6 +81,7 @@ fn check_keys<A: Allocator + Copy>(
 /// stand before one that can't be read. Where it has none, memory was refused.
 fn unopened<A: Allocator + Copy>(
     alloc: A,
+    hash_builder: RandomState,
     text: &[u8],
     error: ReadError,
 ) -> Result<DesignText<A>, ReadError>
@@ -87,29 +90,33 @@ fn unopened<A: Allocator + Copy>(
     ensures text { IfOk result (λ t. text_of t ≡ text.now) }
 {
     keys_are_apart();
-    read_def(alloc, text)?;
+    read_def(alloc, hash_builder, text)?;
     Err(error)
 }
 
 impl<A: Allocator + Copy> DesignText<A> {
     /// The text of a design, in pieces and with its tables. Its fault is that of the text.
-    pub fn open(alloc: A, text: &[u8]) -> Result<DesignText<A>, ReadError>
+    pub fn open(
+        alloc: A,
+        hash_builder: RandomState,
+        text: &[u8],
+    ) -> Result<DesignText<A>, ReadError>
         ensures opens { ReadsText text.now result }
         ensures text { IfOk result (λ t. text_of t ≡ text.now) }
     {
         records_are_read::<Statement<'_>>();
-        let tables = Tables::new(alloc);
+        let tables = Tables::new(alloc, hash_builder);
         let mut telling = Telling {
             tables,
             is_repeated: false,
         };
         match TextPieces::open_telling(alloc, text, &mut telling) {
             Ok(pieces) => {
-                check_keys(alloc, text, &pieces, &telling)?;
+                check_keys(alloc, hash_builder, text, &pieces, &telling)?;
                 let tables = telling.tables;
                 Ok(DesignText { pieces, tables })
             }
-            Err(error) => unopened(alloc, text, error),
+            Err(error) => unopened(alloc, hash_builder, text, error),
         }
     }
 }

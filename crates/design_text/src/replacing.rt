@@ -10,10 +10,12 @@ use design_model::MAX_TEXT;
 use design_model::fault::ReadError;
 use edit_model::edit::{EditCode, EditRefusal};
 use std::alloc::Allocator;
+use std::hash::RandomState;
 
 /// The text after bytes took the place of those from `a` up to `b`.
 pub(crate) fn replaced_text<A: Allocator + Copy>(
     alloc: A,
+    hash_builder: RandomState,
     text: &[u8],
     a: usize,
     b: usize,
@@ -33,7 +35,7 @@ pub(crate) fn replaced_text<A: Allocator + Copy>(
     all.extend_from_slice(&text[..a])?;
     all.extend_from_slice(new)?;
     all.extend_from_slice(&text[b..])?;
-    match read_def(alloc, &all) {
+    match read_def(alloc, hash_builder, &all) {
         Ok(_) => Ok(all),
         Err(ReadError::Fault(fault)) => Err(EditRefusal::Unreadable(fault)),
         Err(ReadError::Memory) => Err(EditRefusal::Memory),

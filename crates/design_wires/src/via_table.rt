@@ -93,7 +93,7 @@ pub(crate) fn vias_of<'a, 'l: 'a, 'r: 'a, 't: 'a, A: Allocator + Copy>(
 ) -> Result<Table<'a, A>, AllocError>
     ensures { IfOk result (HasVias (defined of.entry)) }
 {
-    let mut vias = Named::new(alloc);
+    let mut vias = Named::new(alloc, of.names.hash_builder());
     add_those_of_def(alloc, of, &mut vias, of.names.records())?;
     add_those_of_lef(alloc, of, &mut vias, of.library.vias())?;
     Ok(vias)

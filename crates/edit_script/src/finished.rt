@@ -13,6 +13,7 @@ use counted_devices::counted::{CountedRead, CountedWrite, Failures};
 use design_model::fault::ReadError;
 use edit_session::session::Session;
 use std::alloc::{Allocator, Global};
+use std::hash::RandomState;
 use std::io::{Read, Write};
 
 /// What is left after a run to its end.
@@ -95,6 +96,7 @@ where
 /// where that writes it.
 pub fn run_owned<A, B, R, W>(
     alloc: A,
+    hash_builder: RandomState,
     lefs: &LefTexts<B>,
     def: Vec<u8, A>,
     script: &mut R,
@@ -122,7 +124,7 @@ where
     ensures read_few { R.failed script.new ≤ R.failed script.old + 33554432 }
     ensures endless { IsErrOf result RunFault.Endless → TookAllTurns (R.remaining script.old) (R.failed script.old) (R.failed script.new) }
 {
-    let library = match Library::read(alloc, lefs) {
+    let library = match Library::read(alloc, hash_builder, lefs) {
         Ok(library) => library,
         Err(LibraryError::Fault { file, fault }) => return Err(RunFault::Lef { file, fault }),
         Err(LibraryError::Memory) => return Err(RunFault::Memory),

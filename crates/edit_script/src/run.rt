@@ -23,6 +23,7 @@ use script_lines::command::{Command, parse};
 use script_lines::escape::{EscapedBytes, unescaped};
 use script_lines::line::next_line;
 use std::alloc::{AllocError, Allocator};
+use std::hash::RandomState;
 use std::io::{Read, Write};
 
 /// How long a script may be, in bytes.
@@ -318,6 +319,7 @@ where
 /// the end, before the first line is run. The answers go to `out`, and the text in the end to `def_out`.
 pub fn run<A, B, R, W, V>(
     alloc: A,
+    hash_builder: RandomState,
     lefs: &LefTexts<B>,
     def: &[u8],
     script: &mut R,
@@ -352,7 +354,7 @@ where
     ensures read_few { R.failed script.new ≤ R.failed script.old + 33554432 }
     ensures endless { IsErrOf result RunFault.Endless → TookAllTurns (R.remaining script.old) (R.failed script.old) (R.failed script.new) }
 {
-    let library = match Library::read(alloc, lefs) {
+    let library = match Library::read(alloc, hash_builder, lefs) {
         Ok(library) => library,
         Err(LibraryError::Fault { file, fault }) => return Err(RunFault::Lef { file, fault }),
         Err(LibraryError::Memory) => return Err(RunFault::Memory),

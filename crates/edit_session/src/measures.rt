@@ -28,7 +28,7 @@ fn reports_of<'t, A: Allocator + Copy>(
     lengths_fit();
     lines_fit();
     let records = statements_of(alloc, text)?;
-    let names = names_of(alloc, &records)?;
+    let names = names_of(alloc, library.hash_builder(), &records)?;
     Reports::open(alloc, library, &names)
 }
 

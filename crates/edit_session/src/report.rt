@@ -81,7 +81,7 @@ fn put_named<'t, A: Allocator + Copy>(
     ensures { let design = map record_view records.entry.now in
         IfOk result (λ l. SameLines l ((lines ++ flat_map (statement_lines library.now design) design) ++ net_lines library.now design (scale design))) }
 {
-    let names = names_of(alloc, records)?;
+    let names = names_of(alloc, library.hash_builder(), records)?;
     let defined = Defined {
         library,
         names: &names,

@@ -72,7 +72,7 @@ impl<'s, 'l, A: Allocator + Copy> Session<'s, 'l, A> {
         ensures text { IfOk result (λ s. s.text ≡ text.now) }
         ensures library { IfOk result (λ s. s.library ≡ library.now) }
     {
-        let text = DesignText::open(alloc, text)?;
+        let text = DesignText::open(alloc, library.hash_builder(), text)?;
         text.text_reads();
         Ok(Session {
             alloc,

@@ -6,13 +6,13 @@ ghost use Rattle.name_groups.specs.Groups.{Group, members_named, with_member};
 use indexmap::IndexMap;
 use indexmap::map::Entry;
 use std::alloc::{AllocError, Allocator, Global};
-use std::hash::{BuildHasherDefault, FoldHasher};
+use std::hash::RandomState;
 use std::marker::Model;
 
 /// Things by their names, a group for each name.
 #[derive(Drop)]
 pub struct Groups<'t, T, A: Allocator = Global> {
-    groups: IndexMap<&'t [u8], Vec<T, A>, BuildHasherDefault<FoldHasher>, A>,
+    groups: IndexMap<&'t [u8], Vec<T, A>, RandomState, A>,
 }
 
 impl<'t, T, A: Allocator> Model for Groups<'t, T, A> {
@@ -36,11 +36,11 @@ fn one<T: Drop, A: Allocator + Copy>(alloc: A, member: T) -> Result<Vec<T, A>, A
 
 impl<'t, T: Drop, A: Allocator + Copy> Groups<'t, T, A> {
     /// No groups. It takes no memory.
-    pub fn new(alloc: A) -> Self
+    pub fn new(alloc: A, hash_builder: RandomState) -> Self
         ensures { result ≡ [] }
     {
         Groups {
-            groups: IndexMap::with_hasher(alloc, BuildHasherDefault::new()),
+            groups: IndexMap::with_hasher(alloc, hash_builder),
         }
     }
 

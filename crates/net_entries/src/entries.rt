@@ -12,6 +12,7 @@ use def_reader::entry::Entry;
 use def_reader::statement::Statement;
 use name_groups::Groups;
 use std::alloc::{AllocError, Allocator};
+use std::hash::RandomState;
 
 /// Puts an entry behind those of its net, if it speaks of one.
 fn add_entry<'r, 't, A: Allocator + Copy>(
@@ -29,11 +30,12 @@ fn add_entry<'r, 't, A: Allocator + Copy>(
 /// The entries of NETS and of SPECIALNETS by the names of their nets, in the order of the text.
 pub fn entries_by_net<'r, 't, A: Allocator + Copy>(
     alloc: A,
+    hash_builder: RandomState,
     records: &'r [Statement<'t>],
 ) -> Result<Groups<'t, LentEntry<'r, 't>, A>, AllocError>
     ensures { IfOk result (λ groups. HasEntries groups (records_view records.entry.now)) }
 {
-    let mut groups = Groups::new(alloc);
+    let mut groups = Groups::new(alloc, hash_builder);
     for statement in records {
         if let Statement::Entry(entry) = statement {
             add_entry(&mut groups, entry)?;

@@ -34,6 +34,7 @@ use net_lists::NetList;
 use place_parts::pins::{PinClause, PinParts};
 use statement_reader::parts::Parts;
 use std::alloc::{AllocError, Allocator, Global};
+use std::hash::RandomState;
 use std::marker::Model;
 
 /// Pins of the design by the net that they name.
@@ -101,11 +102,12 @@ fn add<'r, 't, A: Allocator + Copy>(
 /// The pins of the design by the net that they name.
 fn pins_by_net<'r, 't, A: Allocator + Copy>(
     alloc: A,
+    hash_builder: RandomState,
     records: &'r [Statement<'t>],
 ) -> Result<PinsByNet<'r, 't, A>, AllocError>
     ensures { IfOk result (λ pins. map (seen_group lent_pin) pins ≡ net_groups (records_view records.entry.now)) }
 {
-    let mut pins = Groups::new(alloc);
+    let mut pins = Groups::new(alloc, hash_builder);
     for statement in records {
         add(&mut pins, statement)?;
     }
@@ -158,7 +160,7 @@ fn put_both<'a, 'l: 'a, 'r: 'a, 't: 'a, A: Allocator + Copy>(
     ensures ok { OnOk result (nets.new ≡ (with_pins (flat_map (pins_of (pins_in of.now)) (flat_map listed (map entry_lent entries.now)) ++ map (design_pin_of of.now) (map lent_pin pins.now)) ([], nets.old)).1) }
     ensures net { OnOk result (0 < length nets.new) }
 {
-    let mut seen = SeenPins::new(alloc);
+    let mut seen = SeenPins::new(alloc, of.names.hash_builder());
     put_all_listed(of, entries, &mut seen, nets)?;
     put_all(of, pins, &mut seen, nets)
 }
@@ -184,7 +186,7 @@ impl<'v, 'a, 'l: 'a, 'r: 'a, 't: 'a, A: Allocator + Copy> Pins<'v, 'a, 'l, 'r, '
             wires,
             scale: Scale::of(records),
         };
-        let by_net = pins_by_net(alloc, records)?;
+        let by_net = pins_by_net(alloc, names.hash_builder(), records)?;
         Ok(Pins { sources, by_net })
     }
 

@@ -6,7 +6,7 @@ ghost use Rattle.net_pins.specs.SeenViews.{words_of};
 
 use indexmap::IndexSet;
 use std::alloc::{AllocError, Allocator, Global};
-use std::hash::{BuildHasherDefault, FoldHasher};
+use std::hash::RandomState;
 use std::marker::Model;
 
 /// The component of a pin, unless it is the design's, and its name.
@@ -15,7 +15,7 @@ pub(crate) type PinWords<'t> = (Option<&'t [u8]>, &'t [u8]);
 /// Pins by their words, in the order in which they were noted.
 #[derive(Drop)]
 pub(crate) struct SeenPins<'t, A: Allocator = Global> {
-    pins: IndexSet<PinWords<'t>, BuildHasherDefault<FoldHasher>, A>,
+    pins: IndexSet<PinWords<'t>, RandomState, A>,
 }
 
 impl<'t, A: Allocator> Model for SeenPins<'t, A> {
@@ -30,11 +30,11 @@ impl<'t, A: Allocator> Model for SeenPins<'t, A> {
 
 impl<'t, A: Allocator + Copy> SeenPins<'t, A> {
     /// No pins. It takes no memory.
-    pub(crate) fn new(alloc: A) -> SeenPins<'t, A>
+    pub(crate) fn new(alloc: A, hash_builder: RandomState) -> SeenPins<'t, A>
         ensures { result ≡ [] }
     {
         SeenPins {
-            pins: IndexSet::with_hasher(alloc, BuildHasherDefault::new()),
+            pins: IndexSet::with_hasher(alloc, hash_builder),
         }
     }
 

@@ -13,17 +13,19 @@ use design_names::names::Names;
 use net_lists::OwnedShape;
 use place_checks::placed_box::PlacedBox;
 use std::alloc::{AllocError, Allocator};
+use std::hash::RandomState;
 
 /// The densities of shapes, layer by layer, in the cells between these lines.
 fn shape_densities<A: Allocator + Copy>(
     alloc: A,
+    hash_builder: RandomState,
     columns: GridLines<A>,
     rows: GridLines<A>,
     shapes: &[OwnedShape],
 ) -> Result<CellSums<A>, AllocError>
     ensures { IfOk result (HoldsDensities columns rows (map shape_view shapes.now)) }
 {
-    let mut sums = CellSums::new(alloc, columns, rows);
+    let mut sums = CellSums::new(alloc, hash_builder, columns, rows);
     for shape in shapes {
         sums.add(shape.layer.0, shape.rect)?;
     }
@@ -33,13 +35,14 @@ fn shape_densities<A: Allocator + Copy>(
 /// The densities of components, all on layer 0, in the cells between these lines.
 fn box_densities<A: Allocator + Copy>(
     alloc: A,
+    hash_builder: RandomState,
     columns: GridLines<A>,
     rows: GridLines<A>,
     boxes: &[PlacedBox<'_>],
 ) -> Result<CellSums<A>, AllocError>
     ensures { IfOk result (HoldsDensities columns rows (map place_shape boxes.now)) }
 {
-    let mut sums = CellSums::new(alloc, columns, rows);
+    let mut sums = CellSums::new(alloc, hash_builder, columns, rows);
     for placed in boxes {
         sums.add(0, placed.rect)?;
     }
@@ -58,7 +61,7 @@ pub(crate) fn cells_of<A: Allocator + Copy>(
 {
     let columns = columns_of(alloc, names.records())?;
     let rows = rows_of(alloc, names.records())?;
-    let sums = shape_densities(alloc, columns, rows, shapes)?;
+    let sums = shape_densities(alloc, names.hash_builder(), columns, rows, shapes)?;
     Ok(sums)
 }
 
@@ -74,6 +77,6 @@ pub(crate) fn place_cells_of<A: Allocator + Copy>(
 {
     let columns = columns_of(alloc, names.records())?;
     let rows = rows_of(alloc, names.records())?;
-    let sums = box_densities(alloc, columns, rows, boxes)?;
+    let sums = box_densities(alloc, names.hash_builder(), columns, rows, boxes)?;
     Ok(sums)
 }

@@ -10,7 +10,7 @@ use design_model::geometry::Rect;
 use indexmap::IndexMap;
 use net_lists::NetList;
 use std::alloc::{AllocError, Allocator, Global};
-use std::hash::{BuildHasherDefault, FoldHasher};
+use std::hash::RandomState;
 use std::marker::Model;
 
 /// The length of a net, in database units, and the least rectangle round its shapes, if it has some.
@@ -23,7 +23,7 @@ pub(crate) struct Measures {
 /// The measures of nets by their names, each name once.
 #[derive(Drop)]
 pub(crate) struct NetTable<A: Allocator = Global> {
-    nets: IndexMap<Vec<u8, A>, Measures, BuildHasherDefault<FoldHasher>, A>,
+    nets: IndexMap<Vec<u8, A>, Measures, RandomState, A>,
 }
 
 impl<A: Allocator> Model for NetTable<A> {
@@ -37,11 +37,11 @@ impl<A: Allocator> Model for NetTable<A> {
 
 impl<A: Allocator + Copy> NetTable<A> {
     /// No nets. It takes no memory.
-    fn new(alloc: A) -> NetTable<A>
+    fn new(alloc: A, hash_builder: RandomState) -> NetTable<A>
         ensures { result ≡ [] }
     {
         NetTable {
-            nets: IndexMap::with_hasher(alloc, BuildHasherDefault::new()),
+            nets: IndexMap::with_hasher(alloc, hash_builder),
         }
     }
 
@@ -68,13 +68,14 @@ impl<A: Allocator + Copy> NetTable<A> {
 /// Nets by their names, with these lengths.
 pub(crate) fn table_of<A: Allocator + Copy>(
     alloc: A,
+    hash_builder: RandomState,
     nets: &NetList<'_, A>,
     lengths: &[u64],
 ) -> Result<NetTable<A>, AllocError>
     requires { length lengths.now ≡ length nets.now }
     ensures { IfOk result (λ t. t ≡ firsts (measured nets.now lengths.now)) }
 {
-    let mut table = NetTable::new(alloc);
+    let mut table = NetTable::new(alloc, hash_builder);
     let mut left = nets.nets();
     let mut lengths_left = lengths;
     while let Some(net) = left.next() {
