@@ -12,6 +12,7 @@ mod JoinedPieces
 mod KeptPieces
 mod LastingChanges
 mod LentPieces
+mod LettingGo
 mod Neighbours
 mod NewEnds
 mod NextPieces

@@ -119,7 +119,7 @@ module _ (text : List ℕ) (front : List Numbers) (ids : List StmtId) (recs : Li
       }
 
 -- what a slab keeps under a number that was free
-pub stores_is : {A : Type 0} (old mid new : Slab (Piece A)) (key : ℕ) (p : Piece A) (bytes : List ℕ) → mid.slots ≡ old.slots → get mid key ≡ None → Updates mid new key (Some p) → p.bytes.items ≡ bytes
+pub stores_is : {A : Type 0} (old mid new : Slab (Piece A)) (key : ℕ) (p : Piece A) (bytes : List ℕ) → mid.slots ≡ old.slots → get mid key ≡ None → Updates mid new key (Some p) → p.bytes ≡ bytes
     → Stores (map (option_map kept) old.slots) (map (option_map kept) new.slots) (record { mode = p.mode; bytes = bytes; chunk = p.chunk }) (record { 0 = key })
 stores_is old mid new key p bytes same free updates is =
     let none : get_or old.slots key None ≡ None = ap (λ (l : List (Option (Piece _))). get_or l key None) (sym same) ∙ free in

@@ -6,6 +6,7 @@ pub mod Covering
 pub mod KeptRecords
 pub mod Lasting
 pub mod Lent
+pub mod LettingGo
 pub mod Lists
 pub mod NewStretches
 pub mod Opening

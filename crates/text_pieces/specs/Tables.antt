@@ -15,7 +15,7 @@ pub record Kept : Type 0 where
   pub chunk : ℕ
 
 abbrev pub kept : {A : Type 0} → Piece A → Kept
-kept p = record { mode = p.mode; bytes = p.bytes.items; chunk = p.chunk }
+kept p = record { mode = p.mode; bytes = p.bytes; chunk = p.chunk }
 
 -- the numbers of the statements that stand, chunk by chunk, and what is kept under each number, of these statements and of
 -- others

@@ -100,7 +100,7 @@ impl<'t, A: Allocator> Segments for Behind<'t, A> {
         };
         let piece = &self.table.pieces[id.0];
         Some(Segment {
-            bytes: &piece.bytes,
+            bytes: piece.bytes.as_slice(),
             mode: Some(piece.mode),
         })
     }

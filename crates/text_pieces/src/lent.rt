@@ -31,7 +31,7 @@ impl<A: Allocator + Copy> TextPieces<A> {
         let at = self.table.start_of(id)?;
         let piece = &self.table.pieces[id.0];
         Some(LentPiece {
-            bytes: &piece.bytes,
+            bytes: piece.bytes.as_slice(),
             mode: piece.mode,
             at,
         })
@@ -44,7 +44,7 @@ impl<A: Allocator + Copy> TextPieces<A> {
         texts_are_read();
         chains_lead();
         let piece = self.table.piece(id)?;
-        Some((&piece.bytes, piece.mode))
+        Some((piece.bytes.as_slice(), piece.mode))
     }
 
     /// The bytes of the piece that is kept under a number, and the mode in which it stands: of a statement of the text, or of one
@@ -53,7 +53,7 @@ impl<A: Allocator + Copy> TextPieces<A> {
         ensures { LendsKept self.now.table.slots id result }
     {
         let piece = self.table.pieces.get(id.0)?;
-        Some((&piece.bytes, piece.mode))
+        Some((piece.bytes.as_slice(), piece.mode))
     }
 
     /// A law: what the statements say that go out of the text by a change, and those that come in.

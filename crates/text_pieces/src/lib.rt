@@ -21,9 +21,11 @@
 #![tactic(auto)]
 
 mod behind;
+pub mod bytes;
 mod chunks;
 pub mod lasting;
 pub mod lent;
+mod letting_go;
 mod lists;
 mod opening;
 pub mod prepared;

@@ -4,8 +4,9 @@ ghost use Rattle.std.specs.Prelude.{◌≡◌, ◌≤◌, length, map, option_ma
 ghost use Rattle.text_pieces.specs.Opening.{EndsLast, NextPiece, ReadsChunk};
 ghost use Rattle.text_pieces.specs.Tables.{kept};
 
+use crate::bytes::Block;
 use crate::chunks::Chunk;
-use crate::storing::store;
+use crate::storing::keep;
 use crate::table::Piece;
 use crate::told::Told;
 use def_reader::read_statement::{Read, read_statement};
@@ -43,20 +44,21 @@ fn next_piece<'t>(mode: Mode, text: &'t [u8], pos: usize) -> Result<Option<Read<
 /// Reads the statements of a text from a position on, as many as a chunk has or as there are, keeps their pieces, and tells each.
 pub(crate) fn read_chunk<A: Allocator + Copy, T: Told>(
     alloc: A,
-    text: &[u8],
+    block: &Block<A>,
     from: usize,
     first: Mode,
     number: usize,
     pieces: &mut Slab<Piece<A>, A>,
     told: &mut T,
 ) -> Result<Part<A>, ReadError>
-    requires { from ≤ length text.now }
-    ensures reads { ReadsChunk T.says text.now first from number (map (option_map kept) pieces.old.slots) (map (option_map kept) pieces.new.slots) told.old told.new result }
-    ensures last { EndsLast text.now from result }
+    requires { from ≤ length block.now }
+    ensures reads { ReadsChunk T.says block.now first from number (map (option_map kept) pieces.old.slots) (map (option_map kept) pieces.new.slots) told.old told.new result }
+    ensures last { EndsLast block.now from result }
 {
     pieces_are_read();
     chains_join();
     chains_lead();
+    let text = block.as_slice();
     let mut ids = Vec::new(alloc);
     let mut mode = first;
     let mut pos = from;
@@ -73,7 +75,12 @@ pub(crate) fn read_chunk<A: Allocator + Copy, T: Told>(
                 is_last: true,
             });
         };
-        let id = store(alloc, pieces, &mut ids, &text[pos..read.end], mode, number)?;
+        let piece = Piece {
+            bytes: block.part(pos, read.end)?,
+            mode,
+            chunk: number,
+        };
+        let id = keep(pieces, &mut ids, piece)?;
         told.tell(id, &read.statement)?;
         mode = read.place;
         pos = read.end;

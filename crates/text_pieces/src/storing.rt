@@ -4,15 +4,15 @@ ghost use Rattle.std.specs.Prelude.{IfOk, map, option_map};
 ghost use Rattle.text_pieces.specs.Storing.{StaysKept, StoresAll, StoresBehind, news_of};
 ghost use Rattle.text_pieces.specs.Tables.{kept};
 
+use crate::bytes::Block;
 use crate::table::Piece;
 use design_model::identifier::StmtId;
-use design_model::mode::Mode;
 use rereading::pieces::NewPiece;
 use slab::Slab;
 use std::alloc::{AllocError, Allocator};
 
 /// Keeps a piece, and puts its number, which is answered, behind others.
-fn keep<A: Allocator + Copy>(
+pub(crate) fn keep<A: Allocator + Copy>(
     pieces: &mut Slab<Piece<A>, A>,
     ids: &mut Vec<StmtId, A>,
     piece: Piece<A>,
@@ -24,21 +24,6 @@ fn keep<A: Allocator + Copy>(
     let id = StmtId(pieces.insert_reserved(piece));
     ids.push(id)?;
     Ok(id)
-}
-
-/// Keeps a copy of bytes as a piece, and puts its number, which is answered, behind others.
-pub(crate) fn store<A: Allocator + Copy>(
-    alloc: A,
-    pieces: &mut Slab<Piece<A>, A>,
-    ids: &mut Vec<StmtId, A>,
-    bytes: &[u8],
-    mode: Mode,
-    chunk: usize,
-) -> Result<StmtId, AllocError>
-    ensures { IfOk result (StoresBehind (map (option_map kept) pieces.old.slots) (map (option_map kept) pieces.new.slots) (record { mode = mode; bytes = bytes.now; chunk = chunk }) ids.old.items ids.new.items) }
-{
-    let bytes = Vec::from_slice(alloc, bytes)?;
-    keep(pieces, ids, Piece { bytes, mode, chunk })
 }
 
 /// Keeps new pieces as those of a chunk, and puts their numbers behind others. What was kept stays, also where memory is
@@ -54,6 +39,8 @@ pub(crate) fn store_all<A: Allocator + Copy>(
 {
     for piece in new {
         let NewPiece { bytes, mode } = piece;
+        let block = Block::new(bytes)?;
+        let bytes = block.whole()?;
         keep(pieces, ids, Piece { bytes, mode, chunk })?;
     }
     Ok(())

@@ -7,6 +7,7 @@ ghost use Rattle.text_pieces.specs.Chunks.{IsAbsent, all_ids, first_id, id_after
 ghost use Rattle.text_pieces.specs.Tables.{AreHome, IsTable, Stands, StandsAt, ids_of, kept, kept_at, piece_at, start_in, table_of, weight};
 ghost use Rattle.text_pieces.specs.Touched.{BeginsAt};
 
+use crate::bytes::PieceBytes;
 use crate::chunks::{Chunk, first_from, last_before, place_in};
 use design_model::identifier::StmtId;
 use design_model::mode::Mode;
@@ -16,7 +17,7 @@ use std::alloc::{AllocError, Allocator, Global};
 /// A statement with the blanks and comments before it, the mode in which it stands, and the chunk that has its number.
 #[derive(Drop)]
 pub(crate) struct Piece<A: Allocator = Global> {
-    pub(crate) bytes: Vec<u8, A>,
+    pub(crate) bytes: PieceBytes<A>,
     pub(crate) mode: Mode,
     pub(crate) chunk: usize,
 }

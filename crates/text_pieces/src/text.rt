@@ -20,6 +20,7 @@ ghost use Rattle.text_pieces.specs.Tables.{ids_of};
 ghost use Rattle.text_pieces.specs.Told.{Tells};
 
 use crate::behind::Behind;
+use crate::bytes::Block;
 use crate::chunks::exchange;
 use crate::lists::place_new;
 use crate::opening::read_chunk;
@@ -75,22 +76,23 @@ fn lead(bytes: &[u8]) -> usize
 /// Reads all statements of a text that isn't too long, and tells each.
 fn read_all<A: Allocator + Copy, T: Told>(
     alloc: A,
-    text: &[u8],
+    block: &Block<A>,
     told: &mut T,
 ) -> Result<TextPieces<A>, ReadError>
-    requires { length text.now ≤ MAX_TEXT }
-    ensures opens { Opens text.now result }
+    requires { length block.now ≤ MAX_TEXT }
+    ensures opens { Opens block.now result }
     ensures told { IfOk result (λ t. Tells T.says told.old told.new (numbered_records t)) }
 {
     tails_are_found();
     tails_may_end();
     texts_are_read();
+    let text = block.as_slice();
     let mut pieces = Slab::new(alloc);
     let mut chunks = Vec::new(alloc);
     let mut mode = Mode::Top;
     let mut pos = 0;
     'chunks: loop {
-        match read_chunk(alloc, text, pos, mode, chunks.len(), &mut pieces, told) {
+        match read_chunk(alloc, block, pos, mode, chunks.len(), &mut pieces, told) {
             Ok(part) => {
                 mode = part.mode;
                 pos = part.pos;
@@ -112,25 +114,28 @@ impl<A: Allocator + Copy> TextPieces<A> {
     pub fn open(alloc: A, text: &[u8]) -> Result<TextPieces<A>, ReadError>
         ensures { Opens text.now result }
     {
-        TextPieces::open_telling(alloc, text, &mut Untold)
+        let block = Block::new(Vec::from_slice(alloc, text)?)?;
+        TextPieces::open_telling(alloc, &block, &mut Untold)
     }
 
-    /// The same, and each statement is told with its number as it is read.
+    /// The same of a text that isn't copied: its pieces are parts of the block. Each statement is told with its number as it is
+    /// read.
     pub fn open_telling<T: Told>(
         alloc: A,
-        text: &[u8],
+        block: &Block<A>,
         told: &mut T,
     ) -> Result<TextPieces<A>, ReadError>
-        ensures opens { Opens text.now result }
+        ensures opens { Opens block.now result }
         ensures told { IfOk result (λ t. Tells T.says told.old told.new (numbered_records t)) }
     {
+        let text = block.as_slice();
         if text.len() > MAX_TEXT {
             return Err(ReadError::Fault(Fault {
                 code: FaultCode::TooLong,
                 pos: 0,
             }));
         }
-        read_all(alloc, text, told)
+        read_all(alloc, block, told)
     }
 
     /// How many bytes the text has.
@@ -186,7 +191,8 @@ impl<A: Allocator + Copy> TextPieces<A> {
     {
         texts_are_read();
         let piece = self.table.piece(id)?;
-        Some(&piece.bytes[lead(&piece.bytes)..])
+        let bytes = piece.bytes.as_slice();
+        Some(&bytes[lead(bytes)..])
     }
 
     /// The mode in which a statement stands.
@@ -204,7 +210,7 @@ impl<A: Allocator + Copy> TextPieces<A> {
     {
         texts_are_read();
         let start = self.table.start_of(id)?;
-        Some(start + lead(&self.table.pieces[id.0].bytes))
+        Some(start + lead(self.table.pieces[id.0].bytes.as_slice()))
     }
 
     /// The statement that has a position between its first token's start and its last one's end.
@@ -213,7 +219,7 @@ impl<A: Allocator + Copy> TextPieces<A> {
     {
         texts_are_read();
         let (id, start) = self.table.at(pos)?;
-        let first = start + lead(&self.table.pieces[id.0].bytes);
+        let first = start + lead(self.table.pieces[id.0].bytes.as_slice());
         (first <= pos).then_some(id)
     }
 

@@ -29,7 +29,7 @@ fn write_ids<A: Allocator, W: CountedWrite>(
         result }
 {
     for id in ids {
-        write_whole(out, &table.pieces[id.0].bytes, patience)?;
+        write_whole(out, table.pieces[id.0].bytes.as_slice(), patience)?;
     }
     Ok(())
 }

@@ -14,32 +14,32 @@ statements-init g c =
       omega (arith, long),
       c.requires,
       λ begun front n t.
-          rw c.new-ids.ensures.items (told_empty g.T.Told.says begun c.args.told.now c.args.text.now front (map (option_map kept) c.args.pieces.now.slots) c.args.first c.args.from (c.args.from - c.args.from) none t),
+          rw c.new-ids.ensures.items (told_empty g.T.Told.says begun c.args.told.now c.args.block.now front (map (option_map kept) c.args.pieces.now.slots) c.args.first c.args.from (c.args.from - c.args.from) none t),
     )
 
 pub statements-preserved : goal.statements-preserved
 statements-preserved g c =
     let s = c.statements in
     let i = s.invariant in
-    let text = c.args.text.now in
+    let text = c.args.block.now in
     let old = map (option_map kept) s.pieces.slots in
-    let new = map (option_map kept) c.store.new.pieces.slots in
+    let new = map (option_map kept) c.keep.new.pieces.slots in
     let read = c.in-Some.read in
-    let piece = rw c.in-Some.is at c.in_ok-read.ensures in
+    let piece = rw (c.as_slice-text.ensures, c.in-Some.is) at c.in_ok-read.ensures in
     let id = c.in_ok-id.id in
-    let stored = c.in_ok-id.ensures in
+    let stored = c.in_ok-id.ensures.kept in
     let long = ap length stored.0 in (
       omega (arith, i.0, piece.0, long, length-append s.ids.items (id ∷ [])),
       piece.1,
       λ begun front n t.
-          rw stored.0 (told_more g.T.Told.says begun s.told c.tell.new.self text front s.ids.items old new s.mode c.args.from s.pos c.chains_join.ensures c.chains_lead.ensures (i.2 begun front n t) (omega (arith, i.0)) read.end read.place (record_view read.statement) _ id piece refl refl (sym n) stored.1 c.in_ok-tell.ensures),
+          rw stored.0 (told_more g.T.Told.says begun s.told c.tell.new.self text front s.ids.items old new s.mode c.args.from s.pos c.chains_join.ensures c.chains_lead.ensures (i.2 begun front n t) (omega (arith, i.0)) read.end read.place (record_view read.statement) _ id piece refl c.in_ok-part.ensures (sym n) stored.1 c.in_ok-tell.ensures),
     )
 
 pub returns-in_err-read-clause-reads : goal.returns-in_err-read-clause-reads
 returns-in_err-read-clause-reads g c =
     let s = c.statements in
-    let text = c.args.text.now in
+    let text = c.args.block.now in
     let p = err_from_is_err_and c.from_residual.result c.from_residual.ensures.1 in
     rw (p.1, p.2) (λ begun front n t.
     let told = s.invariant.2 begun front n t in
-    read_fault text _ told.recs s.mode s.pos told.opened.read c.pieces_are_read.ensures c.in_err-read.field-0.0 c.in_err-read.ensures)
+    read_fault text _ told.recs s.mode s.pos told.opened.read c.pieces_are_read.ensures c.in_err-read.field-0.0 (rw c.as_slice-text.ensures at c.in_err-read.ensures))

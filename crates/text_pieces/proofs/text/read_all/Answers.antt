@@ -9,12 +9,12 @@ use Rattle.text_pieces.proofs.Telling.{all_told, failed, told_start}
 use Rattle.text_pieces.proofs.text.read_all.Goals as goal
 
 pub chunks-init : goal.chunks-init
-chunks-init g c = (omega arith, rw (c.new-chunks.ensures.items, c.new-pieces.ensures.empty) (told_start g.T.Told.says c.args.told.now c.args.text.now))
+chunks-init g c = (omega arith, rw (c.new-chunks.ensures.items, c.new-pieces.ensures.empty) (told_start g.T.Told.says c.args.told.now c.args.block.now))
 
 pub chunks-preserved : goal.chunks-preserved
 chunks-preserved g c =
     let s = c.chunks in
-    let text = c.args.text.now in
+    let text = c.args.block.now in
     let cs = map shown s.chunks.items in
     let number : length cs ≡ c.len.result = omega (arith, c.len.ensures, s.chunks.ok.0, length-map s.chunks.items shown) in
     let part = c.in-Ok.part in
@@ -25,25 +25,25 @@ chunks-preserved g c =
 pub invariant_of-result : goal.invariant_of-result
 invariant_of-result g c =
     let s = c.chunks in
-    let text = c.args.text.now in
+    let text = c.args.block.now in
     let cs = map shown s.chunks.items in
     let number : length cs ≡ c.len.result = omega (arith, c.len.ensures, s.chunks.ok.0, length-map s.chunks.items shown) in
     let part = c.in-Ok.part in
     let opened = c.in-Ok.ensures.reads c.args.told.now cs number s.invariant.1 in
     let items : map shown c.push.new.self.items ≡ cs ++ shown part.chunk ∷ [] = ap (map shown) c.in_ok-push-in-Ok.ensures.items ∙ map-append shown s.chunks.items (part.chunk ∷ []) in
-    let rest = c.in_ok-tail-in-Ok.ensures.items ∙ take_rest text part.pos in
-    rw items (opened_text text (cs ++ shown part.chunk ∷ []) opened.recs (map (option_map kept) c.read_chunk.new.pieces.slots) part.mode part.pos _ opened.opened rest c.tails_are_found.ensures c.tails_may_end.ensures (c.in-Ok.ensures.last.1 c.if-part.true) c.requires)
+    let rest = rw c.as_slice-text.ensures at (c.in_ok-tail-in-Ok.ensures.items ∙ take_rest c.as_slice-text.result.now part.pos) in
+    rw (items, c.as_slice-text.ensures) (opened_text text (cs ++ shown part.chunk ∷ []) opened.recs (map (option_map kept) c.read_chunk.new.pieces.slots) part.mode part.pos _ opened.opened rest c.tails_are_found.ensures c.tails_may_end.ensures (c.in-Ok.ensures.last.1 c.if-part.true) c.requires)
 
 pub returns-then-part-clause-opens : goal.returns-then-part-clause-opens
 returns-then-part-clause-opens g c =
     let s = c.chunks in
-    let text = c.args.text.now in
+    let text = c.args.block.now in
     let cs = map shown s.chunks.items in
     let number : length cs ≡ c.len.result = omega (arith, c.len.ensures, s.chunks.ok.0, length-map s.chunks.items shown) in
     let part = c.in-Ok.part in
     let opened = c.in-Ok.ensures.reads c.args.told.now cs number s.invariant.1 in
     let items : map shown c.push.new.self.items ≡ cs ++ shown part.chunk ∷ [] = ap (map shown) c.in_ok-push-in-Ok.ensures.items ∙ map-append shown s.chunks.items (part.chunk ∷ []) in
-    let rest = c.in_ok-tail-in-Ok.ensures.items ∙ take_rest text part.pos in
+    let rest = rw c.as_slice-text.ensures at (c.in_ok-tail-in-Ok.ensures.items ∙ take_rest c.as_slice-text.result.now part.pos) in
     let slots = map (option_map kept) c.read_chunk.new.pieces.slots in
     let front = cs ++ shown part.chunk ∷ [] in
     let whole = opened_whole text front opened.recs slots part.mode part.pos _ opened.opened rest in
@@ -53,20 +53,20 @@ returns-then-part-clause-opens g c =
 pub returns-then-part-clause-told : goal.returns-then-part-clause-told
 returns-then-part-clause-told g c =
     let s = c.chunks in
-    let text = c.args.text.now in
+    let text = c.args.block.now in
     let cs = map shown s.chunks.items in
     let number : length cs ≡ c.len.result = omega (arith, c.len.ensures, s.chunks.ok.0, length-map s.chunks.items shown) in
     let part = c.in-Ok.part in
     let opened = c.in-Ok.ensures.reads c.args.told.now cs number s.invariant.1 in
     let items : map shown c.push.new.self.items ≡ cs ++ shown part.chunk ∷ [] = ap (map shown) c.in_ok-push-in-Ok.ensures.items ∙ map-append shown s.chunks.items (part.chunk ∷ []) in
-    let rest = c.in_ok-tail-in-Ok.ensures.items ∙ take_rest text part.pos in
+    let rest = rw c.as_slice-text.ensures at (c.in_ok-tail-in-Ok.ensures.items ∙ take_rest c.as_slice-text.result.now part.pos) in
     let slots = map (option_map kept) c.read_chunk.new.pieces.slots in
     rw items (all_told g.T.Told.says c.args.told.now c.read_chunk.new.told text (cs ++ shown part.chunk ∷ []) slots part.mode part.pos _ opened rest c.texts_are_read.ensures c.tails_are_found.ensures c.tails_may_end.ensures (c.in-Ok.ensures.last.1 c.if-part.true) c.requires)
 
 pub returns-in-Err-clause-opens : goal.returns-in-Err-clause-opens
 returns-in-Err-clause-opens g c =
     let s = c.chunks in
-    let text = c.args.text.now in
+    let text = c.args.block.now in
     let cs = map shown s.chunks.items in
     let number : length cs ≡ c.len.result = omega (arith, c.len.ensures, s.chunks.ok.0, length-map s.chunks.items shown) in
     failed g.T.Told.says g.row.A.Denot text cs s.mode s.pos c.len.result (map (option_map kept) s.pieces.slots) (map (option_map kept) c.read_chunk.new.pieces.slots) c.args.told.now s.told c.read_chunk.new.told c.in-Err.error c.requires number s.invariant.1 c.in-Err.ensures.reads

@@ -23,10 +23,10 @@ returns-in_err-write_whole g c =
     let a : Writer = record { contents = g.W.Write.contents c.args.out.now; hard = g.W.Failures.failed_hard c.args.out.now; failed = g.W.Failures.failed c.args.out.now; patience = c.args.patience.now } in
     let b : Writer = record { contents = g.W.Write.contents c.loop-id.out; hard = g.W.Failures.failed_hard c.loop-id.out; failed = g.W.Failures.failed c.loop-id.out; patience = c.loop-id.patience } in
     let d : Writer = record { contents = g.W.Write.contents c.write_whole.new.out; hard = g.W.Failures.failed_hard c.write_whole.new.out; failed = g.W.Failures.failed c.write_whole.new.out; patience = c.write_whole.new.patience } in
-    let own : c.deref.result.now ≡ (kept_at slots id).bytes = c.deref.ensures.value ∙ ap (λ (k : Kept). k.bytes) (sym (kept_is c.args.table.now.pieces.slots id _ c.index.ensures)) in
+    let own : c.as_slice.result.now ≡ (kept_at slots id).bytes = c.as_slice.ensures ∙ ap (λ (k : Kept). k.bytes) (sym (kept_is c.args.table.now.pieces.slots id _ c.index.ensures)) in
     let more = joined_more slots ids i _ c.loop-id-test.true in
     let e = c.in_err-write_whole.ensures in
-    let broke : BreaksOff b d c.deref.result.now = record { part = e.err; fails = e.failed; spent = e.spent } in
+    let broke : BreaksOff b d c.as_slice.result.now = record { part = e.err; fails = e.failed; spent = e.spent } in
     let here = subst (λ (l : List ℕ). BreaksOff b d l) own broke in
     let front = broke_on a b d (joined slots (take i ids)) (kept_at slots id).bytes c.loop-id.invariant here in
     let all : joined slots ids ≡ (joined slots (take i ids) ++ (kept_at slots id).bytes) ++ joined slots (drop (i + 1) ids) = joined_split slots ids (i + 1) ∙ ap (λ (l : List ℕ). l ++ joined slots (drop (i + 1) ids)) more in
@@ -42,9 +42,9 @@ loop-id-preserved g c =
     let a : Writer = record { contents = g.W.Write.contents c.args.out.now; hard = g.W.Failures.failed_hard c.args.out.now; failed = g.W.Failures.failed c.args.out.now; patience = c.args.patience.now } in
     let b : Writer = record { contents = g.W.Write.contents c.loop-id.out; hard = g.W.Failures.failed_hard c.loop-id.out; failed = g.W.Failures.failed c.loop-id.out; patience = c.loop-id.patience } in
     let d : Writer = record { contents = g.W.Write.contents c.write_whole.new.out; hard = g.W.Failures.failed_hard c.write_whole.new.out; failed = g.W.Failures.failed c.write_whole.new.out; patience = c.write_whole.new.patience } in
-    let own : c.deref.result.now ≡ (kept_at slots id).bytes = c.deref.ensures.value ∙ ap (λ (k : Kept). k.bytes) (sym (kept_is c.args.table.now.pieces.slots id _ c.index.ensures)) in
+    let own : c.as_slice.result.now ≡ (kept_at slots id).bytes = c.as_slice.ensures ∙ ap (λ (k : Kept). k.bytes) (sym (kept_is c.args.table.now.pieces.slots id _ c.index.ensures)) in
     let more = joined_more slots ids i _ c.loop-id-test.true in
     let e = c.in_ok-write_whole.ensures in
-    let wrote : WritesAll b d c.deref.result.now = record { all = e.ok; hard = e.hard_ok; rises = e.rises; spent = e.spent_ok } in
+    let wrote : WritesAll b d c.as_slice.result.now = record { all = e.ok; hard = e.hard_ok; rises = e.rises; spent = e.spent_ok } in
     let here = subst (λ (l : List ℕ). WritesAll b d l) own wrote in
     subst (λ (l : List ℕ). WritesAll a d l) (sym more) (wrote_on a b d (joined slots (take i ids)) (kept_at slots id).bytes c.loop-id.invariant here)

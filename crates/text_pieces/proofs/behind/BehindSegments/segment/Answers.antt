@@ -23,7 +23,7 @@ returns-clause-at g c =
     let id = c.in-Some.id in
     let own = kept_is b.table.now.pieces.slots id _ c.index-piece.ensures in
     rw (← c.self.view_is) (
-    ap (λ (l : List ℕ). Some (record { bytes = l; mode = Some c.index-piece.result.now.mode })) c.deref.ensures.value
+    ap (λ (l : List ℕ). Some (record { bytes = l; mode = Some c.index-piece.result.now.mode })) c.as_slice.ensures
     ∙ ap (λ (k : Kept). Some (old_bytes k)) (sym own)
     ∙ sym (segment_at slots (ids_from cs b.chunk b.place) b.tail.now (b.passed + c.args.k) id (sym c.in-Some.ensures))
     ∙ sym (segment_from (segments (map (kept_at slots) (ids_from cs b.chunk b.place)) b.tail.now) b.passed c.args.k))

@@ -27,7 +27,7 @@ overflow_add-first g c =
     let fits = piece_fits slots 0 c.in_ok-id.start c.args.pos c.in_ok-id.id ids (sym c.in_ok-id.ensures) in
     let own = kept_is c.self.inside.table.pieces.slots c.in_ok-id.id _ c.index.ensures in
     let long = ap (λ (k : Kept). length k.bytes) own in
-    let lent = ap length c.deref.ensures.value in
+    let lent = ap length c.as_slice.ensures in
     omega (arith, fits, long, lent, c.lead.ensures.within, c.self.invariant.table.fits)
 
 pub returns : goal.returns
@@ -36,5 +36,5 @@ returns g c =
     let id = c.in_ok-id.id in
     let start = c.in_ok-id.start in
     let own = kept_is c.self.inside.table.pieces.slots id _ c.index.ensures in
-    let first : c.lead.result ≡ lead (kept_at slots id).bytes = c.lead.ensures.lead ∙ ap lead c.deref.ensures.value ∙ sym (ap (λ (k : Kept). lead k.bytes) own) in
+    let first : c.lead.result ≡ lead (kept_at slots id).bytes = c.lead.ensures.lead ∙ ap lead c.as_slice.ensures ∙ sym (ap (λ (k : Kept). lead k.bytes) own) in
     rw (← c.self.view_is) (c.then_some.ensures ∙ then_is (nat_le (start + c.lead.result) c.args.pos) id ∙ ap (λ (n : ℕ). if nat_le (start + n) c.args.pos then Some id else None) first ∙ ap (statement_in slots c.args.pos) c.in_ok-id.ensures ∙ sym (number_is c.texts_are_read.ensures _ c.self.invariant c.args.pos))

@@ -27,7 +27,7 @@ overflow_add-result g c =
     let fits = start_fits slots 0 c.in_ok-start.start c.args.id ids (sym c.in_ok-start.ensures) in
     let own = kept_is c.self.inside.table.pieces.slots c.args.id _ c.index.ensures in
     let long = ap (λ (k : Kept). length k.bytes) own in
-    let lent = ap length c.deref.ensures.value in
+    let lent = ap length c.as_slice.ensures in
     omega (arith, fits, long, lent, c.lead.ensures.within, c.self.invariant.table.fits)
 
 pub returns : goal.returns
@@ -36,7 +36,7 @@ returns g c =
     let id = c.args.id in
     let start = c.in_ok-start.start in
     let own = kept_is c.self.inside.table.pieces.slots id _ c.index.ensures in
-    let first : c.lead.result ≡ lead (kept_at slots id).bytes = c.lead.ensures.lead ∙ ap lead c.deref.ensures.value ∙ sym (ap (λ (k : Kept). lead k.bytes) own) in
+    let first : c.lead.result ≡ lead (kept_at slots id).bytes = c.lead.ensures.lead ∙ ap lead c.as_slice.ensures ∙ sym (ap (λ (k : Kept). lead k.bytes) own) in
     rw (← c.self.view_is) (
     ap (λ (n : ℕ). Some (start + n)) first
     ∙ ap (λ (o : Option ℕ). option_map (λ (s : Span). s.lo) (option_map (λ (n : ℕ). piece_span n (kept_at slots id).bytes) o)) c.in_ok-start.ensures

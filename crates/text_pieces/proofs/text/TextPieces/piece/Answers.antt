@@ -21,6 +21,6 @@ index-piece-requires g c =
 pub returns : goal.returns
 returns g c =
     let own = kept_is c.self.inside.table.pieces.slots c.args.id _ c.index-piece.ensures in
-    let bytes = c.deref.ensures.value ∙ sym (ap (λ (k : Kept). k.bytes) own) in
+    let bytes = c.as_slice.ensures ∙ sym (ap (λ (k : Kept). k.bytes) own) in
     let mode = sym (ap (λ (k : Kept). k.mode) own) in
     rw (← c.self.view_is, bytes, mode) (lent c.texts_are_read.ensures c.chains_lead.ensures _ c.self.invariant c.args.id c.in_ok-at.at (sym c.in_ok-at.ensures))

@@ -19,6 +19,6 @@ returns g c =
     let s = c.in_ok-piece.ensures.1 in
     let n = 0 + weight slots s.before in
     let start : start_in slots 0 id (ids_of (table_of c.self.inside.table)) ≡ Some n = ap (start_in slots 0 id) s.is ∙ start_is slots 0 id s.before s.after s.first in
-    let bytes = c.deref.ensures.value ∙ ap (λ (k : Kept). k.bytes) own in
+    let bytes = c.as_slice.ensures ∙ ap (λ (k : Kept). k.bytes) own in
     let mode = ap (λ (k : Kept). k.mode) own in
     rw (← c.self.view_is, bytes, mode) (n, lent c.texts_are_read.ensures c.chains_lead.ensures _ c.self.invariant id n start)

@@ -19,10 +19,9 @@ returns g c =
     let id = c.args.id in
     let bytes = (kept_at slots id).bytes in
     let e = c.in_ok-piece.ensures in
-    let own : c.deref.result.now ≡ bytes = c.deref.ensures.value ∙ ap (λ (k : Kept). k.bytes) e.0 in
-    let lent : c.deref-2.result.now ≡ bytes = c.deref-2.ensures.value ∙ ap (λ (k : Kept). k.bytes) e.0 in
-    let first : c.lead.result ≡ lead bytes = c.lead.ensures.lead ∙ ap lead lent in
-    let low : lead bytes ≤ length bytes = omega (arith, first, c.lead.ensures.within, ap length lent) in
+    let own : c.as_slice-bytes.result.now ≡ bytes = c.as_slice-bytes.ensures ∙ ap (λ (k : Kept). k.bytes) e.0 in
+    let first : c.lead.result ≡ lead bytes = c.lead.ensures.lead ∙ ap lead own in
+    let low : lead bytes ≤ length bytes = omega (arith, first, c.lead.ensures.within, ap length own) in
     rw (← c.self.view_is) (
-    ap (λ (l : List ℕ). Some l) (take_rest c.deref.result.now c.lead.result ∙ ap₂ (λ (n : ℕ) (l : List ℕ). drop n l) first own)
+    ap (λ (l : List ℕ). Some l) (take_rest c.as_slice-bytes.result.now c.lead.result ∙ ap₂ (λ (n : ℕ) (l : List ℕ). drop n l) first own)
     ∙ sym (statement_is c.texts_are_read.ensures _ c.self.invariant id e.1 low))
