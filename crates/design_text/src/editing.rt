@@ -58,10 +58,18 @@ impl<A: Allocator + Copy> DesignText<A> {
         ensures makes { MakesCuts (text_of self.old) (map cut_of cuts.now) result (text_of self.new) }
         ensures few { IfOk result (λ n. n ≤ new_in (text_of self.old) (cover_of (text_of self.old) (map cut_of cuts.now))) }
     {
-        let mut step = self.prepare(alloc, cuts)?;
-        let reads = step.reads();
-        self.commit(&mut step);
-        Ok(reads)
+        match self.prepare(alloc, cuts) {
+            Ok(mut step) => {
+                let reads = step.reads();
+                self.commit(&mut step);
+                self.let_go(step);
+                Ok(reads)
+            }
+            Err(error) => {
+                self.let_go_unused();
+                Err(error)
+            }
+        }
     }
 
     /// Makes two cuts one after the other, the later one first, so that no statement between them is read, and says how many were;
@@ -78,7 +86,10 @@ impl<A: Allocator + Copy> DesignText<A> {
     {
         let mut later = match self.prepare(alloc, &[last]) {
             Ok(step) => step,
-            Err(error) => return not_made(error),
+            Err(error) => {
+                self.let_go_unused();
+                return not_made(error);
+            }
         };
         let last_reads = later.reads();
         self.commit(&mut later);
@@ -86,10 +97,14 @@ impl<A: Allocator + Copy> DesignText<A> {
             Ok(mut step) => {
                 let first_reads = step.reads();
                 self.commit(&mut step);
+                self.let_go(step);
+                self.let_go(later);
                 Ok(Some(last_reads.saturating_add(first_reads)))
             }
             Err(error) => {
                 self.commit(&mut later);
+                self.let_go(later);
+                self.let_go_unused();
                 not_made(error)
             }
         }

@@ -20,6 +20,7 @@ use piece_laws::keys::{fresh_is_once, keys_are_apart, keys_decide};
 use statement_reader::laws::records_are_read;
 use std::alloc::{AllocError, Allocator};
 use std::hash::RandomState;
+use text_pieces::bytes::Block;
 use text_pieces::text::TextPieces;
 use text_pieces::told::Told;
 
@@ -104,17 +105,35 @@ impl<A: Allocator + Copy> DesignText<A> {
         ensures opens { ReadsText text.now result }
         ensures text { IfOk result (λ t. text_of t ≡ text.now) }
     {
+        DesignText::open_owned(hash_builder, Vec::from_slice(alloc, text)?)
+    }
+
+    /// The same of a text that is taken, and isn't copied.
+    pub fn open_owned(
+        hash_builder: RandomState,
+        text: Vec<u8, A>,
+    ) -> Result<DesignText<A>, ReadError>
+        ensures opens { ReadsText text.items result }
+        ensures text { IfOk result (λ t. text_of t ≡ text.items) }
+    {
         records_are_read::<Statement<'_>>();
+        let alloc = *text.allocator();
+        let block = Block::new(text)?;
+        let text = block.as_slice();
         let tables = Tables::new(alloc, hash_builder);
         let mut telling = Telling {
             tables,
             is_repeated: false,
         };
-        match TextPieces::open_telling(alloc, text, &mut telling) {
+        match TextPieces::open_telling(alloc, &block, &mut telling) {
             Ok(pieces) => {
                 check_keys(alloc, hash_builder, text, &pieces, &telling)?;
                 let tables = telling.tables;
-                Ok(DesignText { pieces, tables })
+                Ok(DesignText {
+                    pieces,
+                    tables,
+                    unused: None,
+                })
             }
             Err(error) => unopened(alloc, hash_builder, text, error),
         }

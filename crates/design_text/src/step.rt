@@ -126,8 +126,13 @@ impl<A: Allocator + Copy> DesignText<A> {
         self.pieces.statements_are_numbered();
         let text = self.pieces.prepare_all(alloc, cuts)?;
         self.pieces.statements_are_parted(&text);
-        let tables = prepare_tables(alloc, &self.pieces, &mut self.tables, &text)?;
-        Ok(Step { text, tables })
+        match prepare_tables(alloc, &self.pieces, &mut self.tables, &text) {
+            Ok(tables) => Ok(Step { text, tables }),
+            Err(error) => {
+                self.unused = Some(text);
+                Err(error)
+            }
+        }
     }
 
     /// Makes a change that is prepared, which takes no memory. The same change then leads back.
@@ -142,5 +147,25 @@ impl<A: Allocator + Copy> DesignText<A> {
         self.text_reads();
         self.pieces.commit(&mut step.text);
         self.tables.commit(&mut step.tables);
+    }
+
+    /// Lets go of a change, with what is kept for it alone. Where other changes lead isn't known from then on.
+    pub(crate) fn let_go(&mut self, step: Step<A>)
+        ensures { text_of self.new ≡ text_of self.old }
+    {
+        records_are_read::<Statement<'_>>();
+        self.text_reads();
+        self.pieces.let_go(step.text);
+    }
+
+    /// Lets go of what is kept for a change that wasn't prepared to its end.
+    pub(crate) fn let_go_unused(&mut self)
+        ensures { text_of self.new ≡ text_of self.old }
+    {
+        records_are_read::<Statement<'_>>();
+        self.text_reads();
+        if let Some(text) = self.unused.take() {
+            self.pieces.let_go(text);
+        }
     }
 }

@@ -21,6 +21,7 @@ use piece_laws::keys::{fresh_is_once, keys_are_apart};
 use statement_reader::laws::records_are_read;
 use std::alloc::{Allocator, Global};
 use std::marker::Model;
+use text_pieces::prepared::PreparedText;
 use text_pieces::text::TextPieces;
 
 /// The pieces of a text that reads, and the tables of its statements under their numbers.
@@ -28,6 +29,8 @@ use text_pieces::text::TextPieces;
 pub struct DesignText<A: Allocator + Copy = Global> {
     pub(crate) pieces: TextPieces<A>,
     pub(crate) tables: Tables<A>,
+    // A change of the pieces that was prepared, and whose tables weren't.
+    pub(crate) unused: Option<PreparedText<A>>,
 }
 
 impl<A: Allocator + Copy> Model for DesignText<A> {

@@ -72,17 +72,11 @@ impl<'s, 'l, A: Allocator + Copy> Session<'s, 'l, A> {
         ensures text { IfOk result (λ s. s.text ≡ text.now) }
         ensures library { IfOk result (λ s. s.library ≡ library.now) }
     {
-        let text = DesignText::open(alloc, library.hash_builder(), text)?;
-        text.text_reads();
-        Ok(Session {
-            alloc,
-            library,
-            text,
-            reports: None,
-        })
+        Session::open_owned(library, Vec::from_slice(alloc, text)?)
     }
 
-    /// Opens a session on a text, which it takes and lets go.
+    /// Opens a session on a text, which it takes. Its statements stay where they stand in it, until the last of them is edited away
+    /// or the session ends.
     pub fn open_owned(
         library: &'s Library<'l, A>,
         text: Vec<u8, A>,
@@ -91,7 +85,15 @@ impl<'s, 'l, A: Allocator + Copy> Session<'s, 'l, A> {
         ensures text { IfOk result (λ s. s.text ≡ text.items) }
         ensures library { IfOk result (λ s. s.library ≡ library.now) }
     {
-        Session::open(*text.allocator(), library, &text)
+        let alloc = *text.allocator();
+        let text = DesignText::open_owned(library.hash_builder(), text)?;
+        text.text_reads();
+        Ok(Session {
+            alloc,
+            library,
+            text,
+            reports: None,
+        })
     }
 
     /// The present text, put together.

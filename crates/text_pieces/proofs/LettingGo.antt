@@ -4,11 +4,10 @@ use Rattle.std.specs.List.{concat}
 use Rattle.std.specs.Option.{is_some}
 use Rattle.std.specs.Prelude.{MatchOption, false, option_map}
 use Rattle.std.proofs.lemmas.Bool.{cases_eq}
-use Rattle.slab.specs.Slab.{Slab, Updates, get}
+use Rattle.slab.specs.Slab.{Slab, Updates}
 use Rattle.design_model.specs.declared.identifier.StmtId.{StmtId}
-use Rattle.design_model.specs.declared.mode.Mode.TheVariants.{After, Top}
 use Rattle.text_pieces.specs.Chunks.{IsAbsent, Numbers, all_ids}
-use Rattle.text_pieces.specs.Content.{Content, IsText, bytes_of, text_of}
+use Rattle.text_pieces.specs.Content.{IsText, bytes_of, text_of}
 use Rattle.text_pieces.specs.LettingGo.{AreLetGo, AreSame, IsLetGo, KeepsStanding, StayFree}
 use Rattle.text_pieces.specs.Tables.{AreChunks, AreHome, IsTable, Kept, Stands, Table, ids_of, kept, kept_at, kept_or, slot, standing, weight}
 use Rattle.text_pieces.specs.declared.table.Piece.{Piece}

@@ -17,6 +17,7 @@ mod Neighbours
 mod NewEnds
 mod NextPieces
 mod NewLists
+mod NewWeights
 mod Opened
 mod PieceEnds
 mod PlacedPieces

@@ -15,7 +15,7 @@ use Rattle.text_pieces.specs.Lists.{ids_left}
 use Rattle.text_pieces.specs.Preparing.{IsPrepared, IsPut, put_bytes}
 use Rattle.text_pieces.specs.Storing.{AreFree, StaysKept, new_kept, news_of}
 use Rattle.text_pieces.specs.Stretches.{IsChain, IsStretch, cut_text, stretched}
-use Rattle.text_pieces.specs.Tables.{Kept, ids_before, ids_of, kept_at, standing, weight, AreChunks}
+use Rattle.text_pieces.specs.Tables.{Kept, ids_before, ids_of, kept_at, standing, weight, AreChunks, IsTable}
 use Rattle.text_pieces.specs.declared.stretch.Stretch.{Stretch}
 use Rattle.text_pieces.proofs.Found.{AreHeld, chunks_held}
 use Rattle.text_pieces.proofs.Ids.{absent_append}
@@ -130,6 +130,12 @@ regrouped cs k i after ids left is =
     ap (λ (l : List StmtId). (all_ids (take k cs) ++ l) ++ left) is
     ∙ ap (λ (l : List StmtId). l ++ left) (sym (append_assoc (all_ids (take k cs)) (take i (ids_at cs k)) ids))
     ∙ append_assoc (all_ids (take k cs) ++ take i (ids_at cs k)) ids left
+
+-- a table whose statements stay is one
+pub table_stays : (old new : List (Option Kept)) → StaysKept old new → (cs : List Numbers) → IsTable (record { chunks = cs; slots = old }) → IsTable (record { chunks = cs; slots = new })
+table_stays old new stays cs t =
+    let heavy = sym (weight_is new (all_ids cs)) ∙ ap (λ (ks : List Kept). length (concat (bytes_of ks))) (all_stay old new stays 0 cs t.chunks) ∙ weight_is old (all_ids cs) in
+    record { chunks = chunks_stay old new stays 0 cs t.chunks; once = t.once; fits = omega (arith, heavy, t.fits) }
 
 -- a content whose statements stay is a text, and the same
 module _ (c : Content) (t : IsText c) (new : List (Option Kept)) (stays : StaysKept c.table.slots new) where

@@ -1,5 +1,5 @@
 -- New lists of numbers for chunks.
-use Rattle.std.specs.Prelude.{◌≡◌, ℕ, List, length, drop, Option}
+use Rattle.std.specs.Prelude.{◌≡◌, ◌+◌, ◌++◌, ℕ, List, length, take, drop, Option}
 use Rattle.design_model.specs.declared.identifier.StmtId.{StmtId}
 use Rattle.text_pieces.specs.Behind.{ids_from}
 use Rattle.text_pieces.specs.Chunks.{Numbers, Replacement, all_ids, exchanged, ArePlaces}
@@ -14,3 +14,8 @@ pub record AreLists (slots : List (Option Kept)) (chunks : List Numbers) (ids : 
 -- the numbers from a place on but for the first
 abbrev pub ids_left : List Numbers → ℕ → ℕ → ℕ → List StmtId
 ids_left chunks k i out = drop out (ids_from chunks k i)
+
+-- a list of numbers is an old one with others in the place of so many from a place on
+pub record IsAnew (old : List StmtId) (place gone : ℕ) (new : List StmtId) : Type 0 where
+  pub others : List StmtId
+  pub is : new ≡ take place old ++ (others ++ drop (place + gone) old)

@@ -24,10 +24,11 @@ pub(crate) fn new_lists<A: Allocator + Copy>(
     out: usize,
     head: Vec<StmtId, A>,
 ) -> Result<Vec<Change<A>, A>, AllocError>
-    requires kept { AreChunks (table_of table.now).slots 0 (table_of table.now).chunks }
+    requires table { IsTable (table_of table.now) }
     requires within { chunk < length (table_of table.now).chunks }
     requires inside { place ≤ length (ids_at (table_of table.now).chunks chunk) }
     requires home { AreHome (table_of table.now).slots chunk head.items }
+    requires front { take place head.items ≡ take place (ids_at (table_of table.now).chunks chunk) }
     requires fits { weight (table_of table.now).slots ((all_ids (take chunk (table_of table.now).chunks) ++ head.items) ++ ids_left (table_of table.now).chunks chunk place out) ≤ MAX_TEXT }
     ensures { IfOk result (λ v. AreLists (table_of table.now).slots (table_of table.now).chunks ((all_ids (take chunk (table_of table.now).chunks) ++ head.items) ++ ids_left (table_of table.now).chunks chunk place out) (map shown_change v.items)) }
 {
@@ -39,7 +40,7 @@ pub(crate) fn new_lists<A: Allocator + Copy>(
         let old = table.chunks[k].ids.as_slice();
         let gone = left.min(old.len() - place);
         ids.extend_from_slice(&old[place + gone..])?;
-        let len = table.weight(&ids, k);
+        let len = table.weight_anew(k, &ids, place, gone);
         let chunk = Chunk { ids, len };
         changes.push(Change { place: k, chunk })?;
         if gone == left {

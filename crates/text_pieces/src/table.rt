@@ -4,6 +4,7 @@ ghost use Rattle.std.specs.Prelude.{◌≡◌, ◌<◌, ◌≤◌, ◌+◌, IfOk
 ghost use Rattle.design_model.specs.declared.TheConstants.{MAX_TEXT};
 ghost use Rattle.text_pieces.specs.Behind.{ids_from};
 ghost use Rattle.text_pieces.specs.Chunks.{IsAbsent, all_ids, first_id, id_after, id_before, ids_at};
+ghost use Rattle.text_pieces.specs.Lists.{IsAnew};
 ghost use Rattle.text_pieces.specs.Tables.{AreHome, IsTable, Stands, StandsAt, ids_of, kept, kept_at, piece_at, start_in, table_of, weight};
 ghost use Rattle.text_pieces.specs.Touched.{BeginsAt};
 
@@ -83,14 +84,53 @@ impl<A: Allocator> PieceTable<A> {
         sum
     }
 
+    /// How many bytes the pieces before a place of a chunk have, counted from the nearer end of the chunk.
+    fn weight_to(&self, chunk: usize, place: usize) -> usize
+        requires table { IsTable (table_of self.now) }
+        requires within { chunk < length (table_of self.now).chunks }
+        requires inside { place ≤ length (ids_at (table_of self.now).chunks chunk) }
+        ensures { result ≡ weight (table_of self.now).slots (take place (ids_at (table_of self.now).chunks chunk)) }
+    {
+        let all = &self.chunks[chunk];
+        let ids = all.ids.as_slice();
+        if place > ids.len() / 2 {
+            return all.len - self.weight(&ids[place..], chunk);
+        }
+        self.weight(&ids[..place], chunk)
+    }
+
+    /// How many bytes the pieces of a new list of a chunk have: the old one with others in the place of so many from a place of it on.
+    /// Only these are counted.
+    pub(crate) fn weight_anew(
+        &self,
+        chunk: usize,
+        ids: &[StmtId],
+        place: usize,
+        gone: usize,
+    ) -> usize
+        requires table { IsTable (table_of self.now) }
+        requires within { chunk < length (table_of self.now).chunks }
+        requires inside { place + gone ≤ length (ids_at (table_of self.now).chunks chunk) }
+        requires kept { AreHome (table_of self.now).slots chunk ids.now }
+        requires fits { weight (table_of self.now).slots ids.now ≤ MAX_TEXT }
+        requires is { IsAnew (ids_at (table_of self.now).chunks chunk) place gone ids.now }
+        ensures { result ≡ weight (table_of self.now).slots ids.now }
+    {
+        let all = &self.chunks[chunk];
+        let old = all.ids.as_slice();
+        let end = ids.len() - (old.len() - (place + gone));
+        let less = self.weight(&old[place..place + gone], chunk);
+        let more = self.weight(&ids[place..end], chunk);
+        all.len - less + more
+    }
+
     /// Where the piece of a statement begins.
     pub(crate) fn start_of(&self, id: StmtId) -> Option<usize>
         requires { IsTable (table_of self.now) }
         ensures { result ≡ start_in (table_of self.now).slots 0 id (ids_of (table_of self.now)) }
     {
         let (chunk, place) = self.place(id)?;
-        let ids = self.chunks[chunk].ids.as_slice();
-        Some(self.weight_before(chunk) + self.weight(&ids[..place], chunk))
+        Some(self.weight_before(chunk) + self.weight_to(chunk, place))
     }
 
     /// The statement whose piece has a position, among some numbers of which the first's piece begins at a position, and where
@@ -208,6 +248,51 @@ impl<A: Allocator> PieceTable<A> {
         (ids.len(), start)
     }
 
+    /// The same as `first_in`, looked for from the last of the numbers on, whose piece ends at a position.
+    fn first_from_end(
+        &self,
+        ids: &[StmtId],
+        chunk: usize,
+        from: usize,
+        end: usize,
+        pos: usize,
+    ) -> (usize, usize)
+        requires kept { AreHome (table_of self.now).slots chunk ids.now }
+        requires whole { end ≡ from + weight (table_of self.now).slots ids.now }
+        ensures inside { result.0 ≤ length ids.now }
+        ensures start { result.1 ≡ from + weight (table_of self.now).slots (take result.0 ids.now) }
+        ensures low { 0 < result.0 → result.1 < pos }
+        ensures high { result.0 < length ids.now → pos ≤ result.1 + weight (table_of self.now).slots (take 1 (drop result.0 ids.now)) }
+    {
+        let mut i = ids.len();
+        let mut start = end;
+        while i > 0 && pos <= start {
+            i -= 1;
+            start -= self.pieces[ids[i].0].bytes.len();
+        }
+        (i, start)
+    }
+
+    /// The first number of a chunk whose piece ends at a position or behind it, or the end of the chunk, and where it begins. It is
+    /// looked for from the nearer end.
+    fn first_near(&self, chunk: usize, from: usize, pos: usize) -> (usize, usize)
+        requires table { IsTable (table_of self.now) }
+        requires within { chunk < length (table_of self.now).chunks }
+        requires start { from ≡ weight (table_of self.now).slots (all_ids (take chunk (table_of self.now).chunks)) }
+        ensures inside { result.0 ≤ length (ids_at (table_of self.now).chunks chunk) }
+        ensures start { result.1 ≡ from + weight (table_of self.now).slots (take result.0 (ids_at (table_of self.now).chunks chunk)) }
+        ensures low { 0 < result.0 → result.1 < pos }
+        ensures high { result.0 < length (ids_at (table_of self.now).chunks chunk) → pos ≤ result.1 + weight (table_of self.now).slots (take 1 (drop result.0 (ids_at (table_of self.now).chunks chunk))) }
+    {
+        let all = &self.chunks[chunk];
+        let ids = all.ids.as_slice();
+        let end = from + all.len;
+        if pos > from + all.len / 2 {
+            return self.first_from_end(ids, chunk, from, end, pos);
+        }
+        self.first_in(ids, chunk, from, pos)
+    }
+
     /// The first chunk whose pieces end at a position or behind it, or the last, and where they begin.
     fn chunk_touched(&self, pos: usize) -> (usize, usize)
         requires table { IsTable (table_of self.now) }
@@ -236,7 +321,7 @@ impl<A: Allocator> PieceTable<A> {
         ensures { BeginsAt (table_of self.now) pos result }
     {
         let (chunk, from) = self.chunk_touched(pos);
-        let (index, start) = self.first_in(&self.chunks[chunk].ids, chunk, from, pos);
+        let (index, start) = self.first_near(chunk, from, pos);
         Place {
             chunk,
             index,

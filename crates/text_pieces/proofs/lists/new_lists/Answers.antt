@@ -6,11 +6,12 @@ use Rattle.text_pieces.specs.Chunks.{Numbers, all_ids, ids_at, shown, shown_chan
 use Rattle.text_pieces.specs.Lists.{AreLists, ids_left}
 use Rattle.text_pieces.specs.Tables.{kept, weight, AreHome}
 use Rattle.text_pieces.proofs.NewLists.{ended, ends, fits_here, goes_on, home_here}
+use Rattle.text_pieces.proofs.NewWeights.{anew}
 use Rattle.text_pieces.proofs.Shown.{shown_at}
 use Rattle.text_pieces.proofs.lists.new_lists.Goals as goal
 
-pub weight-len-requires-clause-kept : goal.weight-len-requires-clause-kept
-weight-len-requires-clause-kept g c =
+pub weight_anew-len-requires-clause-kept : goal.weight_anew-len-requires-clause-kept
+weight_anew-len-requires-clause-kept g c =
     let slots = map (option_map kept) c.args.table.now.pieces.slots in
     let chunks = c.args.table.now.chunks.items in
     let cs = map shown chunks in
@@ -28,8 +29,8 @@ weight-len-requires-clause-kept g c =
     c.in_ok-extend_from_slice.ensures.items ∙ ap (λ (l : List StmtId). s.ids.items ++ l) (take_rest c.as_slice-old.result.now (s.place + gone)) ∙ ap (λ (l : List StmtId). s.ids.items ++ drop (s.place + gone) l) old in
     subst (AreHome slots s.k) (sym (c.deref.ensures.value ∙ items)) (home_here slots cs front rest rs s.k s.place s.left s.ids.items s.invariant.0 below gone)
 
-pub weight-len-requires-clause-fits : goal.weight-len-requires-clause-fits
-weight-len-requires-clause-fits g c =
+pub weight_anew-len-requires-clause-fits : goal.weight_anew-len-requires-clause-fits
+weight_anew-len-requires-clause-fits g c =
     let slots = map (option_map kept) c.args.table.now.pieces.slots in
     let chunks = c.args.table.now.chunks.items in
     let cs = map shown chunks in
@@ -49,6 +50,44 @@ weight-len-requires-clause-fits g c =
     let same = ap (weight slots) (c.deref.ensures.value ∙ items) in
     omega (arith, few, same, c.requires.fits)
 
+pub weight_anew-len-requires-clause-inside : goal.weight_anew-len-requires-clause-inside
+weight_anew-len-requires-clause-inside g c =
+    let slots = map (option_map kept) c.args.table.now.pieces.slots in
+    let chunks = c.args.table.now.chunks.items in
+    let cs = map shown chunks in
+    let front = all_ids (take c.args.chunk cs) ++ c.args.head.items in
+    let rest = ids_left cs c.args.chunk c.args.place c.args.out in
+    let s = c.loop-k in
+    let rs = map shown_change s.changes.items in
+    let within : s.k < length chunks = omega (arith, c.loop-k-test.true, c.len-k-end.ensures, c.args.table.now.chunks.ok.0) in
+    let below : s.k < length cs = omega (arith, within, length-map chunks shown) in
+    let old : c.as_slice-old.result.now ≡ ids_at cs s.k = c.as_slice-old.ensures.value ∙ sym (ap (λ (n : Numbers). n.ids) (shown_at chunks s.k c.index.result.now within c.index.ensures)) in
+    let gone = c.min-gone.result in
+    let long = ap (λ (l : List StmtId). length l) old in
+    let gone_is : gone ≡ min s.left (length (ids_at cs s.k) - s.place) = omega (arith, long, c.min-gone.ensures) in
+    let items : c.extend_from_slice.new.self.items ≡ s.ids.items ++ drop (s.place + gone) (ids_at cs s.k) =
+    c.in_ok-extend_from_slice.ensures.items ∙ ap (λ (l : List StmtId). s.ids.items ++ l) (take_rest c.as_slice-old.result.now (s.place + gone)) ∙ ap (λ (l : List StmtId). s.ids.items ++ drop (s.place + gone) l) old in
+    omega (arith, gone_is, long, c.min-gone.ensures, s.invariant.0.inside)
+
+pub weight_anew-len-requires-clause-is : goal.weight_anew-len-requires-clause-is
+weight_anew-len-requires-clause-is g c =
+    let slots = map (option_map kept) c.args.table.now.pieces.slots in
+    let chunks = c.args.table.now.chunks.items in
+    let cs = map shown chunks in
+    let front = all_ids (take c.args.chunk cs) ++ c.args.head.items in
+    let rest = ids_left cs c.args.chunk c.args.place c.args.out in
+    let s = c.loop-k in
+    let rs = map shown_change s.changes.items in
+    let within : s.k < length chunks = omega (arith, c.loop-k-test.true, c.len-k-end.ensures, c.args.table.now.chunks.ok.0) in
+    let below : s.k < length cs = omega (arith, within, length-map chunks shown) in
+    let old : c.as_slice-old.result.now ≡ ids_at cs s.k = c.as_slice-old.ensures.value ∙ sym (ap (λ (n : Numbers). n.ids) (shown_at chunks s.k c.index.result.now within c.index.ensures)) in
+    let gone = c.min-gone.result in
+    let long = ap (λ (l : List StmtId). length l) old in
+    let gone_is : gone ≡ min s.left (length (ids_at cs s.k) - s.place) = omega (arith, long, c.min-gone.ensures) in
+    let items : c.extend_from_slice.new.self.items ≡ s.ids.items ++ drop (s.place + gone) (ids_at cs s.k) =
+    c.in_ok-extend_from_slice.ensures.items ∙ ap (λ (l : List StmtId). s.ids.items ++ l) (take_rest c.as_slice-old.result.now (s.place + gone)) ∙ ap (λ (l : List StmtId). s.ids.items ++ drop (s.place + gone) l) old in
+    anew s.ids.items (ids_at cs s.k) s.place gone _ s.invariant.3 (c.deref.ensures.value ∙ items)
+
 pub returns-then-gone-left : goal.returns-then-gone-left
 returns-then-gone-left g c =
     let slots = map (option_map kept) c.args.table.now.pieces.slots in
@@ -66,8 +105,8 @@ returns-then-gone-left g c =
     let gone_is : gone ≡ min s.left (length (ids_at cs s.k) - s.place) = omega (arith, long, c.min-gone.ensures) in
     let items : c.extend_from_slice.new.self.items ≡ s.ids.items ++ drop (s.place + gone) (ids_at cs s.k) =
     c.in_ok-extend_from_slice.ensures.items ∙ ap (λ (l : List StmtId). s.ids.items ++ l) (take_rest c.as_slice-old.result.now (s.place + gone)) ∙ ap (λ (l : List StmtId). s.ids.items ++ drop (s.place + gone) l) old in
-    let n : Numbers = record { ids = c.extend_from_slice.new.self.items; len = c.weight-len.result } in
-    let heavy : n.len ≡ weight slots n.ids = c.weight-len.ensures ∙ ap (weight slots) c.deref.ensures.value in
+    let n : Numbers = record { ids = c.extend_from_slice.new.self.items; len = c.weight_anew-len.result } in
+    let heavy : n.len ≡ weight slots n.ids = c.weight_anew-len.ensures ∙ ap (weight slots) c.deref.ensures.value in
     let put : map shown_change c.push.new.self.items ≡ rs ++ (s.k, n) ∷ [] = ap (map shown_change) c.in_ok-push.ensures.items ∙ map-append shown_change s.changes.items _ in
     subst (AreLists slots cs (front ++ rest)) (sym put) (ended slots cs front rest rs s.k s.place s.left s.ids.items s.invariant.0 below gone n items heavy gone_is c.if-gone-left.true)
 
@@ -88,11 +127,11 @@ loop-k-preserved g c =
     let gone_is : gone ≡ min s.left (length (ids_at cs s.k) - s.place) = omega (arith, long, c.min-gone.ensures) in
     let items : c.extend_from_slice.new.self.items ≡ s.ids.items ++ drop (s.place + gone) (ids_at cs s.k) =
     c.in_ok-extend_from_slice.ensures.items ∙ ap (λ (l : List StmtId). s.ids.items ++ l) (take_rest c.as_slice-old.result.now (s.place + gone)) ∙ ap (λ (l : List StmtId). s.ids.items ++ drop (s.place + gone) l) old in
-    let n : Numbers = record { ids = c.extend_from_slice.new.self.items; len = c.weight-len.result } in
-    let heavy : n.len ≡ weight slots n.ids = c.weight-len.ensures ∙ ap (weight slots) c.deref.ensures.value in
+    let n : Numbers = record { ids = c.extend_from_slice.new.self.items; len = c.weight_anew-len.result } in
+    let heavy : n.len ≡ weight slots n.ids = c.weight_anew-len.ensures ∙ ap (weight slots) c.deref.ensures.value in
     let put : map shown_change c.push.new.self.items ≡ rs ++ (s.k, n) ∷ [] = ap (map shown_change) c.in_ok-push.ensures.items ∙ map-append shown_change s.changes.items _ in
     let next = goes_on slots cs front rest rs s.k s.place s.left s.ids.items s.invariant.0 below gone n items heavy gone_is c.if-gone-left.false in
-    (rw (put, c.new-ids.ensures.items) next, λ h. c.new-ids.ensures.items, λ h. refl)
+    (rw (put, c.new-ids.ensures.items) next, λ h. c.new-ids.ensures.items, λ h. refl, refl)
 
 pub returns : goal.returns
 returns g c =

@@ -1,20 +1,20 @@
 use Rattle.std.proofs.Common.{◌≡◌, ◌<◌, ◌∙◌, ◌+◌, ◌++◌, List, sym, ap, subst, drop, length, map, take, arith}
 use Rattle.std.specs.Prelude.{option_map}
-use Rattle.std.proofs.lemmas.List.{drop_at, length-map, length-take-le, take_rest}
+use Rattle.std.proofs.lemmas.List.{drop_at, length-map, length-take-le, take-append-le, take_all, take_rest}
 use Rattle.design_model.specs.declared.identifier.StmtId.{StmtId}
 use Rattle.text_pieces.specs.Chunks.{Numbers, ids_at, shown, shown_change}
 use Rattle.text_pieces.specs.Lists.{AreLists, ids_left}
 use Rattle.text_pieces.specs.Preparing.{IsPut}
 use Rattle.text_pieces.specs.Storing.{news_of}
 use Rattle.text_pieces.specs.Tables.{kept, table_of, weight, AreHome}
-use Rattle.text_pieces.proofs.PutPieces.{regrouped, then_fits}
+use Rattle.text_pieces.proofs.PutPieces.{regrouped, table_stays, then_fits}
 use Rattle.text_pieces.proofs.Shown.{shown_at}
 use Rattle.text_pieces.proofs.Slots.{home_at, home_take}
-use Rattle.text_pieces.proofs.StoredPieces.{chunks_stay, home_append, home_stays}
+use Rattle.text_pieces.proofs.StoredPieces.{home_append, home_stays}
 use Rattle.text_pieces.proofs.lists.place_new.Goals as goal
 
-pub new_lists-requires-clause-kept : goal.new_lists-requires-clause-kept
-new_lists-requires-clause-kept g c =
+pub new_lists-requires-clause-table : goal.new_lists-requires-clause-table
+new_lists-requires-clause-table g c =
     let old = map (option_map kept) c.args.table.now.pieces.slots in
     let new = map (option_map kept) c.store_all.new.pieces.slots in
     let chunks = c.args.table.now.chunks.items in
@@ -27,7 +27,23 @@ new_lists-requires-clause-kept g c =
     let a = c.in_ok-store_all.ensures.kept in
     let stays = c.in_ok-store_all.ensures.stays in
     let after : c.store_all.new.ids.items ≡ take i (ids_at cs k) ++ a.ids = a.is ∙ ap (λ (l : List StmtId). l ++ a.ids) head in
-    chunks_stay old new stays 0 cs c.requires.table.chunks
+    table_stays old new stays cs c.requires.table
+
+pub new_lists-requires-clause-front : goal.new_lists-requires-clause-front
+new_lists-requires-clause-front g c =
+    let old = map (option_map kept) c.args.table.now.pieces.slots in
+    let new = map (option_map kept) c.store_all.new.pieces.slots in
+    let chunks = c.args.table.now.chunks.items in
+    let cs = map shown chunks in
+    let k = c.args.chunk in
+    let i = c.args.index in
+    let within : k < length chunks = omega (arith, c.requires.within, length-map chunks shown) in
+    let own : c.deref.result.now ≡ ids_at cs k = c.deref.ensures.value ∙ sym (ap (λ (n : Numbers). n.ids) (shown_at chunks k c.index.result.now within c.index.ensures)) in
+    let head : c.in_ok-head.head.items ≡ take i (ids_at cs k) = c.in_ok-head.ensures.items ∙ ap (take i) own in
+    let a = c.in_ok-store_all.ensures.kept in
+    let stays = c.in_ok-store_all.ensures.stays in
+    let after : c.store_all.new.ids.items ≡ take i (ids_at cs k) ++ a.ids = a.is ∙ ap (λ (l : List StmtId). l ++ a.ids) head in
+    ap (take i) after ∙ take-append-le i (take i (ids_at cs k)) a.ids (omega (arith, length-take-le i (ids_at cs k) c.requires.inside)) ∙ take_all i (take i (ids_at cs k)) (omega (arith, length-take-le i (ids_at cs k) c.requires.inside))
 
 pub new_lists-requires-clause-home : goal.new_lists-requires-clause-home
 new_lists-requires-clause-home g c =

@@ -1,4 +1,4 @@
-use Rattle.std.proofs.Common.{◌+◌, ◌∷◌, List, [], sym, subst, take, get_or}
+use Rattle.std.proofs.Common.{sym, subst, take, get_or}
 use Rattle.std.proofs.lemmas.List.{take_more}
 use Rattle.design_model.specs.declared.identifier.StmtId.{StmtId}
 use Rattle.text_pieces.specs.LettingGo.{AreLetGo}
