@@ -16,6 +16,10 @@ use Rattle.entry_rules.specs.EntryNames.{entry_named}
 use Rattle.entry_rules.specs.Unknown.{component_named, is_in, stands_in}
 use Rattle.entry_rules.specs.ViaLayers.{def_rule_named, def_via_named, rule_of_entry, via_of_entry}
 use Rattle.place_parts.specs.declared.component_parts.ComponentParts.{ComponentParts}
+use Rattle.def_reader.specs.StatementViews.{record_view}
+use Rattle.def_reader.specs.declared.entry.Entry.{Entry as EntryParts}
+use Rattle.def_reader.specs.declared.statement.Statement.{Statement}
+use Rattle.def_reader.specs.declared.statement.Statement.TheVariants as variants
 use Rattle.design_names.specs.NameViews.{component_of_entry, lent_component}
 
 any_step : {A : Type 0} (b : Bool) (a : A) (r : Bool) (q : Option A) → r ≡ is_some q → (b || r) ≡ is_some (cond b (Some a) q)
@@ -154,3 +158,16 @@ seen_or_not view (Some a) = refl
 
 pub component_there : (design : List Record) (name : List ℕ) (found : Option (Bor ComponentParts)) → option_map lent_component found ≡ component_named design name → is_some found ≡ stands_in design Components name
 component_there design name found is = seen_or_not lent_component found ∙ ap (λ (o : Option Component). is_some o) is ∙ component_stands design name
+
+-- a statement that is no entry says none
+pub says_none : (s : Statement) → ((e : EntryParts) → s ≡ variants.Entry e → ⊥) → entry_of (record_view s) ≡ None
+says_none (variants.Units n) none = refl
+says_none variants.EndDesign none = refl
+says_none variants.Properties none = refl
+says_none (variants.Extension tokens) none = refl
+says_none (variants.Floor f) none = refl
+says_none (variants.Header s n) none = refl
+says_none (variants.Kept w others) none = refl
+says_none (variants.EndSection s) none = refl
+says_none (variants.Property p) none = refl
+says_none (variants.Entry e) none = absurd (none e refl)

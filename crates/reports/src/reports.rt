@@ -79,7 +79,12 @@ impl<A: Allocator + Copy> Reports<A> {
         let layers = library.layer_count();
         let measured = measured_of(alloc, library, names)?;
         let boxes = boxes_of(alloc, library, names.records())?;
-        let nets = table_of(alloc, names.hash_builder(), &measured.nets, &measured.lengths)?;
+        let nets = table_of(
+            alloc,
+            names.hash_builder(),
+            &measured.nets,
+            &measured.lengths,
+        )?;
         let cells = cells_of(alloc, names, measured.nets.shapes())?;
         let place_cells = place_cells_of(alloc, names, &boxes)?;
         let total = total_of(&measured.lengths);
