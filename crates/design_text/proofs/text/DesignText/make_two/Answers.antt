@@ -14,7 +14,7 @@ returns-in-Err-clause-makes g c =
     let t = text_of c.args.self.now in
     let f = cut_of c.args.first in
     let l = cut_of c.args.last in
-    not_made_two t _ f l c.in-Err.error c.not_made.result c.not_made.ensures c.prepare.ensures.still
+    not_made_two t _ f l c.in-Err.error c.not_made.result c.not_made.ensures (c.let_go_unused.ensures ∙ c.prepare.ensures.still)
     (λ one both. only_memory t (l ∷ []) c.in-Err.error _ (last_in_order t f l c.requires) c.in-Err.ensures.prepares one)
 
 pub returns-in-Ok-prepare-clause-makes : goal.returns-in-Ok-prepare-clause-makes
@@ -22,7 +22,9 @@ returns-in-Ok-prepare-clause-makes g c =
     let t = text_of c.args.self.now in
     let f = cut_of c.args.first in
     let l = cut_of c.args.last in (
-      c.commit-in-Ok-prepare.ensures.made (with_cuts (f ∷ []) (text_of c.commit.new.self)) c.in-Ok-prepare.ensures.prepares
+      c.let_go-in-Ok-prepare.ensures
+          ∙ c.let_go.ensures
+          ∙ c.commit-in-Ok-prepare.ensures.made (with_cuts (f ∷ []) (text_of c.commit.new.self)) c.in-Ok-prepare.ensures.prepares
           ∙ ap (with_cuts (f ∷ [])) (c.commit.ensures.made (with_cuts (l ∷ []) t) c.in-Ok.ensures.prepares)
           ∙ both_made t f l c.requires,
       c.in-Ok.ensures.prepares.reads,
@@ -38,13 +40,13 @@ returns-in-Ok-prepare-clause-few g c =
 pub commit-requires-in-Err-prepare : goal.commit-requires-in-Err-prepare
 commit-requires-in-Err-prepare g c = (text_of c.prepare.new.self, c.prepare-2.ensures.lasts _ _ c.commit.ensures.back)
 
-pub returns-clause-makes : goal.returns-clause-makes
-returns-clause-makes g c =
+pub returns-in-Err-prepare-clause-makes : goal.returns-in-Err-prepare-clause-makes
+returns-in-Err-prepare-clause-makes g c =
     let t = text_of c.args.self.now in
     let f = cut_of c.args.first in
     let l = cut_of c.args.last in
     let made = c.commit.ensures.made (with_cuts (l ∷ []) t) c.in-Ok.ensures.prepares in
     let why = subst (λ u. PreparesCuts u (f ∷ []) (Err c.in-Err-prepare.error) c.prepare-2.new.self) made c.in-Err-prepare.ensures.prepares in
-    let same = c.commit-in-Err-prepare.ensures.made (text_of c.prepare.new.self) (c.prepare-2.ensures.lasts _ _ c.commit.ensures.back) ∙ c.prepare.ensures.still in
+    let same = c.let_go_unused-in-Err-prepare.ensures ∙ c.let_go-in-Err-prepare.ensures ∙ c.commit-in-Err-prepare.ensures.made (text_of c.prepare.new.self) (c.prepare-2.ensures.lasts _ _ c.commit.ensures.back) ∙ c.prepare.ensures.still in
     not_made_two t _ f l c.in-Err-prepare.error c.not_made-in-Err-prepare.result c.not_made-in-Err-prepare.ensures same
     (λ one both. only_memory (with_cuts (l ∷ []) t) (f ∷ []) c.in-Err-prepare.error _ (first_in_order t f l c.requires) why (subst (λ u. IsOk (read_def u)) (sym (both_made t f l c.requires)) both))

@@ -1,4 +1,4 @@
-use Rattle.std.proofs.Common.{ℕ, List, IsOk, map, sym, ap, subst}
+use Rattle.std.proofs.Common.{ℕ, List, Err, IsOk, map, sym, ap, subst}
 use Rattle.std.proofs.lemmas.Result.{err_from_is_err_and}
 use Rattle.def_grammar.specs.Records.{read_def}
 use Rattle.text_pieces.specs.Content as pieces
@@ -22,13 +22,13 @@ prepare_tables-requires-clause-keyed g c =
     subst AreKeyed (sym (still_records c.self.inside.pieces c.prepare_all.new.self c.prepare_all.ensures.still))
     (own_keys c.records_are_read.ensures.located c.self.inside.pieces c.self.inside.tables c.self.invariant s.reads s.all c.keys_are_apart.ensures c.fresh_is_once.ensures)
 
-pub invariant_of-self-in_err-tables : goal.invariant_of-self-in_err-tables
-invariant_of-self-in_err-tables g c =
+pub invariant_of-self-in-Err : goal.invariant_of-self-in-Err
+invariant_of-self-in-Err g c =
     made_text c.records_are_read.ensures.located c.prepare_all.new.self c.prepare_tables.new.tables
     (subst (λ t. IsOk (read_def t)) (sym c.prepare_all.ensures.still.text) (is_read (read_def (pieces.text_of c.self.inside.pieces)) c.self.invariant.design c.self.invariant.reads)) c.prepare_tables.ensures.same
 
-pub invariant_of-self-2 : goal.invariant_of-self-2
-invariant_of-self-2 g c =
+pub invariant_of-self-in-Ok : goal.invariant_of-self-in-Ok
+invariant_of-self-in-Ok g c =
     made_text c.records_are_read.ensures.located c.prepare_all.new.self c.prepare_tables.new.tables
     (subst (λ t. IsOk (read_def t)) (sym c.prepare_all.ensures.still.text) (is_read (read_def (pieces.text_of c.self.inside.pieces)) c.self.invariant.design c.self.invariant.reads)) c.prepare_tables.ensures.same
 
@@ -42,29 +42,27 @@ pub returns-in_err-text-clause-lasts : goal.returns-in_err-text-clause-lasts
 returns-in_err-text-clause-lasts g c = λ change text l.
     leads_still _ _ change text c.prepare_all.ensures.still c.changes_last.ensures.lasts (λ base other b. b) (rw (← c.self.view_is) at l)
 
-pub returns-in_err-tables-clause-prepares : goal.returns-in_err-tables-clause-prepares
-returns-in_err-tables-clause-prepares g c =
+pub returns-in-Err-clause-prepares : goal.returns-in-Err-clause-prepares
+returns-in-Err-clause-prepares g c =
     let is = c.in_ok-text.ensures.prepares in
     let now = c.prepare_all.new.self in
     let parted = c.statements_are_parted.ensures now is.other is.between in
-    let p = err_from_is_err_and c.from_residual-in_err-tables.result c.from_residual-in_err-tables.ensures.1 in
-    subst (λ (t : List ℕ). PreparesCuts t (map cut_of c.args.cuts.now) c.from_residual-in_err-tables.result (record { pieces = c.prepare_all.new.self; names = c.prepare_tables.new.tables })) (ap text_of c.self.view_is)
-    (rw (p.1, p.2)
-    (not_keyed c.keys_are_apart.ensures c.fresh_is_once.ensures (pieces.text_of c.self.inside.pieces) (map cut_of c.args.cuts.now) _ _ is.other is.text parted.reads (c.in_err-tables.ensures.fails now is.other is.between)))
+    subst (λ (t : List ℕ). PreparesCuts t (map cut_of c.args.cuts.now) (Err c.in-Err.error) (record { pieces = c.prepare_all.new.self; names = c.prepare_tables.new.tables })) (ap text_of c.self.view_is)
+    (not_keyed c.keys_are_apart.ensures c.fresh_is_once.ensures (pieces.text_of c.self.inside.pieces) (map cut_of c.args.cuts.now) _ _ is.other is.text parted.reads (c.in-Err.ensures.fails now is.other is.between))
 
-pub returns-in_err-tables-clause-lasts : goal.returns-in_err-tables-clause-lasts
-returns-in_err-tables-clause-lasts g c = λ change text l.
+pub returns-in-Err-clause-lasts : goal.returns-in-Err-clause-lasts
+returns-in-Err-clause-lasts g c = λ change text l.
     leads_still _ _ change text c.prepare_all.ensures.still c.changes_last.ensures.lasts (c.prepare_tables.ensures.lasts change.names) (rw (← c.self.view_is) at l)
 
-pub returns-clause-prepares : goal.returns-clause-prepares
-returns-clause-prepares g c =
+pub returns-in-Ok-clause-prepares : goal.returns-in-Ok-clause-prepares
+returns-in-Ok-clause-prepares g c =
     let is = c.in_ok-text.ensures.prepares in
     let now = c.prepare_all.new.self in
     let parted = c.statements_are_parted.ensures now is.other is.between in
-    let t = c.in_ok-tables.ensures in
+    let t = c.in-Ok.ensures in
     rw (← c.self.view_is)
     (leads_on c.keys_decide.ensures c.fresh_is_once.ensures _ _ is.other _ (c.changes_last.ensures.leads now now is.other _ is.between) (t.between now is.other is.between) is.text parted.reads (t.keyed now is.other is.between))
 
-pub returns-clause-lasts : goal.returns-clause-lasts
-returns-clause-lasts g c = λ change text l.
+pub returns-in-Ok-clause-lasts : goal.returns-in-Ok-clause-lasts
+returns-in-Ok-clause-lasts g c = λ change text l.
     leads_still _ _ change text c.prepare_all.ensures.still c.changes_last.ensures.lasts (c.prepare_tables.ensures.lasts change.names) (rw (← c.self.view_is) at l)
