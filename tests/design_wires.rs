@@ -11,6 +11,7 @@ use design_names::names::names_of;
 use design_wires::makings_of_design::DesignMakings;
 use design_wires::wires::DesignWires;
 use std::alloc::{AllocError, Global};
+use std::hash::RandomState;
 use std::test::Fail;
 use wire_parts::nets::{NetEntry, NetParts};
 use wire_parts::special_nets::SpecialNetParts;
@@ -67,20 +68,30 @@ fn lines_of(
 }
 
 /// The lines of all nets among the statements of a design, by the two metals and another LEF text.
-fn lines_in(alloc: Global, lef: &[u8], records: &[Statement<'_>]) -> Result<Vec<u8>, Fail> {
+fn lines_in(
+    alloc: Global,
+    hash_builder: RandomState,
+    lef: &[u8],
+    records: &[Statement<'_>],
+) -> Result<Vec<u8>, Fail> {
     let mut lefs = LefTexts::new(alloc);
     lefs.push(METALS)?;
     lefs.push(lef)?;
-    let library = Library::read(alloc, &lefs)?;
-    let names = names_of(alloc, records)?;
+    let library = Library::read(alloc, hash_builder, &lefs)?;
+    let names = names_of(alloc, hash_builder, records)?;
     let wires = DesignWires::new(alloc, &library, &names)?;
     Ok(lines_of(alloc, records, DesignMakings { wires: &wires })?)
 }
 
 /// The same of a DEF text.
-fn lines_by(alloc: Global, lef: &[u8], def: &[u8]) -> Result<Vec<u8>, Fail> {
-    let records = records_of(alloc, def)?;
-    lines_in(alloc, lef, &records)
+fn lines_by(
+    alloc: Global,
+    hash_builder: RandomState,
+    lef: &[u8],
+    def: &[u8],
+) -> Result<Vec<u8>, Fail> {
+    let records = records_of(alloc, hash_builder, def)?;
+    lines_in(alloc, hash_builder, lef, &records)
 }
 
 #[test]
@@ -109,7 +120,7 @@ without_length
 segment met1 -10 -70 30 70 0
 segment met2 -25 -65 15 75 0
 ";
-    let lines = lines_by(rt.alloc(), b"", def)?;
+    let lines = lines_by(rt.alloc(), RandomState::new(&rt)?, b"", def)?;
     assert_eq!(rt; lines.as_slice(), wanted.as_slice());
     Ok(())
 }
@@ -125,11 +136,12 @@ NETS 1 ;
 END NETS
 END DESIGN
 ";
-    let records = records_of(rt.alloc(), def)?;
-    let at_2000 = lines_in(rt.alloc(), WIDE, &records)?;
+    let hash_builder = RandomState::new(&rt)?;
+    let records = records_of(rt.alloc(), hash_builder, def)?;
+    let at_2000 = lines_in(rt.alloc(), hash_builder, WIDE, &records)?;
     assert_eq!(rt; at_2000.as_slice(), b"n\nsegment top -4000 -4000 5000 4000 1000\n".as_slice());
     // (its first statement is UNITS, and without that a micron has one)
-    let at_1 = lines_in(rt.alloc(), WIDE, &records[1..])?;
+    let at_1 = lines_in(rt.alloc(), hash_builder, WIDE, &records[1..])?;
     assert_eq!(rt; at_1.as_slice(), b"n\nsegment top -2 -2 1002 2 1000\n".as_slice());
     Ok(())
 }
@@ -149,7 +161,7 @@ via M1M2 1000 0 via1 900 -100 1100 100
 via M1M2 1000 0 met2 800 -200 1200 200
 segment met2 860 -140 1140 640 500
 ";
-    let lines = lines_by(rt.alloc(), b"", def)?;
+    let lines = lines_by(rt.alloc(), RandomState::new(&rt)?, b"", def)?;
     assert_eq!(rt; lines.as_slice(), wanted.as_slice());
     Ok(())
 }
@@ -181,7 +193,7 @@ diagonal
 segment met2 11 21 12 41 1
 segment met1 0 -14 0 3 10
 ";
-    let lines = lines_by(rt.alloc(), b"", def)?;
+    let lines = lines_by(rt.alloc(), RandomState::new(&rt)?, b"", def)?;
     assert_eq!(rt; lines.as_slice(), wanted.as_slice());
     Ok(())
 }
@@ -228,7 +240,7 @@ segment via1 0 0 0 10 10
 e
 segment met1 -70 -70 1070 71 1000
 ";
-    let lines = lines_by(rt.alloc(), RULES, def)?;
+    let lines = lines_by(rt.alloc(), RandomState::new(&rt)?, RULES, def)?;
     assert_eq!(rt; lines.as_slice(), wanted.as_slice());
     Ok(())
 }
@@ -274,7 +286,7 @@ via by_rule 0 0 via1 -2 -3 3 4
 via by_rule 0 0 met2 -2 -3 3 4
 segment met2 -70 -70 70 170 100
 ";
-    let lines = lines_by(rt.alloc(), b"", def)?;
+    let lines = lines_by(rt.alloc(), RandomState::new(&rt)?, b"", def)?;
     assert_eq!(rt; lines.as_slice(), wanted.as_slice());
     Ok(())
 }
@@ -317,7 +329,7 @@ via above 0 0 met1 -2 -3 3 4
 via above 0 0 via1 -2 -3 3 4
 via above 0 0 met2 8 17 13 24
 ";
-    let lines = lines_by(rt.alloc(), GENERATED, def)?;
+    let lines = lines_by(rt.alloc(), RandomState::new(&rt)?, GENERATED, def)?;
     assert_eq!(rt; lines.as_slice(), wanted.as_slice());
     Ok(())
 }
@@ -359,7 +371,7 @@ unknown
 unknown nowhere
 segment met1 -70 -70 170 70 100
 ";
-    let lines = lines_by(rt.alloc(), b"", def)?;
+    let lines = lines_by(rt.alloc(), RandomState::new(&rt)?, b"", def)?;
     assert_eq!(rt; lines.as_slice(), wanted.as_slice());
     Ok(())
 }
@@ -390,12 +402,12 @@ fn with_special_net(
 }
 
 /// The sums of the special nets of a design by the two metals.
-fn sums_by(alloc: Global, def: &[u8]) -> Result<Sums, Fail> {
+fn sums_by(alloc: Global, hash_builder: RandomState, def: &[u8]) -> Result<Sums, Fail> {
     let mut lefs = LefTexts::new(alloc);
     lefs.push(METALS)?;
-    let library = Library::read(alloc, &lefs)?;
-    let records = records_of(alloc, def)?;
-    let names = names_of(alloc, &records)?;
+    let library = Library::read(alloc, hash_builder, &lefs)?;
+    let records = records_of(alloc, hash_builder, def)?;
+    let names = names_of(alloc, hash_builder, &records)?;
     let wires = DesignWires::new(alloc, &library, &names)?;
     let mut sums = Sums {
         shapes: 0,
@@ -427,7 +439,8 @@ END DESIGN
         left: 70000 + 100 * 10 * (699 * 700 / 2),
         lower: 2 * 70000 + 700 * 20 * (99 * 100 / 2),
     };
-    assert_eq!(rt; sums_by(rt.alloc(), def)?, wanted);
+    let sums = sums_by(rt.alloc(), RandomState::new(&rt)?, def)?;
+    assert_eq!(rt; sums, wanted);
     Ok(())
 }
 
@@ -443,7 +456,7 @@ fn a_table_of_70000_vias(rt: HostRuntime) -> Result<(), Fail> {
     def.extend_from_slice(
         b"END VIAS\nNETS 1 ;\n- n + ROUTED met1 ( 0 0 ) v69999 ;\nEND NETS\nEND DESIGN\n",
     )?;
-    let lines = lines_by(alloc, b"", def.as_slice())?;
+    let lines = lines_by(alloc, RandomState::new(&rt)?, b"", def.as_slice())?;
     let wanted = b"n\nvia v69999 0 0 met1 0 0 69999 1\nstays v69999\n".as_slice();
     assert_eq!(rt; lines.as_slice(), wanted);
     Ok(())

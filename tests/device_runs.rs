@@ -6,6 +6,7 @@ use cell_library::lef_texts::LefTexts;
 use counted_devices::counted::Counted;
 use edit_script::run::{RunFault, Tally, run};
 use std::alloc::{AllocError, Global};
+use std::hash::RandomState;
 use std::io;
 use std::io::{Read, Write};
 use std::test::Fail;
@@ -39,13 +40,18 @@ fn library(alloc: Global) -> Result<LefTexts, AllocError> {
 }
 
 /// Runs a script that a device gives over the two inverters.
-fn read_by<R: Read + Drop>(alloc: Global, script: R) -> Result<Outputs, AllocError> {
+fn read_by<R: Read + Drop>(
+    alloc: Global,
+    hash_builder: RandomState,
+    script: R,
+) -> Result<Outputs, AllocError> {
     let lefs = library(alloc)?;
     let mut script = Counted::new(script);
     let mut out = Counted::new(Vec::new(alloc));
     let mut text = Counted::new(Vec::new(alloc));
     let result = run(
         alloc,
+        hash_builder,
         &lefs,
         TWO_INVERTERS,
         &mut script,
@@ -62,11 +68,12 @@ fn read_by<R: Read + Drop>(alloc: Global, script: R) -> Result<Outputs, AllocErr
 #[test]
 fn readers_of_one_byte_and_interruptions(rt: HostRuntime) -> Result<(), Fail> {
     let alloc = rt.alloc();
+    let hash_builder = RandomState::new(&rt)?;
     for got in [
-        read_by(alloc, SCRIPT)?,
-        read_by(alloc, OneByte(SCRIPT))?,
-        read_by(alloc, Interrupted::new(SCRIPT))?,
-        read_by(alloc, Interrupted::new(OneByte(SCRIPT)))?,
+        read_by(alloc, hash_builder, SCRIPT)?,
+        read_by(alloc, hash_builder, OneByte(SCRIPT))?,
+        read_by(alloc, hash_builder, Interrupted::new(SCRIPT))?,
+        read_by(alloc, hash_builder, Interrupted::new(OneByte(SCRIPT)))?,
     ] {
         assert_eq!(rt; got.result, Ok(COUNTS));
         assert_eq!(rt; got.answers.as_slice(), ANSWERS);
@@ -77,22 +84,24 @@ fn readers_of_one_byte_and_interruptions(rt: HostRuntime) -> Result<(), Fail> {
 
 #[test]
 fn a_reader_that_fails_at_each_turn(rt: HostRuntime) -> Result<(), Fail> {
+    let hash_builder = RandomState::new(&rt)?;
     for turn in 0..=SCRIPT.len() {
-        let got = read_by(rt.alloc(), Fails::new(OneByte(SCRIPT), turn))?;
+        let got = read_by(rt.alloc(), hash_builder, Fails::new(OneByte(SCRIPT), turn))?;
         assert_eq!(rt; got.result, Err(RunFault::Read), "turn {turn}");
         assert!(rt;
             got.answers.is_empty() && got.text.is_empty(),
             "turn {turn}"
         );
     }
-    let got = read_by(rt.alloc(), Fails::new(OneByte(SCRIPT), SCRIPT.len() + 1))?;
+    let got = read_by(rt.alloc(), hash_builder, Fails::new(OneByte(SCRIPT), SCRIPT.len() + 1))?;
     assert_eq!(rt; got.result, Ok(COUNTS));
     Ok(())
 }
 
 #[test]
 fn a_script_of_most_bytes_and_one_more(rt: HostRuntime) -> Result<(), Fail> {
-    let got = read_by(rt.alloc(), io::repeat(b'#').take(MOST))?;
+    let hash_builder = RandomState::new(&rt)?;
+    let got = read_by(rt.alloc(), hash_builder, io::repeat(b'#').take(MOST))?;
     let none = Tally {
         accepted: 0,
         refused: 0,
@@ -101,9 +110,9 @@ fn a_script_of_most_bytes_and_one_more(rt: HostRuntime) -> Result<(), Fail> {
     assert_eq!(rt; got.result, Ok(none));
     assert!(rt; got.answers.is_empty());
     assert_eq!(rt; got.text.as_slice(), TWO_INVERTERS);
-    let got = read_by(rt.alloc(), OneByte(io::repeat(b'#').take(100000)))?;
+    let got = read_by(rt.alloc(), hash_builder, OneByte(io::repeat(b'#').take(100000)))?;
     assert_eq!(rt; got.result, Ok(none));
-    let got = read_by(rt.alloc(), io::repeat(b'#').take(MOST + 1))?;
+    let got = read_by(rt.alloc(), hash_builder, io::repeat(b'#').take(MOST + 1))?;
     assert_eq!(rt; got.result, Err(RunFault::TooLong));
     assert!(rt; got.answers.is_empty() && got.text.is_empty());
     Ok(())
@@ -112,6 +121,7 @@ fn a_script_of_most_bytes_and_one_more(rt: HostRuntime) -> Result<(), Fail> {
 /// Runs the script over the two inverters, with answers and text to devices.
 fn write_by<W: Write + Drop, V: Write + Drop>(
     alloc: Global,
+    hash_builder: RandomState,
     out: W,
     text: V,
 ) -> Result<(Result<Tally, RunFault>, W, V), AllocError> {
@@ -121,6 +131,7 @@ fn write_by<W: Write + Drop, V: Write + Drop>(
     let mut text = Counted::new(text);
     let result = run(
         alloc,
+        hash_builder,
         &lefs,
         TWO_INVERTERS,
         &mut script,
@@ -133,11 +144,13 @@ fn write_by<W: Write + Drop, V: Write + Drop>(
 #[test]
 fn writers_of_one_byte_and_interruptions(rt: HostRuntime) -> Result<(), Fail> {
     let alloc = rt.alloc();
-    let (result, plain, text) = write_by(alloc, Vec::new(alloc), Vec::new(alloc))?;
+    let hash_builder = RandomState::new(&rt)?;
+    let (result, plain, text) = write_by(alloc, hash_builder, Vec::new(alloc), Vec::new(alloc))?;
     assert_eq!(rt; result, Ok(COUNTS));
     assert_eq!(rt; plain.as_slice(), ANSWERS);
     let (result, OneByte(slow), OneByte(slow_text)) = write_by(
         alloc,
+        hash_builder,
         OneByte(Vec::new(alloc)),
         OneByte(Vec::new(alloc)),
     )?;
@@ -146,7 +159,7 @@ fn writers_of_one_byte_and_interruptions(rt: HostRuntime) -> Result<(), Fail> {
     assert_eq!(rt; slow_text.as_slice(), text.as_slice());
     let out = Interrupted::new(OneByte(Vec::new(alloc)));
     let def_out = Interrupted::new(OneByte(Vec::new(alloc)));
-    let (result, out, def_out) = write_by(alloc, out, def_out)?;
+    let (result, out, def_out) = write_by(alloc, hash_builder, out, def_out)?;
     assert_eq!(rt; result, Ok(COUNTS));
     assert_eq!(rt; out.inner.0.as_slice(), ANSWERS);
     assert_eq!(rt; def_out.inner.0.as_slice(), text.as_slice());
@@ -156,10 +169,11 @@ fn writers_of_one_byte_and_interruptions(rt: HostRuntime) -> Result<(), Fail> {
 #[test]
 fn writers_that_take_nothing(rt: HostRuntime) -> Result<(), Fail> {
     let alloc = rt.alloc();
-    let (result, _, text) = write_by(alloc, TakesNone, Vec::new(alloc))?;
+    let hash_builder = RandomState::new(&rt)?;
+    let (result, _, text) = write_by(alloc, hash_builder, TakesNone, Vec::new(alloc))?;
     assert_eq!(rt; result, Err(RunFault::Write));
     assert!(rt; text.is_empty());
-    let (result, out, _) = write_by(alloc, Vec::new(alloc), TakesNone)?;
+    let (result, out, _) = write_by(alloc, hash_builder, Vec::new(alloc), TakesNone)?;
     assert_eq!(rt; result, Err(RunFault::Write));
     assert_eq!(rt; out.as_slice(), ANSWERS);
     Ok(())
@@ -173,8 +187,9 @@ fn failing(alloc: Global, turns: usize) -> Fails<OneByte<Vec<u8>>> {
 #[test]
 fn a_writer_of_answers_that_fails_at_each_turn(rt: HostRuntime) -> Result<(), Fail> {
     let alloc = rt.alloc();
+    let hash_builder = RandomState::new(&rt)?;
     for turn in 0..ANSWERS.len() {
-        let (result, out, text) = write_by(alloc, failing(alloc, turn), Vec::new(alloc))?;
+        let (result, out, text) = write_by(alloc, hash_builder, failing(alloc, turn), Vec::new(alloc))?;
         assert_eq!(rt; result, Err(RunFault::Write), "turn {turn}");
         assert_eq!(rt;
             Some(out.inner.0.as_slice()),
@@ -183,7 +198,7 @@ fn a_writer_of_answers_that_fails_at_each_turn(rt: HostRuntime) -> Result<(), Fa
         );
         assert!(rt; text.is_empty(), "turn {turn}");
     }
-    let (result, _, _) = write_by(alloc, failing(alloc, ANSWERS.len()), Vec::new(alloc))?;
+    let (result, _, _) = write_by(alloc, hash_builder, failing(alloc, ANSWERS.len()), Vec::new(alloc))?;
     assert_eq!(rt; result, Ok(COUNTS));
     Ok(())
 }
@@ -191,9 +206,10 @@ fn a_writer_of_answers_that_fails_at_each_turn(rt: HostRuntime) -> Result<(), Fa
 #[test]
 fn a_writer_of_the_text_that_fails_at_each_turn(rt: HostRuntime) -> Result<(), Fail> {
     let alloc = rt.alloc();
-    let (_, _, whole) = write_by(alloc, Vec::new(alloc), Vec::new(alloc))?;
+    let hash_builder = RandomState::new(&rt)?;
+    let (_, _, whole) = write_by(alloc, hash_builder, Vec::new(alloc), Vec::new(alloc))?;
     for turn in 0..whole.len() {
-        let (result, out, text) = write_by(alloc, Vec::new(alloc), failing(alloc, turn))?;
+        let (result, out, text) = write_by(alloc, hash_builder, Vec::new(alloc), failing(alloc, turn))?;
         assert_eq!(rt; result, Err(RunFault::Write), "turn {turn}");
         assert_eq!(rt; out.as_slice(), ANSWERS, "turn {turn}");
         assert_eq!(rt;
@@ -202,7 +218,7 @@ fn a_writer_of_the_text_that_fails_at_each_turn(rt: HostRuntime) -> Result<(), F
             "turn {turn}"
         );
     }
-    let (result, _, _) = write_by(alloc, Vec::new(alloc), failing(alloc, whole.len()))?;
+    let (result, _, _) = write_by(alloc, hash_builder, Vec::new(alloc), failing(alloc, whole.len()))?;
     assert_eq!(rt; result, Ok(COUNTS));
     Ok(())
 }

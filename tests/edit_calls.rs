@@ -10,6 +10,7 @@ use edit_model::edit::{Done, Edit, EditRefusal};
 use edit_session::session::Session;
 use linked_list_allocator::LocalHeap;
 use std::alloc::Global;
+use std::hash::RandomState;
 use std::test::Fail;
 
 /// The edits of a session, one of each kind, each of which is accepted after those before it.
@@ -40,7 +41,7 @@ fn each_kind_of_edit_of_a_session(rt: HostRuntime) -> Result<(), Fail> {
     let alloc = rt.alloc();
     let mut lefs = LefTexts::new(alloc);
     lefs.push(PINNED)?;
-    let library = Library::read(alloc, &lefs)?;
+    let library = Library::read(alloc, RandomState::new(&rt)?, &lefs)?;
     let mut session = Session::open(alloc, &library, TWO_CONNECTED)?;
     for edit in &EDITS {
         let done = session.edit(edit)?;
@@ -74,7 +75,7 @@ fn few_statements_are_read(rt: HostRuntime) -> Result<(), Fail> {
     let alloc = rt.alloc();
     let mut lefs = LefTexts::new(alloc);
     lefs.push(INVERTER)?;
-    let library = Library::read(alloc, &lefs)?;
+    let library = Library::read(alloc, RandomState::new(&rt)?, &lefs)?;
     let text = unplaced(alloc, 10000)?;
     let mut session = Session::open(alloc, &library, &text)?;
     // an entry, what is behind it, and the first and the last of a section
@@ -121,7 +122,7 @@ fn measures_follow_the_text(rt: HostRuntime) -> Result<(), Fail> {
     let alloc = rt.alloc();
     let mut lefs = LefTexts::new(alloc);
     lefs.push(PINNED)?;
-    let library = Library::read(alloc, &lefs)?;
+    let library = Library::read(alloc, RandomState::new(&rt)?, &lefs)?;
     let mut session = Session::open(alloc, &library, TWO_CONNECTED)?;
     let bounds = Rect { x1: 600, y1: 1000, x2: 1220, y2: 1200 };
     let before = Told {
@@ -156,12 +157,13 @@ fn measures_follow_the_text(rt: HostRuntime) -> Result<(), Fail> {
 /// What a session in a heap of this many bytes answers to an edit, and its text then; none where the heap is too small to open it.
 fn edited_in(
     alloc: Global,
+    hash_builder: RandomState,
     lefs: &LefTexts,
     size: usize,
     edit: &Edit<'_>,
 ) -> Result<Option<(Result<Done, EditRefusal>, Vec<u8>)>, Fail> {
     let heap = LocalHeap::new(alloc, size)?;
-    let Ok(library) = Library::read(&heap, lefs) else {
+    let Ok(library) = Library::read(&heap, hash_builder, lefs) else {
         return Ok(None);
     };
     let Ok(mut session) = Session::open(&heap, &library, TWO_CONNECTED) else {
@@ -193,10 +195,11 @@ const FIRST_EDITS: [Edit<'static>; 10] = [
 fn each_growth_refused_leaves_the_text_of_each_edit(rt: HostRuntime) -> Result<(), Fail> {
     let mut lefs = LefTexts::new(rt.alloc());
     lefs.push(PINNED)?;
+    let hash_builder = RandomState::new(&rt)?;
     for edit in &FIRST_EDITS {
         let mut accepted = false;
         for size in 0..512usize {
-            match edited_in(rt.alloc(), &lefs, 64 * size, edit)? {
+            match edited_in(rt.alloc(), hash_builder, &lefs, 64 * size, edit)? {
                 Some((Ok(_), text)) => {
                     accepted = true;
                     assert!(rt; text.as_slice() != TWO_CONNECTED);

@@ -6,6 +6,7 @@ use def_reader::statement::Statement;
 use design_model::mode::Section;
 use design_names::names::names_of;
 use std::alloc::Allocator;
+use std::hash::RandomState;
 use std::test::Fail;
 
 const DEF: &[u8] = b"VERSION 5.8 ; DESIGN d ; UNITS DISTANCE MICRONS 1000 ;
@@ -21,9 +22,10 @@ END DESIGN
 /// The statements of a text that reads.
 pub fn records_of<'t, A: Allocator + Copy>(
     alloc: A,
+    hash_builder: RandomState,
     text: &'t [u8],
 ) -> Result<Vec<Statement<'t>, A>, &'static str> {
-    match read_def(alloc, text) {
+    match read_def(alloc, hash_builder, text) {
         Ok(_) => match statements_of(alloc, text) {
             Ok(records) => Ok(records),
             Err(_) => Err("no memory"),
@@ -34,8 +36,9 @@ pub fn records_of<'t, A: Allocator + Copy>(
 
 #[test]
 fn entries_are_found_by_their_names(rt: HostRuntime) -> Result<(), Fail> {
-    let records = records_of(rt.alloc(), DEF)?;
-    let names = names_of(rt.alloc(), &records)?;
+    let hash_builder = RandomState::new(&rt)?;
+    let records = records_of(rt.alloc(), hash_builder, DEF)?;
+    let names = names_of(rt.alloc(), hash_builder, &records)?;
     assert_eq!(rt; names.records().len(), records.len());
     let net = names.entry(Section::Nets, b"n1").ok_or("no n1")?;
     assert_eq!(rt; net.section(), Section::Nets);

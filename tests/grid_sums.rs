@@ -4,7 +4,9 @@ use cell_sums::{CellSums, GridLines};
 use design_model::geometry::{Point, Rect};
 use orient_geom::span;
 use std::alloc::{AllocError, Global};
+use std::hash::RandomState;
 use std::process::Abort;
+use std::random::RandomSource;
 use std::test::Fail;
 
 /// A rectangle on a layer.
@@ -114,14 +116,19 @@ fn area_of(drawn: &[Drawn], layer: usize, across: (i64, i64), upward: (i64, i64)
 /// Adds all rectangles to the cells between lines, and compares the sum of each cell.
 fn compare(
     alloc: Global,
-    rt: &impl Abort,
+    rt: &(impl Abort + RandomSource),
     columns: Vec<i64>,
     rows: Vec<i64>,
     drawn: &[Drawn],
 ) -> Result<(), Fail> {
     let across = ordered(alloc, &columns)?;
     let upward = ordered(alloc, &rows)?;
-    let mut sums = CellSums::new(alloc, GridLines::of(columns), GridLines::of(rows));
+    let mut sums = CellSums::new(
+        alloc,
+        RandomState::new(rt)?,
+        GridLines::of(columns),
+        GridLines::of(rows),
+    );
     for it in drawn {
         sums.add(it.layer, it.rect)?;
     }
@@ -150,7 +157,12 @@ fn a_few_cells(rt: HostRuntime) -> Result<(), Fail> {
         columns.push(line)?;
         rows.push(line / 2)?;
     }
-    let mut sums = CellSums::new(rt.alloc(), GridLines::of(columns), GridLines::of(rows));
+    let mut sums = CellSums::new(
+        rt.alloc(),
+        RandomState::new(&rt)?,
+        GridLines::of(columns),
+        GridLines::of(rows),
+    );
     let rect = span(Point { x: -3, y: -2 }, Point { x: 4, y: 1 });
     sums.add(1, rect)?;
     sums.add(1, rect)?;

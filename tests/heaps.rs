@@ -10,6 +10,7 @@ use edit_script::run::{RunFault, Tally, run};
 use edit_session::session::Session;
 use linked_list_allocator::LocalHeap;
 use std::alloc::{AllocError, Global};
+use std::hash::RandomState;
 use std::test::Fail;
 
 /// How long the comment is before the first component: so long that an edit of it needs more than is left of opening the text.
@@ -34,13 +35,14 @@ fn commented(alloc: Global) -> Result<Vec<u8>, AllocError> {
 /// where the heap is too small to open it.
 fn edited_in(
     alloc: Global,
+    hash_builder: RandomState,
     lefs: &LefTexts,
     design: &[u8],
     size: usize,
     of_text: bool,
 ) -> Result<Option<(Result<Done, EditRefusal>, Vec<u8>)>, Fail> {
     let heap = LocalHeap::new(alloc, size)?;
-    let Ok(library) = Library::read(&heap, lefs) else {
+    let Ok(library) = Library::read(&heap, hash_builder, lefs) else {
         return Ok(None);
     };
     let Ok(mut session) = Session::open(&heap, &library, design) else {
@@ -72,11 +74,12 @@ fn each_growth_refused_leaves_the_text(rt: HostRuntime) -> Result<(), Fail> {
     // A library of no text leaves no room behind that it needed while it was read.
     let lefs = LefTexts::new(rt.alloc());
     let design = commented(rt.alloc())?;
+    let hash_builder = RandomState::new(&rt)?;
     for of_text in [false, true] {
         let mut refused = false;
         let mut accepted = false;
         for size in 0..1280usize {
-            match edited_in(rt.alloc(), &lefs, &design, 16 * size, of_text)? {
+            match edited_in(rt.alloc(), hash_builder, &lefs, &design, 16 * size, of_text)? {
                 Some((Ok(_), text)) => {
                     accepted = true;
                     assert!(rt; text.as_slice() != design.as_slice());
@@ -106,6 +109,7 @@ struct Outputs {
 /// What a run of a script gives in a heap of this many bytes. What it writes doesn't come out of that heap.
 fn run_in(
     alloc: Global,
+    hash_builder: RandomState,
     lefs: &LefTexts,
     design: &[u8],
     size: usize,
@@ -115,7 +119,15 @@ fn run_in(
     let mut script = Counted::new(script);
     let mut out = Counted::new(Vec::new(alloc));
     let mut def_out = Counted::new(Vec::new(alloc));
-    let result = run(&heap, lefs, design, &mut script, &mut out, &mut def_out);
+    let result = run(
+        &heap,
+        hash_builder,
+        lefs,
+        design,
+        &mut script,
+        &mut out,
+        &mut def_out,
+    );
     Ok(Outputs {
         result,
         answers: out.into_inner(),
@@ -153,6 +165,7 @@ fn end_of(got: &Outputs, design: &[u8]) -> End {
 fn a_run_goes_on_after_an_edit_that_memory_is_refused_for(rt: HostRuntime) -> Result<(), Fail> {
     let lefs = LefTexts::new(rt.alloc());
     let design = commented(rt.alloc())?;
+    let hash_builder = RandomState::new(&rt)?;
     let scripts: [&[u8]; 2] = [
         b"place u1 460 0 N\nundo\n",
         b"text 2185 2187 a_much_longer_name\nundo\n",
@@ -162,7 +175,7 @@ fn a_run_goes_on_after_an_edit_that_memory_is_refused_for(rt: HostRuntime) -> Re
         let mut refused = 0u64;
         let mut wanting = 0u64;
         for size in 0..1280usize {
-            let got = run_in(rt.alloc(), &lefs, &design, 16 * size, script)?;
+            let got = run_in(rt.alloc(), hash_builder, &lefs, &design, 16 * size, script)?;
             match end_of(&got, &design) {
                 End::Done => done += 1,
                 End::RefusedForMemory => refused += 1,

@@ -3,6 +3,7 @@
 use cell_library::lef_texts::LefTexts;
 use cell_library::library::Library;
 use cell_library::macro_view::MacroView;
+use std::hash::RandomState;
 use std::test::Fail;
 
 /// An inverter whose pin A has a rectangle on a layer that isn't defined, and then one on `met1`.
@@ -38,7 +39,7 @@ fn counts(cell: MacroView<'_, '_>) -> (usize, usize, bool) {
 fn shapes_of_pins(rt: HostRuntime) -> Result<(), Fail> {
     let mut texts = LefTexts::new(rt.alloc());
     texts.push(INVERTER)?;
-    let library = Library::read(rt.alloc(), &texts)?;
+    let library = Library::read(rt.alloc(), RandomState::new(&rt)?, &texts)?;
     let cell = library.macro_of(b"INV").ok_or("no INV")?;
     assert_eq!(rt; sums(cell), (2, 1, 400 + 1400));
     Ok(())
@@ -48,7 +49,7 @@ fn shapes_of_pins(rt: HostRuntime) -> Result<(), Fail> {
 fn sites_and_pins(rt: HostRuntime) -> Result<(), Fail> {
     let mut texts = LefTexts::new(rt.alloc());
     texts.push(INVERTER)?;
-    let library = Library::read(rt.alloc(), &texts)?;
+    let library = Library::read(rt.alloc(), RandomState::new(&rt)?, &texts)?;
     let cell = library.macro_of(b"INV").ok_or("no INV")?;
     assert_eq!(rt; counts(cell), (2, 2, true));
     Ok(())

@@ -10,6 +10,7 @@ use design_names::names::names_of;
 use orient_geom::{pin_rect, place_rect, span};
 use place_parts::pins::{PinClause, PinParts};
 use std::alloc::Global;
+use std::hash::RandomState;
 use std::test::Fail;
 
 /// A macro of 100 by 200 units with a rectangle of a pin from (10, 20) to (30, 50), where its origin is.
@@ -19,10 +20,15 @@ PIN P PORT LAYER met1 ; RECT 0.026 0.01 0.006 0.04 ; END END P
 END BLOCK";
 
 /// The rectangle of the pin of a component with this orientation, at a point.
-fn placed_pin(alloc: Global, orient: Orient, at: Point) -> Result<Rect, Fail> {
+fn placed_pin(
+    alloc: Global,
+    hash_builder: RandomState,
+    orient: Orient,
+    at: Point,
+) -> Result<Rect, Fail> {
     let mut lefs = LefTexts::new(alloc);
     lefs.push(BLOCK)?;
-    let library = Library::read(alloc, &lefs)?;
+    let library = Library::read(alloc, hash_builder, &lefs)?;
     let cell = library.macro_of(b"BLOCK").ok_or("no BLOCK")?;
     let boundary = span(Point { x: 0, y: 0 }, cell.size(1000));
     let mut shapes = cell.shapes(1000);
@@ -34,9 +40,10 @@ fn placed_pin(alloc: Global, orient: Orient, at: Point) -> Result<Rect, Fail> {
 fn a_pin_of_a_component(rt: HostRuntime) -> Result<(), Fail> {
     let far = Point { x: 1000, y: 2000 };
     let zero = Point { x: 0, y: 0 };
-    let flipped = placed_pin(rt.alloc(), Orient::FW, far)?;
-    let turned = placed_pin(rt.alloc(), Orient::W, zero)?;
-    let plain = placed_pin(rt.alloc(), Orient::N, far)?;
+    let hash_builder = RandomState::new(&rt)?;
+    let flipped = placed_pin(rt.alloc(), hash_builder, Orient::FW, far)?;
+    let turned = placed_pin(rt.alloc(), hash_builder, Orient::W, zero)?;
+    let plain = placed_pin(rt.alloc(), hash_builder, Orient::N, far)?;
     assert_eq!(rt; (flipped.x1, flipped.y1, flipped.x2, flipped.y2), (1020, 2010, 1050, 2030));
     assert_eq!(rt; (turned.x1, turned.y1, turned.x2, turned.y2), (150, 10, 180, 30));
     assert_eq!(rt; (plain.x1, plain.y1, plain.x2, plain.y2), (1010, 2020, 1030, 2050));
@@ -70,8 +77,9 @@ fn rect_of(parts: &PinParts<'_>) -> Option<Rect> {
 
 #[test]
 fn a_pin_of_the_design(rt: HostRuntime) -> Result<(), Fail> {
-    let records = records_of(rt.alloc(), PINS)?;
-    let names = names_of(rt.alloc(), &records)?;
+    let hash_builder = RandomState::new(&rt)?;
+    let records = records_of(rt.alloc(), hash_builder, PINS)?;
+    let names = names_of(rt.alloc(), hash_builder, &records)?;
     let rows: [(&[u8], (i64, i64, i64, i64)); 2] = [
         (b"flipped", (1020, 2010, 1050, 2030)),
         (b"turned", (-50, 10, -20, 30)),

@@ -9,6 +9,7 @@ use edit_model::edit::{Done, Edit, EditCode, EditRefusal};
 use design_model::geometry::Orient;
 use edit_session::session::Session;
 use std::alloc::Global;
+use std::hash::RandomState;
 use std::test::Fail;
 
 #[test]
@@ -36,7 +37,7 @@ fn a_library_has_the_first_macro_of_each_name(rt: HostRuntime) -> Result<(), Fai
     let mut lefs = LefTexts::new(rt.alloc());
     lefs.push(INVERTER)?;
     lefs.push(b"MACRO INV SIZE 2 BY 3 ; END INV MACRO bare END bare")?;
-    let library = Library::read(rt.alloc(), &lefs)?;
+    let library = Library::read(rt.alloc(), RandomState::new(&rt)?, &lefs)?;
     assert_eq!(rt; measured(&library, b"INV"), Some((true, 920, 2720)));
     assert_eq!(rt; measured(&library, b"bare"), Some((false, 0, 0)));
     assert!(rt; library.macro_of(b"core").is_none());
@@ -66,10 +67,10 @@ fn place(x: i64) -> Edit<'static> {
 }
 
 /// The calls of a session from its opening to its text.
-fn answers(alloc: Global) -> Result<Given, Fail> {
+fn answers(alloc: Global, hash_builder: RandomState) -> Result<Given, Fail> {
     let mut lefs = LefTexts::new(alloc);
     lefs.push(INVERTER)?;
-    let library = Library::read(alloc, &lefs)?;
+    let library = Library::read(alloc, hash_builder, &lefs)?;
     let mut session = Session::open(alloc, &library, TWO_INVERTERS)?;
     let opened = session.text_len();
     let placed = session.edit(&place(1));
@@ -92,7 +93,7 @@ fn answers(alloc: Global) -> Result<Given, Fail> {
 
 #[test]
 fn a_session_from_its_opening_to_its_text(rt: HostRuntime) -> Result<(), Fail> {
-    let given = answers(rt.alloc())?;
+    let given = answers(rt.alloc(), RandomState::new(&rt)?)?;
     let done = Done { reads: 1, tests: 0 };
     let out_of_range = EditRefusal::Refused(EditCode::Number);
     assert_eq!(rt; given.opened, 252);
@@ -110,10 +111,15 @@ fn a_session_from_its_opening_to_its_text(rt: HostRuntime) -> Result<(), Fail> {
 }
 
 /// What the README shows of the library.
-fn placed(alloc: Global, lef: &[u8], def: &[u8]) -> Result<(usize, Vec<u8>), Fail> {
+fn placed(
+    alloc: Global,
+    hash_builder: RandomState,
+    lef: &[u8],
+    def: &[u8],
+) -> Result<(usize, Vec<u8>), Fail> {
     let mut lefs = LefTexts::new(alloc);
     lefs.push(lef)?;
-    let library = Library::read(alloc, &lefs)?;
+    let library = Library::read(alloc, hash_builder, &lefs)?;
     let mut session = Session::open(alloc, &library, def)?;
     session.edit(&Edit::Place {
         component: b"u1",
@@ -129,7 +135,7 @@ fn placed(alloc: Global, lef: &[u8], def: &[u8]) -> Result<(usize, Vec<u8>), Fai
 
 #[test]
 fn the_calls_that_the_readme_shows(rt: HostRuntime) -> Result<(), Fail> {
-    let (diagnostics, text) = placed(rt.alloc(), INVERTER, TWO_INVERTERS)?;
+    let (diagnostics, text) = placed(rt.alloc(), RandomState::new(&rt)?, INVERTER, TWO_INVERTERS)?;
     assert_eq!(rt; diagnostics, 2);
     assert_eq!(rt; text.len(), 273);
     Ok(())

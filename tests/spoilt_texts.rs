@@ -5,6 +5,7 @@ use cell_library::lef_texts::LefTexts;
 use cell_library::library::Library;
 use design_model::fault::{Fault, FaultCode, ReadError};
 use edit_session::session::Session;
+use std::hash::RandomState;
 use std::test::Fail;
 
 /// Where the statements of the design begin and end.
@@ -54,7 +55,7 @@ fn fault_of(len: usize) -> Option<Fault> {
 #[test]
 fn a_text_cut_short_opens_or_has_its_fault(rt: HostRuntime) -> Result<(), Fail> {
     let lefs = LefTexts::new(rt.alloc());
-    let library = Library::read(rt.alloc(), &lefs)?;
+    let library = Library::read(rt.alloc(), RandomState::new(&rt)?, &lefs)?;
     for len in 0..=TWO_INVERTERS.len() {
         let fault = match Session::open(rt.alloc(), &library, &TWO_INVERTERS[..len]) {
             Ok(session) => {
@@ -72,7 +73,7 @@ fn a_text_cut_short_opens_or_has_its_fault(rt: HostRuntime) -> Result<(), Fail> 
 #[test]
 fn a_refused_byte_is_the_fault_at_each_place(rt: HostRuntime) -> Result<(), Fail> {
     let lefs = LefTexts::new(rt.alloc());
-    let library = Library::read(rt.alloc(), &lefs)?;
+    let library = Library::read(rt.alloc(), RandomState::new(&rt)?, &lefs)?;
     for pos in 0..TWO_INVERTERS.len() {
         let mut text = TWO_INVERTERS.to_vec(rt.alloc())?;
         text[pos] = 0x7f;

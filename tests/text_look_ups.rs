@@ -5,6 +5,7 @@ use def_splice::lookups::LookUps;
 use design_model::fault::{Fault, FaultCode, ReadError};
 use design_model::mode::Section;
 use design_text::text::DesignText;
+use std::hash::RandomState;
 use std::test::Fail;
 
 const TEXT: &[u8] = b"VERSION 5.8 ;\nDESIGN d ;\nUNITS DISTANCE MICRONS 1000 ;\nCOMPONENTS 2 ;\n- u1 INV ;\n# two\n- u2 INV ;\nEND COMPONENTS\nPINS 1 ;\n- a + NET n ;\nEND PINS\nNETS 2 ;\n- n ( PIN a ) ( u1 A ) ;\n- m ( u2 A ) ;\nEND NETS\nEND DESIGN\n";
@@ -17,7 +18,7 @@ fn entry<'t>(text: &'t DesignText, section: Section, name: &[u8]) -> Option<(&'t
 
 #[test]
 fn entries_by_name(rt: HostRuntime) -> Result<(), Fail> {
-    let text = DesignText::open(rt.alloc(), TEXT)?;
+    let text = DesignText::open(rt.alloc(), RandomState::new(&rt)?, TEXT)?;
     assert_eq!(rt; text.len(), TEXT.len());
     assert_eq!(rt; entry(&text, Section::Components, b"u1"), Some((b"- u1 INV ;".as_slice(), 70)));
     assert_eq!(rt; entry(&text, Section::Components, b"u2"), Some((b"- u2 INV ;".as_slice(), 87)));
@@ -32,7 +33,7 @@ fn entries_by_name(rt: HostRuntime) -> Result<(), Fail> {
 
 #[test]
 fn sections(rt: HostRuntime) -> Result<(), Fail> {
-    let text = DesignText::open(rt.alloc(), TEXT)?;
+    let text = DesignText::open(rt.alloc(), RandomState::new(&rt)?, TEXT)?;
     assert_eq!(rt; text.entries_in(Section::Components), 2);
     assert_eq!(rt; text.entries_in(Section::Pins), 1);
     assert_eq!(rt; text.entries_in(Section::SpecialNets), 0);
@@ -45,7 +46,7 @@ fn sections(rt: HostRuntime) -> Result<(), Fail> {
 
 #[test]
 fn terminals(rt: HostRuntime) -> Result<(), Fail> {
-    let text = DesignText::open(rt.alloc(), TEXT)?;
+    let text = DesignText::open(rt.alloc(), RandomState::new(&rt)?, TEXT)?;
     assert_eq!(rt; text.is_listed(b"u1"), true);
     assert_eq!(rt; text.is_listed(b"PIN"), false);
     assert_eq!(rt; text.is_connected(b"u1", b"A"), true);
@@ -57,7 +58,7 @@ fn terminals(rt: HostRuntime) -> Result<(), Fail> {
 
 #[test]
 fn written_text(rt: HostRuntime) -> Result<(), Fail> {
-    let text = DesignText::open(rt.alloc(), TEXT)?;
+    let text = DesignText::open(rt.alloc(), RandomState::new(&rt)?, TEXT)?;
     let mut out = Counted::new(Vec::new(rt.alloc()));
     assert!(rt; text.write_to(&mut out).is_ok());
     assert_eq!(rt; out.into_inner().as_slice(), TEXT);
@@ -66,10 +67,11 @@ fn written_text(rt: HostRuntime) -> Result<(), Fail> {
 
 #[test]
 fn faults(rt: HostRuntime) -> Result<(), Fail> {
-    let none = DesignText::open(rt.alloc(), b"VERSION 5.8 ;\nEND DESIGN\n");
+    let hash_builder = RandomState::new(&rt)?;
+    let none = DesignText::open(rt.alloc(), hash_builder, b"VERSION 5.8 ;\nEND DESIGN\n");
     let no_units = Fault { code: FaultCode::NoUnits, pos: 25 };
     assert_eq!(rt; none.err(), Some(ReadError::Fault(no_units)));
-    let twice = DesignText::open(rt.alloc(), b"UNITS DISTANCE MICRONS 1000 ;\nUNITS DISTANCE MICRONS 1000 ;\nEND DESIGN\n");
+    let twice = DesignText::open(rt.alloc(), hash_builder, b"UNITS DISTANCE MICRONS 1000 ;\nUNITS DISTANCE MICRONS 1000 ;\nEND DESIGN\n");
     let repeated = Fault { code: FaultCode::Repeated, pos: 30 };
     assert_eq!(rt; twice.err(), Some(ReadError::Fault(repeated)));
     Ok(())

@@ -31,6 +31,7 @@ fn lines_of_stops(rt: HostRuntime) -> Result<(), Fail> {
     let end = fault(FaultCode::Unfinished, 0);
     for (stop, line, status) in [
         (Stop::NoText, "an argument is no text", 2),
+        (Stop::NoRandom, "no random numbers", 4),
         (Stop::CannotRead("a b.def"), "cannot read a b.def", 4),
         (Stop::CannotWrite("out.def"), "cannot write out.def", 4),
         (Stop::WriteFailed, "write failed", 4),
