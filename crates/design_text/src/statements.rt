@@ -59,14 +59,3 @@ pub(crate) fn statement_of<A: Allocator + Copy>(
     };
     Some((read.statement, tokens))
 }
-
-/// The statement of a number, read from its piece alone. Its place isn't looked for.
-pub(crate) fn statement_alone<A: Allocator + Copy>(
-    pieces: &TextPieces<A>,
-    id: StmtId,
-) -> Option<Statement<'_>>
-    ensures { option_map record_view result ≡ option_map (λ x. x.1) (look_up id (numbered_statements pieces.now)) }
-{
-    let (bytes, mode) = pieces.piece_alone(id)?;
-    Some(read_piece(bytes, mode).statement)
-}

@@ -1,6 +1,5 @@
 -- A piece of a text that is lent, and which statement of the text it is.
 use Rattle.std.specs.Prelude.{◌≡◌, ◌≤◌, ◌+◌, ℕ, List, length, map, take, drop, Option, Some, None}
-use Rattle.std.specs.Borrow.{Bor}
 use Rattle.std.specs.List.{zip}
 use Rattle.design_model.specs.declared.identifier.StmtId.{StmtId}
 use Rattle.design_model.specs.declared.mode.Mode.{Mode}
@@ -36,8 +35,3 @@ pub record IsLent (c : Content) (id : StmtId) (mode : Mode) (bytes : List ℕ) (
 abbrev pub Lends : Content → StmtId → Option LentPiece → Type 0
 Lends c id None = look_up id (numbered_statements c) ≡ None
 Lends c id (Some p) = IsLent c id p.mode p.bytes.now p.at
-
--- its bytes and its mode alone
-abbrev pub LendsAlone : Content → StmtId → Option (Bor (List ℕ) × Mode) → Type 0
-LendsAlone c id None = look_up id (numbered_statements c) ≡ None
-LendsAlone c id (Some p) = (at : ℕ) × IsLent c id p.1 p.0.now at

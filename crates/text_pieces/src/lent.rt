@@ -3,7 +3,7 @@
 ghost use Rattle.text_pieces.specs.Changes.{IsBetween};
 ghost use Rattle.text_pieces.specs.Content.{Content};
 ghost use Rattle.text_pieces.specs.KeptRecords.{AreParted, LendsKept};
-ghost use Rattle.text_pieces.specs.Lent.{Lends, LendsAlone};
+ghost use Rattle.text_pieces.specs.Lent.{Lends};
 
 use crate::prepared::PreparedText;
 use crate::text::TextPieces;
@@ -35,16 +35,6 @@ impl<A: Allocator + Copy> TextPieces<A> {
             mode: piece.mode,
             at,
         })
-    }
-
-    /// The bytes of the piece of a statement, and the mode in which it stands. Its place isn't looked for.
-    pub fn piece_alone(&self, id: StmtId) -> Option<(&[u8], Mode)>
-        ensures { LendsAlone self.now id result }
-    {
-        texts_are_read();
-        chains_lead();
-        let piece = self.table.piece(id)?;
-        Some((piece.bytes.as_slice(), piece.mode))
     }
 
     /// The bytes of the piece that is kept under a number, and the mode in which it stands: of a statement of the text, or of one
