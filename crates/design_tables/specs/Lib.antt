@@ -1,5 +1,6 @@
 pub mod AnyOrder
 pub mod Changes
+pub mod LettingGo
 pub mod Listings
 pub mod ListingViews
 pub mod Lookups
