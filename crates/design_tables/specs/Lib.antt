@@ -4,6 +4,7 @@ pub mod LettingGo
 pub mod Listings
 pub mod ListingViews
 pub mod Lookups
+pub mod MarkLists
 pub mod MarkViews
 pub mod Marks
 pub mod Prepared

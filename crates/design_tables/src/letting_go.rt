@@ -18,7 +18,7 @@ impl<A: Allocator + Copy> Listing<A> {
     fn is_unused(&self) -> bool
         ensures { result ≡ is_unused (Some (listing_view self.now)) }
     {
-        self.marks.is_empty() && self.entries == 0
+        self.marks.as_slice().is_empty() && self.entries == 0
     }
 }
 

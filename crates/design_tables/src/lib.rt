@@ -22,6 +22,7 @@
 mod edited;
 pub mod laws;
 mod letting_go;
+mod mark_list;
 mod marks;
 mod names;
 mod prepared;
