@@ -4,6 +4,7 @@ mod EditLemmas
 mod ExchangeLemmas
 mod KeyLemmas
 mod KeyedLemmas
+mod LettingLemmas
 mod ListingLemmas
 mod MarkLemmas
 mod MarkRows

@@ -1,8 +1,10 @@
 pub mod AnyOrder
 pub mod Changes
+pub mod LettingGo
 pub mod Listings
 pub mod ListingViews
 pub mod Lookups
+pub mod MarkLists
 pub mod MarkViews
 pub mod Marks
 pub mod Prepared

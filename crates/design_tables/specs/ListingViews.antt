@@ -2,10 +2,11 @@
 use Rattle.std.specs.Prelude.{ℕ, List}
 use Rattle.std.specs.declared.vec.Vec.{Vec}
 use Rattle.design_tables.specs.Listings as definitions
+use Rattle.design_tables.specs.MarkLists.{marks_listed}
 use Rattle.design_tables.specs.declared.names.Listing.{Listing}
 
 abbrev pub listing_view : {A : Type 0} → Listing A → definitions.Listing
-listing_view l = record { marks = l.marks.items; entries = l.entries }
+listing_view l = record { marks = marks_listed l.marks; entries = l.entries }
 
 abbrev pub named_view : {A : Type 0} → Vec ℕ A × Listing A → List ℕ × definitions.Listing
 named_view e = (e.0.items, listing_view e.1)

@@ -7,8 +7,8 @@
 //! one at a time by `Numbers::next`. None of these takes memory.
 //!
 //! A change is statements that go out and others that are put in. `prepare` makes what stands under their names after it beside the
-//! tables, which go on to say what they said; it may be dropped then. `commit` exchanges the two and takes no memory, and a second
-//! commit puts back what stood before.
+//! tables, which go on to say what they said. `commit` exchanges the two and takes no memory, and a second commit puts back what
+//! stood before. `let_go` ends a change that isn't needed any more, with the names of it under which nothing stands.
 //!
 //! `specs/Marks` defines how a statement has to do with names (`marks_of`), and `specs/Listings` that tables are those of numbered
 //! statements, in whatever order (`AreTablesOf`). Each contract holds for all statements of which they are the tables:
@@ -21,6 +21,8 @@
 
 mod edited;
 pub mod laws;
+mod letting_go;
+mod mark_list;
 mod marks;
 mod names;
 mod prepared;

@@ -10,6 +10,7 @@ ghost use Rattle.design_tables.specs.Marks.{same_role};
 ghost use Rattle.design_tables.specs.Listings.{found, has_name, listed, marks_in, marks_named, unlisted, with_marks};
 ghost use Rattle.design_tables.specs.Prepared.{HasNames};
 
+use crate::mark_list::MarkList;
 use crate::marks::marks_of;
 use crate::role::{Mark, Role};
 use def_reader::statement::Statement;
@@ -23,38 +24,48 @@ use std::marker::Model;
 /// section can have all statements of a text.
 #[derive(Drop)]
 pub(crate) struct Listing<A: Allocator> {
-    pub marks: Vec<Mark, A>,
+    pub marks: MarkList<A>,
     pub entries: usize,
 }
 
 impl<A: Allocator + Copy> Listing<A> {
-    /// Nothing, with room for one mark: most names have no more.
-    pub fn new(alloc: A) -> Result<Listing<A>, AllocError>
-        ensures { IfOk result (λ l. listing_view l ≡ unlisted) }
+    /// Nothing. It takes no memory.
+    pub fn new() -> Listing<A>
+        ensures { listing_view result ≡ unlisted }
     {
-        let marks = Vec::with_capacity(alloc, 1)?;
-        Ok(Listing { marks, entries: 0 })
+        Listing {
+            marks: MarkList::Empty,
+            entries: 0,
+        }
+    }
+
+    /// One mark, or one entry counted. It takes no memory.
+    fn one(mark: Mark) -> Listing<A>
+        ensures { listing_view result ≡ with_marks (mark ∷ []) unlisted }
+    {
+        if mark.role.is(Role::Member) {
+            Listing {
+                marks: MarkList::Empty,
+                entries: 1,
+            }
+        } else {
+            Listing {
+                marks: MarkList::One(mark),
+                entries: 0,
+            }
+        }
     }
 
     /// Puts one more mark behind the others, or counts one more entry. More than fit into a number are refused as memory is.
-    pub fn push(&mut self, mark: Mark) -> Result<(), AllocError>
+    pub fn push(&mut self, alloc: A, mark: Mark) -> Result<(), AllocError>
         ensures { OnOk result (listing_view self.new ≡ with_marks (mark ∷ []) (listing_view self.old)) }
     {
         if mark.role.is(Role::Member) {
             self.entries = self.entries.checked_add(1).ok_or(AllocError)?;
         } else {
-            self.marks.push(mark)?;
+            self.marks.push(alloc, mark)?;
         }
         Ok(())
-    }
-
-    /// One mark.
-    fn one(alloc: A, mark: Mark) -> Result<Listing<A>, AllocError>
-        ensures { IfOk result (λ l. listing_view l ≡ with_marks (mark ∷ []) unlisted) }
-    {
-        let mut listing = Listing::new(alloc)?;
-        listing.push(mark)?;
-        Ok(listing)
     }
 
     /// Counts one entry less.
@@ -68,10 +79,10 @@ impl<A: Allocator + Copy> Listing<A> {
     pub fn without(&self, alloc: A, gone: &Ids<A>) -> Result<Listing<A>, AllocError>
         ensures { IfOk result (λ l. listing_view l ≡ without (is_gone gone.now.keys) (listing_view self.now)) }
     {
-        let mut marks = Vec::with_capacity(alloc, self.marks.len())?;
+        let mut marks = MarkList::Empty;
         for mark in self.marks.as_slice() {
             if !gone.contains(&mark.id.0) {
-                marks.push(*mark)?;
+                marks.push(alloc, *mark)?;
             }
         }
         let entries = self.entries;
@@ -149,8 +160,7 @@ impl<A: Allocator + Copy> NameTable<A> {
         }
         let alloc = self.allocator();
         let name = Vec::from_slice(alloc, name)?;
-        let listing = Listing::new(alloc)?;
-        self.names.insert(name, listing)?;
+        self.names.insert(name, Listing::new())?;
         Ok(())
     }
 
@@ -161,7 +171,7 @@ impl<A: Allocator + Copy> NameTable<A> {
         let alloc = self.allocator();
         match self.get(name) {
             Some(listing) => listing.without(alloc, gone),
-            None => Listing::new(alloc),
+            None => Ok(Listing::new()),
         }
     }
 
@@ -201,14 +211,13 @@ impl<A: Allocator + Copy> NameTable<A> {
         ensures there { OnOk result ((n : List ℕ) → has_name n self.new ≡ (has_name n self.old || bytes_eq n name.now)) }
         ensures put { OnOk result ((n : List ℕ) → listed n self.new ≡ with_marks (marks_named n ((name.now, mark) ∷ [])) (listed n self.old)) }
     {
+        let alloc = self.allocator();
         match self.names.get_mut(name) {
-            Some(listing) => return listing.push(mark),
+            Some(listing) => return listing.push(alloc, mark),
             None => {}
         }
-        let alloc = self.allocator();
-        let listing = Listing::one(alloc, mark)?;
         let name = Vec::from_slice(alloc, name)?;
-        self.names.insert(name, listing)?;
+        self.names.insert(name, Listing::one(mark))?;
         Ok(())
     }
 

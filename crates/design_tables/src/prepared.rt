@@ -40,7 +40,7 @@ impl From<AllocError> for PrepareError {
 /// A change of tables that is prepared.
 #[derive(Drop)]
 pub struct PreparedTables<A: Allocator + Copy = Global> {
-    names: NameTable<A>,
+    pub(crate) names: NameTable<A>,
 }
 
 impl<A: Allocator + Copy> Model for PreparedTables<A> {
