@@ -7,6 +7,7 @@ mod design_wires;
 mod device_runs;
 mod devices;
 mod edit_calls;
+mod edits_in_a_heap;
 mod entry_names;
 mod grid_sums;
 mod heaps;

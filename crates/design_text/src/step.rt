@@ -155,7 +155,9 @@ impl<A: Allocator + Copy> DesignText<A> {
     {
         records_are_read::<Statement<'_>>();
         self.text_reads();
-        self.pieces.let_go(step.text);
+        let Step { text, tables } = step;
+        self.pieces.let_go(text);
+        self.tables.let_go(tables);
     }
 
     /// Lets go of what is kept for a change that wasn't prepared to its end.
