@@ -1,5 +1,5 @@
--- Marks that go under their names one after the other.
-use Rattle.std.proofs.Common.{◌≡◌, ℕ, List, [], ◌++◌, filter, map, not, sym, ap, ap₂, ◌∙◌, arith, append_assoc, cond}
+-- Marks that go under their names one after the other, and lists of them.
+use Rattle.std.proofs.Common.{◌≡◌, ℕ, List, ◌++◌, filter, map, not, sym, ap, ap₂, ◌∙◌, arith, append_assoc, cond}
 use Rattle.std.specs.Str.{bytes_eq}
 use Rattle.std.proofs.lemmas.List.{map-append}
 use Rattle.std.proofs.lemmas.List.Elements.{filter-append}
@@ -10,7 +10,6 @@ use Rattle.design_tables.specs.Listings.{Listing, is_member, listed, marks_named
 use Rattle.design_tables.specs.PutMarks.{ArePut, numbered}
 use Rattle.design_tables.specs.declared.role.Mark.{Mark}
 use Rattle.design_tables.specs.declared.role.Role.{Role}
-use Rattle.design_tables.proofs.ListingLemmas.{none_more}
 
 pub with_both : (ms more : List Mark) (l : Listing) → with_marks more (with_marks ms l) ≡ with_marks (ms ++ more) l
 with_both ms more l =
@@ -23,15 +22,15 @@ named_both n ms more =
     ap (map (λ (m : List ℕ × Mark). m.1)) (filter-append (λ (m : List ℕ × Mark). bytes_eq m.0 n) ms more)
     ∙ map-append (λ (m : List ℕ × Mark). m.1) (of_name (λ (m : List ℕ × Mark). m.0) n ms) (of_name (λ (m : List ℕ × Mark). m.0) n more)
 
--- marks put one list after the other
-pub put_none : (id : StmtId) (es : List (List ℕ × Listing)) → ArePut id [] es es
-put_none id es = record { under = λ n. sym (none_more (listed n es)) }
+pub numbered_both : (n : List ℕ) (id : StmtId) (ms more : List (List ℕ × Role)) → marks_named n (numbered id (ms ++ more)) ≡ marks_named n (numbered id ms) ++ marks_named n (numbered id more)
+numbered_both n id ms more = ap (marks_named n) (map-append (λ (m : List ℕ × Role). (m.0, record { role = m.1; id = id })) ms more) ∙ named_both n (numbered id ms) (numbered id more)
 
+-- marks put one list after the other
 pub put_both : (id : StmtId) (ms more : List (List ℕ × Role)) (old then new : List (List ℕ × Listing)) → ArePut id ms old then → ArePut id more then new → ArePut id (ms ++ more) old new
 put_both id ms more old then new first second = record {
   under = λ n.
       second.under n
       ∙ ap (with_marks (marks_named n (numbered id more))) (first.under n)
       ∙ with_both (marks_named n (numbered id ms)) (marks_named n (numbered id more)) (listed n old)
-      ∙ ap (λ ks. with_marks ks (listed n old)) (sym (ap (marks_named n) (map-append (λ (m : List ℕ × Role). (m.0, record { role = m.1; id = id })) ms more) ∙ named_both n (numbered id ms) (numbered id more)));
+      ∙ ap (λ ks. with_marks ks (listed n old)) (sym (numbered_both n id ms more));
 }

@@ -3,7 +3,6 @@ use Rattle.std.proofs.Common.{◌≡◌, ◌⊎◌, inl, inr, ℕ, ◌+◌, ◌�
 use Rattle.std.specs.Prelude.{IfOk, OnOk, count_by, nat_lt}
 use Rattle.std.specs.Option.{option_to_list}
 use Rattle.std.proofs.lemmas.Bool.Decides.{nat_tests}
-use Rattle.std.proofs.lemmas.List.{map-append}
 use Rattle.std.proofs.lemmas.List.Elements.{filter-append}
 use Rattle.std.proofs.lemmas.List.Sums.{sum_by-cons}
 use Rattle.design_model.specs.declared.identifier.StmtId.{StmtId}
@@ -16,7 +15,7 @@ use Rattle.design_tables.specs.declared.role.Mark.{Mark}
 use Rattle.design_tables.specs.declared.role.Role.{Role}
 use Rattle.design_tables.proofs.CountLemmas.{count_both}
 use Rattle.design_tables.proofs.ListingLemmas.{found_none, named_one, own_name}
-use Rattle.design_tables.proofs.MarkLemmas.{named_both, with_both}
+use Rattle.design_tables.proofs.MarkLemmas.{numbered_both, with_both}
 use Rattle.design_tables.proofs.TableLemmas.{same_with, under_both, under_one}
 
 pub if_ok_on : {X E P : Type 0} (r : Result X E) (F G : X → Type 0) → ((x : X) → P → F x → G x) → OnOk r P → IfOk r F → IfOk r G
@@ -78,9 +77,6 @@ word_put id role w word old new e put = rw (← e) (record { under = put })
 
 same_then : (a b c : Listing) → SameListing a b → SameListing b c → SameListing a c
 same_then a b c first second = record { marks = λ test. first.marks test ∙ second.marks test; entries = first.entries ∙ second.entries }
-
-numbered_both : (n : List ℕ) (id : StmtId) (ms more : List (List ℕ × Role)) → marks_named n (numbered id (ms ++ more)) ≡ marks_named n (numbered id ms) ++ marks_named n (numbered id more)
-numbered_both n id ms more = ap (marks_named n) (map-append (λ (m : List ℕ × Role). (m.0, record { role = m.1; id = id })) ms more) ∙ named_both n (numbered id ms) (numbered id more)
 
 -- one statement more
 pub one_added : (xs : List (StmtId × Record)) (id : StmtId) (r : Record) (old new : List (List ℕ × Listing)) → AreTablesOf xs old → ArePut id (entry_marks (entry_of r) ++ option_to_list (own_mark r)) old new
