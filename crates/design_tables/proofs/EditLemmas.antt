@@ -10,15 +10,13 @@ use Rattle.design_tables.specs.Changes.{IsEdited, edited, less, or_else_listed, 
 use Rattle.design_tables.specs.Listings.{Listing, found, has_name, is_member, listed, marks_named, unlisted, with_marks}
 use Rattle.design_tables.specs.Marks.{same_role}
 use Rattle.design_tables.specs.MarkViews.{name_mark_view}
+use Rattle.design_tables.specs.PutMarks.{numbered}
 use Rattle.design_tables.specs.declared.marks.NameMark.{NameMark}
 use Rattle.design_tables.specs.declared.role.Mark.{Mark}
 use Rattle.design_tables.specs.declared.role.Role.{Role}
 use Rattle.design_tables.specs.declared.role.Role.TheVariants as roles
 use Rattle.design_tables.proofs.ListingLemmas.{found_none, found_some, named_one, none_more, or_both, own_name, same_name}
 use Rattle.design_tables.proofs.MarkLemmas.{named_both, with_both}
-
-abbrev pub numbered : StmtId → List (List ℕ × Role) → List (List ℕ × Mark)
-numbered id ms = map (λ (m : List ℕ × Role). (m.0, record { role = m.1; id = id })) ms
 
 -- the next mark of a statement
 pub next_mark : (id : StmtId) (all : List NameMark) (i : ℕ) (d : NameMark) (before : List (List ℕ × Mark)) → i < length all

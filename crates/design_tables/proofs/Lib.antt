@@ -10,6 +10,7 @@ mod MarkLemmas
 mod MarkRows
 mod Orders
 mod OnceLemmas
+mod PutLemmas
 mod RecordLemmas
 mod TableLemmas
 mod TurnLemmas

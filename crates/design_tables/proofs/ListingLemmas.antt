@@ -236,10 +236,6 @@ copied_there es n name l there = by (found n es) refl (bytes_eq n name) refl
         let never : Some (listed n es) ≡ None = sym some ∙ at in
         cc
 
-pub on_ok_both : {X E P Q R : Type 0} (r : Result X E) → (P → Q → R) → OnOk r P → OnOk r Q → OnOk r R
-on_ok_both (Ok x) f p q = f p q
-on_ok_both (Err e) f p q = p
-
 -- one mark under a name that has no place
 pub listed_new : (es : List (List ℕ × Listing)) (n name : List ℕ) (m : Mark) → has_name name es ≡ false
     → or_else_listed (found n es) (if bytes_eq n name then with_marks (m ∷ []) unlisted else unlisted) ≡ with_marks (marks_named n ((name, m) ∷ [])) (listed n es)

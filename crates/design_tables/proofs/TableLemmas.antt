@@ -13,7 +13,7 @@ use Rattle.design_model.specs.declared.mode.Section.{Section}
 use Rattle.design_model.specs.EnumWords.{section_word}
 use Rattle.def_grammar.specs.Records.{Entry, Record, end_section, entry, entry_of, in_properties, name_of, section_of, top}
 use Rattle.def_grammar.specs.Top.{die_area, end_design, extension, gcell_grid, header, kept, properties, row, tracks, units}
-use Rattle.design_tables.specs.Listings.{AreTablesOf, Listing, SameListing, is_member, listed, marks_in, marks_named, marks_under, unlisted, with_marks}
+use Rattle.design_tables.specs.Listings.{AreTablesOf, Listing, SameListing, is_member, listed, marks_in, marks_named, marks_under, with_marks}
 use Rattle.design_tables.specs.Lookups.{Finds, FindsAll, entries_of, ids_with, is_number, is_section}
 use Rattle.design_tables.specs.Marks.{entry_mark, entry_marks, marks_of, same_role, terminal_marks, terminals_of}
 use Rattle.design_tables.specs.declared.role.Mark.{Mark}
@@ -21,7 +21,7 @@ use Rattle.design_tables.specs.declared.role.Role.{Role}
 use Rattle.design_tables.specs.declared.role.Role.TheVariants as roles
 use Rattle.design_tables.proofs.CountLemmas.{count_both, no_role, no_terminals, of_marks}
 use Rattle.design_tables.proofs.ListingLemmas.{bytes_eq_sym}
-use Rattle.design_tables.proofs.MarkLemmas.{named_both, with_both}
+use Rattle.design_tables.proofs.MarkLemmas.{named_both}
 use Rattle.design_tables.proofs.RecordLemmas.{any_agrees, has_role, is_marked}
 
 pub same_with : (ms : List Mark) (a b : Listing) → SameListing a b → SameListing (with_marks ms a) (with_marks ms b)
@@ -37,15 +37,6 @@ under_both n xs ys = ap (marks_named n) (flat_map-append marks_in xs ys) ∙ nam
 
 pub under_one : (n : List ℕ) (x : StmtId × Record) → marks_under n (x ∷ []) ≡ marks_named n (marks_in x)
 under_one n x = ap (marks_named n) (append-nil (marks_in x))
-
--- one statement more
-pub one_added : (xs : List (StmtId × Record)) (x : StmtId × Record) (old new : List (List ℕ × Listing)) → AreTablesOf xs old → ((n : List ℕ) → listed n new ≡ with_marks (marks_named n (marks_in x)) (listed n old))
-    → AreTablesOf (xs ++ x ∷ []) new
-one_added xs x old new are added n =
-    let ms = marks_named n (marks_in x) in
-    let all : with_marks (marks_under n (xs ++ x ∷ [])) unlisted ≡ with_marks ms (with_marks (marks_under n xs) unlisted) =
-    ap (λ ks. with_marks ks unlisted) (under_both n xs (x ∷ []) ∙ ap (λ ks. marks_under n xs ++ ks) (under_one n x)) ∙ sym (with_both (marks_under n xs) ms unlisted) in
-    rw (added n, all) (same_with ms (listed n old) (with_marks (marks_under n xs) unlisted) (are n))
 
 -- where as many pass, some do
 module _ {X : Type 0} (test : X → Bool) where

@@ -8,4 +8,5 @@ pub mod MarkLists
 pub mod MarkViews
 pub mod Marks
 pub mod Prepared
+pub mod PutMarks
 pub mod TableViews

@@ -19,6 +19,7 @@
 //! or UNITS not at all.
 #![tactic(auto)]
 
+mod added;
 mod edited;
 pub mod laws;
 mod letting_go;

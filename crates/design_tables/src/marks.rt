@@ -62,7 +62,7 @@ pub(crate) fn key_mark<'t>(statement: &Statement<'t>) -> Option<NameMark<'t>>
 }
 
 /// The mark of a statement under its own name or word.
-fn own_mark<'t>(statement: &Statement<'t>) -> Option<NameMark<'t>>
+pub(crate) fn own_mark<'t>(statement: &Statement<'t>) -> Option<NameMark<'t>>
     ensures { option_map name_mark_view result ≡ own_mark (record_view statement.now) }
 {
     match statement {
@@ -75,7 +75,7 @@ fn own_mark<'t>(statement: &Statement<'t>) -> Option<NameMark<'t>>
 }
 
 /// The mark of a net that lists a terminal.
-fn terminal_mark<'t>(terminal: &Terminal<'t>) -> Option<NameMark<'t>>
+pub(crate) fn terminal_mark<'t>(terminal: &Terminal<'t>) -> Option<NameMark<'t>>
     ensures { option_map name_mark_view result ≡ terminal_mark (terminal_view terminal.now) }
 {
     let pin = terminal.pin.bytes;
@@ -128,7 +128,7 @@ fn push_terminals<'t, A: Allocator + Copy>(
 }
 
 /// The terminals of an entry. Entries of other sections than NETS and SPECIALNETS, and those of MUSTJOIN, have none.
-fn terminals_of<'t>(entry: &Entry<'t>) -> Option<Parts<'t, Terminal<'t>>>
+pub(crate) fn terminals_of<'t>(entry: &Entry<'t>) -> Option<Parts<'t, Terminal<'t>>>
     ensures { MatchOption result (terminals_of (entry_view entry.now) ≡ []) (λ x. terminals_of (entry_view entry.now) ≡ terminals_left x) }
 {
     match entry {

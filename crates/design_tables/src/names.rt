@@ -1,20 +1,16 @@
 //! A table of names, with the marks of statements under each.
 
-ghost use Rattle.std.specs.Prelude.{◌≡◌, ◌∷◌, ◌||◌, [], ℕ, List, IfOk, OnOk, Some, count_by, if◌then◌else◌};
+ghost use Rattle.std.specs.Prelude.{◌≡◌, ◌∷◌, ◌||◌, [], ℕ, List, IfOk, OnOk, Some, count_by, if◌then◌else◌, not};
 ghost use Rattle.std.specs.Option.{option_map};
 ghost use Rattle.std.specs.Str.{bytes_eq};
-ghost use Rattle.def_reader.specs.StatementViews.{record_view};
 ghost use Rattle.design_tables.specs.ListingViews.{listing_view};
 ghost use Rattle.design_tables.specs.Changes.{is_gone, less, or_else_listed, without};
 ghost use Rattle.design_tables.specs.Marks.{same_role};
-ghost use Rattle.design_tables.specs.Listings.{found, has_name, listed, marks_in, marks_named, unlisted, with_marks};
+ghost use Rattle.design_tables.specs.Listings.{found, has_name, listed, marks_named, unlisted, with_marks};
 ghost use Rattle.design_tables.specs.Prepared.{HasNames};
 
 use crate::mark_list::MarkList;
-use crate::marks::marks_of;
 use crate::role::{Mark, Role};
-use def_reader::statement::Statement;
-use design_model::identifier::StmtId;
 use indexmap::{IndexMap, IndexSet};
 use std::alloc::{AllocError, Allocator, Global};
 use std::hash::{BuildHasherDefault, FoldHasher, RandomState};
@@ -206,30 +202,22 @@ impl<A: Allocator + Copy> NameTable<A> {
         }
     }
 
-    /// Puts a mark under a name.
-    pub fn put(&mut self, name: &[u8], mark: Mark) -> Result<(), AllocError>
+    /// Puts a mark under a name, and answers whether the name is new.
+    pub fn put(&mut self, name: &[u8], mark: Mark) -> Result<bool, AllocError>
         ensures there { OnOk result ((n : List ℕ) → has_name n self.new ≡ (has_name n self.old || bytes_eq n name.now)) }
         ensures put { OnOk result ((n : List ℕ) → listed n self.new ≡ with_marks (marks_named n ((name.now, mark) ∷ [])) (listed n self.old)) }
+        ensures fresh { IfOk result (λ is_new. is_new ≡ not (has_name name.now self.old)) }
     {
         let alloc = self.allocator();
         match self.names.get_mut(name) {
-            Some(listing) => return listing.push(alloc, mark),
+            Some(listing) => {
+                listing.push(alloc, mark)?;
+                return Ok(false);
+            }
             None => {}
         }
         let name = Vec::from_slice(alloc, name)?;
         self.names.insert(name, Listing::one(mark))?;
-        Ok(())
-    }
-
-    /// Puts the marks of a statement under their names. A refused growth may leave some of them put.
-    pub fn add(&mut self, id: StmtId, statement: &Statement<'_>) -> Result<(), AllocError>
-        ensures { OnOk result ((n : List ℕ) → listed n self.new ≡ with_marks (marks_named n (marks_in (id, record_view statement.now))) (listed n self.old)) }
-    {
-        let marks = marks_of(self.allocator(), statement)?;
-        for mark in marks.as_slice() {
-            let role = mark.role;
-            self.put(mark.name, Mark { role, id })?;
-        }
-        Ok(())
+        Ok(true)
     }
 }

@@ -94,7 +94,10 @@ impl<A: Allocator + Copy> Tables<A> {
         ensures repeated { IfOk result (λ repeats. repeats ≡ is_repeated self.new (id, record_view statement.now)) }
         ensures once { (xs : List (TheStmtId × Record)) → AreTablesOf xs self.old → HaveKeysOnce xs → IfOk result (λ repeats. (repeats ≡ false) ↔ HaveKeysOnce (xs ++ (id, record_view statement.now) ∷ [])) }
     {
-        self.names.add(id, statement)?;
+        let is_new = self.names.add(id, statement)?;
+        if is_new {
+            return Ok(false);
+        }
         Ok(self.names.is_repeated(statement))
     }
 

@@ -2,7 +2,7 @@ use Rattle.std.proofs.Common.{◌++◌, ℕ, List, map, take}
 use Rattle.design_tables.specs.Changes.{IsEdited, is_gone}
 use Rattle.design_tables.specs.MarkViews.{name_mark_view}
 use Rattle.design_tables.specs.declared.role.Mark.{Mark}
-use Rattle.design_tables.proofs.EditLemmas.{numbered}
+use Rattle.design_tables.specs.PutMarks.{numbered}
 use Rattle.design_tables.proofs.names.NameTable.put_in.Given as goal
 
 abbrev pub invariant-loop-mark : goal.invariant-loop-mark

@@ -1,7 +1,8 @@
 use Rattle.std.proofs.Common.{◌++◌, map, take}
 use Rattle.design_tables.specs.Changes.{is_gone}
 use Rattle.design_tables.specs.MarkViews.{name_mark_view}
-use Rattle.design_tables.proofs.EditLemmas.{next_out, numbered}
+use Rattle.design_tables.specs.PutMarks.{numbered}
+use Rattle.design_tables.proofs.EditLemmas.{next_out}
 use Rattle.design_tables.proofs.names.NameTable.take_out.Goals as goal
 
 pub loop-mark-preserved : goal.loop-mark-preserved
