@@ -33,7 +33,7 @@ impl<A: Allocator + Copy> NameTable<A> {
         }
     }
 
-    /// Takes a name out under which nothing stands. Its place goes to the last name, so that this takes as long however many there are.
+    /// Takes a name out if nothing stands under it. The last name goes to its place, so more names take no longer.
     fn let_go_of(&mut self, name: &[u8])
         ensures same { (n : List ℕ) → listed n self.new ≡ listed n self.old }
         ensures gone { (n : List ℕ) → is_unused (found n self.new) ≡ (not (bytes_eq n name.now) && is_unused (found n self.old)) }
@@ -43,7 +43,7 @@ impl<A: Allocator + Copy> NameTable<A> {
         }
     }
 
-    /// Takes the names of a change out under which nothing stands.
+    /// Takes out those names of a change under which nothing stands.
     fn let_go_all(&mut self, change: &NameTable<A>)
         ensures same { (n : List ℕ) → listed n self.new ≡ listed n self.old }
         ensures gone { AreInUse change.now self.new }

@@ -102,7 +102,7 @@ impl<A: Allocator + Copy> Listing<A> {
 /// Numbers of statements.
 pub(crate) type Ids<A> = IndexSet<usize, BuildHasherDefault<FoldHasher>, A>;
 
-/// Names with what stands under them, in the order in which they came.
+/// Names with what stands under them.
 #[derive(Drop)]
 pub(crate) struct NameTable<A: Allocator + Copy = Global> {
     pub names: IndexMap<Vec<u8, A>, Listing<A>, RandomState, A>,
