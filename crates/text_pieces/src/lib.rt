@@ -3,11 +3,12 @@
 //! Begin with `TextPieces::open`, which reads each statement of a text once, and keeps it with the blanks and comments before it
 //! as a piece of its own. `statement`, `mode` and `offset` answer by a statement's number, `find_at` finds the one at a position,
 //! `first`, `next` and `prev` go from one to another, and `write_to` writes the text. `TextPieces::open_telling` tells each statement as it
-//! is read, with its number, to what is `Told`. `TextPieces::prepare` prepares a change
-//! beside the text, as a `PreparedText`, which says how many statements were read for it, which numbers go out, and which come
-//! in; `TextPieces::commit` makes it, takes no memory, and leaves the change that takes it back. One that is dropped changes
-//! nothing, but the pieces that were made for it are kept with the text. `prepare_all` prepares several cuts as one change.
-//! Changes may be kept while others are prepared and made, and be made once those are taken back: the laws of `lasting` say so.
+//! is read, with its number, to what is `Told`, and takes a text as a `Block`, of which pieces are parts. `TextPieces::prepare`
+//! prepares a change beside the text, as a `PreparedText`, which says how many statements were read for it, which numbers go out,
+//! and which come in; `TextPieces::commit` makes it, takes no memory, and leaves the change that takes it back. `let_go` ends a
+//! change, made or not, with the pieces that are kept for it alone; one that is dropped changes nothing, but they stay with the
+//! text. `prepare_all` prepares several cuts as one change. Changes may be kept while others are prepared and made, and be made
+//! once those are taken back: the laws of `lasting` say so.
 //!
 //! A text in pieces is seen as `Content` of `specs/Content`: `text_of` is its text, and `specs/Statements` says which statements
 //! stand under which numbers. Its invariant is `IsText`: the pieces are chained, and the text reads but for what a text has once
