@@ -1,8 +1,10 @@
 //! Tests that are run and not proved: of sessions and of runs of scripts, of libraries and LEF texts, of names, of tokens, of pins, of
-//! texts that are read again, kept in pieces or asked for their statements, of the pieces of wires, rectangles that meet, sets of shapes, and sums of areas by the cells of a grid.
+//! texts that are read again, kept in pieces or asked for their statements, of the pieces of wires, rectangles that meet, sets of shapes, and sums of areas by the cells of a grid,
+//! and of a design whose names were made to collide.
 //! They try what no case folder can hold and what no program calls.
 #![tactic(auto)]
 
+mod colliding_names;
 mod design_wires;
 mod device_runs;
 mod devices;
