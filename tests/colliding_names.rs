@@ -7,7 +7,7 @@ use std::hash::{BuildHasher, BuildHasherDefault, FoldHasher, RandomState};
 use std::test::Fail;
 
 /// How many components the design has.
-const COUNT: usize = 200_000;
+const COUNT: usize = 20_000;
 
 /// How many bytes the line of a component has.
 const LINE: usize = 6 * BLOCKS.len() + 9;
