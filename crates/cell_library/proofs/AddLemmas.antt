@@ -7,7 +7,7 @@ use Rattle.design_model.specs.declared.fault.Fault.{Fault}
 use Rattle.statement_model.specs.Tokens.{Lexed, left_from, tokens}
 use Rattle.statement_model.specs.Reading.{read_at}
 use Rattle.statement_reader.proofs.SoFar.{SoFar, so_far_start, so_far_on, so_far_fault, so_far_ends}
-use Rattle.lef_grammar.specs.LefRecords.{Block, outermost, LefRecord, outside, in_layer, in_site, in_via, in_rule, in_rule_layer, in_macro, in_pin, in_port, in_kept, lef, first_fault, fault_on, read_lef, read_lef_at}
+use Rattle.lef_grammar.specs.LefRecords.{Block, outermost, LefRecord, outside, in_layer, in_site, in_via, in_rule, in_rule_layer, in_macro, in_pin, in_port, in_kept, lef, fault_on, read_lef, read_lef_at}
 use Rattle.lef_grammar.specs.Library.{Library, with_text}
 use Rattle.lef_reader.proofs.FaultLemmas.{fault_here, fault_later, lef_fault, lef_reads, own_fault, own_record}
 use Rattle.cell_library.specs.LibraryViews.{noted}

@@ -10,6 +10,7 @@ use Rattle.std.proofs.lemmas.Iterator.Adapters.{position_from-zero}
 use Rattle.std.proofs.lemmas.Slice.Eq.{bytes_eq-Decides}
 use Rattle.indexmap.specs.IndexMap.{insert_entry}
 use Rattle.form_meanings.specs.Firsts.{find_named, has_name, with_first}
+use Rattle.name_keys.specs.declared.name.Name.{Name}
 use Rattle.cell_library.specs.Naming.{entries_view, entry_seen, name_of, named, place_of, seen_by}
 use Rattle.lefdef_tokens.specs.Views.{word_view}
 
@@ -17,15 +18,15 @@ bytes_eq_sym : (a b : List ℕ) → bytes_eq a b ≡ bytes_eq b a
 bytes_eq_sym a b = grind (arith, bytes_eq-Decides)
 
 -- a key is the name
-abbrev pub is_key : List ℕ → Bor (List ℕ) → Bool
-is_key name k = bytes_eq name k.now
+abbrev pub is_key : List ℕ → Name → Bool
+is_key name k = bytes_eq name k.bytes.now
 
 module _ (D : Type 0) where
   abbrev Entry : Type 0
-  Entry = Bor (List ℕ) × D
+  Entry = Name × D
 
   abbrev seen : Entry → List ℕ × D
-  seen e = (e.0.now, e.1)
+  seen e = (e.0.bytes.now, e.1)
 
   value_of : List ℕ × D → D
   value_of e = e.1
@@ -37,8 +38,8 @@ module _ (D : Type 0) where
   pub found : (name : List ℕ) (es : List Entry) → lookup (is_key name) es ≡ named (entries_view es) name
   found name [] = refl
   found name (e ∷ es) =
-      found_step (bytes_eq name e.0.now) e (lookup (is_key name) es) (find_named name_of (entries_view es) name) (found name es)
-      ∙ ap (λ (b : Bool). option_map (λ (x : List ℕ × D). x.1) (if b then Some (seen e) else find_named name_of (entries_view es) name)) (bytes_eq_sym name e.0.now)
+      found_step (bytes_eq name e.0.bytes.now) e (lookup (is_key name) es) (find_named name_of (entries_view es) name) (found name es)
+      ∙ ap (λ (b : Bool). option_map (λ (x : List ℕ × D). x.1) (if b then Some (seen e) else find_named name_of (entries_view es) name)) (bytes_eq_sym name e.0.bytes.now)
 
   taken_step : (b : Bool) (v : D) (r : Option D) (q : Bool) → is_some r ≡ q → is_some (cond b (Some v) r) ≡ (b || q)
   taken_step true v r q h = refl
@@ -47,26 +48,26 @@ module _ (D : Type 0) where
   taken : (name : List ℕ) (es : List Entry) → is_some (lookup (is_key name) es) ≡ list_any (has_name name_of name) (entries_view es)
   taken name [] = refl
   taken name (e ∷ es) =
-      taken_step (bytes_eq name e.0.now) e.1 (lookup (is_key name) es) (list_any (has_name name_of name) (entries_view es)) (taken name es)
-      ∙ ap (λ (b : Bool). b || list_any (has_name name_of name) (entries_view es)) (bytes_eq_sym name e.0.now)
+      taken_step (bytes_eq name e.0.bytes.now) e.1 (lookup (is_key name) es) (list_any (has_name name_of name) (entries_view es)) (taken name es)
+      ∙ ap (λ (b : Bool). b || list_any (has_name name_of name) (entries_view es)) (bytes_eq_sym name e.0.bytes.now)
 
-  module _ (k : Bor (List ℕ)) (v : D) where
+  module _ (k : Name) (v : D) where
     put_step : (b : Bool) (e : Entry) (es more : List Entry) (r : Option D) → is_some (cond b (Some e.1) r) ≡ false → (is_some r ≡ false → more ≡ es ++ (k, v) ∷ []) → (if b then ((e.0, v) ∷ es) else (e ∷ more)) ≡ e ∷ (es ++ (k, v) ∷ [])
     put_step true e es more r h i = cc
     put_step false e es more r h i = ap (λ z. e ∷ z) (i h)
 
-    put_last : (es : List Entry) → is_some (lookup (is_key k.now) es) ≡ false → insert_entry (λ (a b : Bor (List ℕ)). bytes_eq a.now b.now) es k v ≡ es ++ (k, v) ∷ []
+    put_last : (es : List Entry) → is_some (lookup (is_key k.bytes.now) es) ≡ false → insert_entry (λ (a b : Name). bytes_eq a.bytes.now b.bytes.now) es k v ≡ es ++ (k, v) ∷ []
     put_last [] h = refl
-    put_last (e ∷ es) h = put_step (bytes_eq k.now e.0.now) e es (insert_entry (λ (a b : Bor (List ℕ)). bytes_eq a.now b.now) es k v) (lookup (is_key k.now) es) h (put_last es)
+    put_last (e ∷ es) h = put_step (bytes_eq k.bytes.now e.0.bytes.now) e es (insert_entry (λ (a b : Name). bytes_eq a.bytes.now b.bytes.now) es k v) (lookup (is_key k.bytes.now) es) h (put_last es)
 
-    pub added_new : (es new : List Entry) → is_some (lookup (is_key k.now) es) ≡ false → new ≡ insert_entry (λ (a b : Bor (List ℕ)). bytes_eq a.now b.now) es k v
-        → entries_view new ≡ with_first name_of (entries_view es) (k.now, v)
+    pub added_new : (es new : List Entry) → is_some (lookup (is_key k.bytes.now) es) ≡ false → new ≡ insert_entry (λ (a b : Name). bytes_eq a.bytes.now b.bytes.now) es k v
+        → entries_view new ≡ with_first name_of (entries_view es) (k.bytes.now, v)
     added_new es new h e =
-        let fresh : list_any (has_name name_of k.now) (entries_view es) ≡ false = sym (taken k.now es) ∙ h in
+        let fresh : list_any (has_name name_of k.bytes.now) (entries_view es) ≡ false = sym (taken k.bytes.now es) ∙ h in
         rw (e, put_last es h, map-append seen es ((k, v) ∷ []), fresh) refl
 
-    pub added_old : (es : List Entry) → is_some (lookup (is_key k.now) es) ≡ true → entries_view es ≡ with_first name_of (entries_view es) (k.now, v)
-    added_old es h = let old : list_any (has_name name_of k.now) (entries_view es) ≡ true = sym (taken k.now es) ∙ h in rw old refl
+    pub added_old : (es : List Entry) → is_some (lookup (is_key k.bytes.now) es) ≡ true → entries_view es ≡ with_first name_of (entries_view es) (k.bytes.now, v)
+    added_old es h = let old : list_any (has_name name_of k.bytes.now) (entries_view es) ≡ true = sym (taken k.bytes.now es) ∙ h in rw old refl
 
   place_step : (b : Bool) (r q : Option ℕ) → r ≡ option_map suc q → cond b (Some 0) r ≡ (if b then Some 0 else option_map suc q)
   place_step true r q i = refl
@@ -76,16 +77,16 @@ module _ (D : Type 0) where
   shift_step true i r q h = rw (add-one) refl
   shift_step false i r q h = h
 
-  shifted : (t : Bor (List ℕ) → Bool) (i : ℕ) (es : List Entry) → position_from t (i + 1) (keys_of es) ≡ option_map suc (position_from t i (keys_of es))
+  shifted : (t : Name → Bool) (i : ℕ) (es : List Entry) → position_from t (i + 1) (keys_of es) ≡ option_map suc (position_from t i (keys_of es))
   shifted t i [] = refl
   shifted t i (e ∷ es) = shift_step (t e.0) i (position_from t (i + 1 + 1) (keys_of es)) (position_from t (i + 1) (keys_of es)) (shifted t (i + 1) es)
 
   from_start : (name : List ℕ) (es : List Entry) → position_from (is_key name) 0 (keys_of es) ≡ place_of (entries_view es) name
   from_start name [] = refl
   from_start name (e ∷ es) =
-      place_step (bytes_eq name e.0.now) (position_from (is_key name) 1 (keys_of es)) (place_of (entries_view es) name)
+      place_step (bytes_eq name e.0.bytes.now) (position_from (is_key name) 1 (keys_of es)) (place_of (entries_view es) name)
       (shifted (is_key name) 0 es ∙ ap (option_map suc) (from_start name es))
-      ∙ ap (λ (b : Bool). if b then Some 0 else option_map suc (place_of (entries_view es) name)) (bytes_eq_sym name e.0.now)
+      ∙ ap (λ (b : Bool). if b then Some 0 else option_map suc (place_of (entries_view es) name)) (bytes_eq_sym name e.0.bytes.now)
 
   pub placed : (name : List ℕ) (es : List Entry) → position (is_key name) (keys_of es) ≡ place_of (entries_view es) name
   placed name es = position_from-zero (is_key name) (keys_of es) ∙ from_start name es
@@ -145,15 +146,15 @@ module _ (D C : Type 0) (view : List ℕ × D → C) (name_in : C → List ℕ) 
   found_as name r es h = both_seen r ∙ ap (option_map view) h ∙ sym (named_seen name es)
 
 -- the name at a place
-pub name_there : {D : Type 0} (es : List (Bor (List ℕ) × D)) (i : ℕ) (e : Bor (List ℕ) × D) → Some e ≡ slice_get es i → Some (word_view e.0) ≡ option_map name_of (slice_get (entries_view es) i)
+pub name_there : {D : Type 0} (es : List (Name × D)) (i : ℕ) (e : Name × D) → Some e ≡ slice_get es i → Some (word_view e.0.bytes) ≡ option_map name_of (slice_get (entries_view es) i)
 name_there {D} es i e h =
-    let seen_of : Bor (List ℕ) × D → List ℕ × D = λ x. (x.0.now, x.1) in
+    let seen_of : Name × D → List ℕ × D = λ x. (x.0.bytes.now, x.1) in
     rw (slice_get-map seen_of es i, ← h) refl
 
 -- the definition at a place, with its name
-pub entry_there : {D : Type 0} (es : List (Bor (List ℕ) × D)) (i : ℕ) (e : Bor (List ℕ) × D) → Some e ≡ slice_get es i → Some (e.0.now, e.1) ≡ slice_get (entries_view es) i
+pub entry_there : {D : Type 0} (es : List (Name × D)) (i : ℕ) (e : Name × D) → Some e ≡ slice_get es i → Some (e.0.bytes.now, e.1) ≡ slice_get (entries_view es) i
 entry_there {D} es i e h =
-    let seen_of : Bor (List ℕ) × D → List ℕ × D = λ x. (x.0.now, x.1) in
+    let seen_of : Name × D → List ℕ × D = λ x. (x.0.bytes.now, x.1) in
     rw (slice_get-map seen_of es i, ← h) refl
 
 -- what stands at the place of a name, if there is one

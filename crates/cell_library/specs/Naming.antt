@@ -3,12 +3,13 @@ use Rattle.std.specs.Prelude.{ℕ, suc, List, [], ◌∷◌, map, Option, Some, 
 use Rattle.std.specs.Option.{option_map}
 use denote.Ref.{Bor}
 use Rattle.form_meanings.specs.Firsts.{find_named, has_name}
+use Rattle.name_keys.specs.declared.name.Name.{Name}
 
 abbrev pub name_of : {D : Type 0} → List ℕ × D → List ℕ
 name_of e = e.0
 
-abbrev pub entries_view : {D : Type 0} → List (Bor (List ℕ) × D) → List (List ℕ × D)
-entries_view es = map (λ e. (e.0.now, e.1)) es
+abbrev pub entries_view : {D : Type 0} → List (Name × D) → List (List ℕ × D)
+entries_view es = map (λ e. (e.0.bytes.now, e.1)) es
 
 -- a definition with its name, as both are lent
 abbrev pub entry_seen : {D : Type 0} → Bor (List ℕ) × Bor D → List ℕ × D

@@ -8,6 +8,7 @@ ghost use Rattle.cell_library.specs.Naming.{entry_seen, place_of, name_of, named
 ghost use Rattle.lefdef_tokens.specs.Views.{word_view};
 
 use indexmap::IndexMap;
+use name_keys::Name;
 use std::alloc::{AllocError, Allocator, Global};
 use std::hash::RandomState;
 use std::marker::Model;
@@ -15,7 +16,7 @@ use std::marker::Model;
 /// Definitions with their names, in the order in which they came: the first of each name.
 #[derive(Drop)]
 pub struct Named<'l, D: Drop, A: Allocator = Global> {
-    entries: IndexMap<&'l [u8], D, RandomState, A>,
+    entries: IndexMap<Name<'l>, D, RandomState, A>,
 }
 
 impl<'l, D: Drop, A: Allocator> Model for Named<'l, D, A> {
@@ -46,7 +47,7 @@ impl<'l, D: Drop, A: Allocator + Copy> Named<'l, D, A> {
     pub fn get(&self, name: &[u8]) -> Option<&D>
         ensures { option_copied result ≡ named self.now name.now }
     {
-        self.entries.get(name)
+        self.entries.get(Name { bytes: name })
     }
 
     /// The definition of a name, with that name.
@@ -69,14 +70,14 @@ impl<'l, D: Drop, A: Allocator + Copy> Named<'l, D, A> {
         ensures few { IfSome result (λ e. place < 2 ^ 63) }
     {
         let (name, definition) = self.entries.as_slice().get_index(place)?;
-        Some((*name, definition))
+        Some((name.bytes, definition))
     }
 
     /// The place of a name among the others.
     pub fn place_of(&self, name: &[u8]) -> Option<usize>
         ensures { result ≡ place_of self.now name.now }
     {
-        self.entries.get_index_of(name)
+        self.entries.get_index_of(Name { bytes: name })
     }
 
     /// The name at a place.
@@ -84,7 +85,7 @@ impl<'l, D: Drop, A: Allocator + Copy> Named<'l, D, A> {
         ensures { option_map word_view result ≡ option_map name_of (slice_get self.now place) }
     {
         let (name, _) = self.entries.get_index(place)?;
-        Some(*name)
+        Some(name.bytes)
     }
 
     /// Adds a definition at the end, unless its name is taken. Where memory is refused nothing changes.
@@ -92,10 +93,10 @@ impl<'l, D: Drop, A: Allocator + Copy> Named<'l, D, A> {
         ensures ok { OnOk result (self.new ≡ with_first name_of self.old (name.now, definition)) }
         ensures err { OnErr result (self.new ≡ self.old) }
     {
-        if self.entries.contains_key(name) {
+        if self.entries.contains_key(Name { bytes: name }) {
             return Ok(());
         }
-        self.entries.insert(name, definition)?;
+        self.entries.insert(Name { bytes: name }, definition)?;
         Ok(())
     }
 }

@@ -15,6 +15,7 @@ use def_reader::entry::Entry;
 use def_reader::statement::Statement;
 use design_model::mode::Section;
 use indexmap::IndexMap;
+use name_keys::EntryName;
 use place_parts::component_parts::ComponentParts;
 use std::alloc::{AllocError, Allocator, Global};
 use std::hash::RandomState;
@@ -22,11 +23,8 @@ use std::marker::Model;
 use via_parts::rules::RuleParts;
 use via_parts::vias::ViaParts;
 
-/// The word of a section, and the name of one of its entries.
-type Key<'t> = (&'static [u8], &'t [u8]);
-
 /// The first entry of each section and name.
-type Table<'r, 't, A> = IndexMap<Key<'t>, &'r Entry<'t>, RandomState, A>;
+type Table<'r, 't, A> = IndexMap<EntryName<'t>, &'r Entry<'t>, RandomState, A>;
 
 /// The statements of a design, with its entries by their names.
 #[derive(Drop)]
@@ -59,7 +57,8 @@ fn add<'r, 't, A: Allocator + Copy>(
     let Some(name) = entry.name() else {
         return Ok(());
     };
-    let key = (entry.section().word(), name);
+    let word = entry.section().word();
+    let key = EntryName { word, name };
     // A name is nearly always new: one look-up puts it there, and a second one puts back the entry that came first.
     if let Some(first) = table.insert(key, entry)? {
         table.insert(key, first)?;
@@ -135,7 +134,8 @@ impl<'r, 't, A: Allocator + Copy> Names<'r, 't, A> {
     pub fn entry(&self, section: Section, name: &[u8]) -> Option<&'r Entry<'t>>
         ensures { option_map lent_entry result ≡ entry_named self.now section name.now }
     {
-        self.table.get(&(section.word(), name)).copied()
+        let word = section.word();
+        self.table.get(EntryName { word, name }).copied()
     }
 
     /// Whether an entry of this section has this name.

@@ -4,7 +4,6 @@ use Rattle.std.specs.List.{AllByRecursion, IsDistinct, list_any, slice_get}
 use Rattle.std.specs.Map.{keys_of, lookup, set_value}
 use Rattle.std.specs.Option.{option_map}
 use Rattle.std.specs.Str.{bytes_eq}
-use Rattle.std.specs.declared.vec.Vec.{Vec}
 use Rattle.std.proofs.lemmas.Map.Keys.{IsDistinct-head, IsDistinct-tail}
 use Rattle.indexmap.specs.Layout.{set_value_at}
 use Rattle.design_tables.specs.Listings.{Listing, has_name, listed, or_unlisted}
@@ -14,9 +13,9 @@ use Rattle.design_tables.specs.declared.names.Listing as code
 use Rattle.design_tables.proofs.ListingLemmas.{found_is, has_is, has_set, is_key, or_true, own_name, set_is}
 
 abbrev Entries : Type 0 → Type 0
-Entries A = List (Vec ℕ A × code.Listing A)
+Entries A = List (List ℕ × code.Listing A)
 
-abbrev seen : {A : Type 0} → List (Vec ℕ A × code.Listing A) → List (List ℕ × Listing)
+abbrev seen : {A : Type 0} → List (List ℕ × code.Listing A) → List (List ℕ × Listing)
 seen es = map named_view es
 
 module _ {A : Type 0} where
@@ -25,9 +24,9 @@ module _ {A : Type 0} where
   long_as (e ∷ es) zero v = refl
   long_as (e ∷ es) (suc i) v = ap suc (long_as es i v)
 
-  rest_at : (es : Entries A) (i : ℕ) (k : Vec ℕ A) (l : code.Listing A) → slice_get es i ≡ Some (k, l) → drop i (seen es) ≡ (k.items, listing_view l) ∷ drop (suc i) (seen es)
+  rest_at : (es : Entries A) (i : ℕ) (k : List ℕ) (l : code.Listing A) → slice_get es i ≡ Some (k, l) → drop i (seen es) ≡ (k, listing_view l) ∷ drop (suc i) (seen es)
   rest_at [] i k l at = cc
-  rest_at (e ∷ es) zero k l at = let same : e ≡ (k, l) = cc in ap (λ (x : Vec ℕ A × code.Listing A). named_view x ∷ seen es) same
+  rest_at (e ∷ es) zero k l at = let same : e ≡ (k, l) = cc in ap (λ (x : List ℕ × code.Listing A). named_view x ∷ seen es) same
   rest_at (e ∷ es) (suc i) k l at = rest_at es i k l at
 
   rest_set : (es : Entries A) (i : ℕ) (v : code.Listing A) → drop (suc i) (seen (set_value_at es i v)) ≡ drop (suc i) (seen es)
@@ -35,9 +34,9 @@ module _ {A : Type 0} where
   rest_set (e ∷ es) zero v = refl
   rest_set (e ∷ es) (suc i) v = rest_set es i v
 
-  front_set : (es : Entries A) (i : ℕ) (k : Vec ℕ A) (l v : code.Listing A) → slice_get es i ≡ Some (k, l) → take (suc i) (seen (set_value_at es i v)) ≡ take i (seen es) ++ (k.items, listing_view v) ∷ []
+  front_set : (es : Entries A) (i : ℕ) (k : List ℕ) (l v : code.Listing A) → slice_get es i ≡ Some (k, l) → take (suc i) (seen (set_value_at es i v)) ≡ take i (seen es) ++ (k, listing_view v) ∷ []
   front_set [] i k l v at = cc
-  front_set (e ∷ es) zero k l v at = let same : e ≡ (k, l) = cc in ap (λ (x : Vec ℕ A × code.Listing A). (x.0.items, listing_view v) ∷ []) same
+  front_set (e ∷ es) zero k l v at = let same : e ≡ (k, l) = cc in ap (λ (x : List ℕ × code.Listing A). (x.0, listing_view v) ∷ []) same
   front_set (e ∷ es) (suc i) k l v at = ap (λ xs. named_view e ∷ xs) (front_set es i k l v at)
 
   -- after i turns
@@ -47,8 +46,8 @@ module _ {A : Type 0} where
     pub places : HasNames (drop i (seen cs)) (seen es)
     pub long : length cs ≡ end
 
-  module _ (start : List (List ℕ × Listing) × List (List ℕ × Listing)) (i : ℕ) (cs es : Entries A) (end : ℕ) (g : Going start i cs es end) (k : Vec ℕ A) (other : code.Listing A) (at : slice_get cs i ≡ Some (k, other))
-      (name : List ℕ) (key : name ≡ k.items) where
+  module _ (start : List (List ℕ × Listing) × List (List ℕ × Listing)) (i : ℕ) (cs es : Entries A) (end : ℕ) (g : Going start i cs es end) (k : List ℕ) (other : code.Listing A) (at : slice_get cs i ≡ Some (k, other))
+      (name : List ℕ) (key : name ≡ k) where
     first : drop i (seen cs) ≡ (name, listing_view other) ∷ drop (suc i) (seen cs)
     first = rw key (rest_at cs i k other at)
 
@@ -86,19 +85,19 @@ module _ {A : Type 0} where
     none_left none = let never : false ≡ true = sym (ap is_some none) ∙ sym (has_is name es) ∙ known in cc
 
   -- names that stand once each in a map
-  has_keys : (n : List ℕ) (es : Entries A) → has_name n (seen es) ≡ list_any (λ (k : Vec ℕ A). bytes_eq n k.items) (keys_of es)
+  has_keys : (n : List ℕ) (es : Entries A) → has_name n (seen es) ≡ list_any (λ (k : List ℕ). bytes_eq n k) (keys_of es)
   has_keys n [] = refl
-  has_keys n (e ∷ es) = ap (λ b. bytes_eq n e.0.items || b) (has_keys n es)
+  has_keys n (e ∷ es) = ap (λ b. bytes_eq n e.0 || b) (has_keys n es)
 
-  none_equal : (n : List ℕ) (es : Entries A) → AllByRecursion (λ (k : Vec ℕ A). bytes_eq n k.items ≡ false) (keys_of es) → has_name n (seen es) ≡ false
+  none_equal : (n : List ℕ) (es : Entries A) → AllByRecursion (λ (k : List ℕ). bytes_eq n k ≡ false) (keys_of es) → has_name n (seen es) ≡ false
   none_equal n [] h = refl
   none_equal n (e ∷ es) h = ap₂ (λ a b. a || b) h.0 (none_equal n es h.1)
 
-  pub are_apart : (es : Entries A) → IsDistinct (λ (a b : Vec ℕ A). bytes_eq a.items b.items) (keys_of es) → AreApart (seen es)
+  pub are_apart : (es : Entries A) → IsDistinct (λ (a b : List ℕ). bytes_eq a b) (keys_of es) → AreApart (seen es)
   are_apart [] h = tt
   are_apart (e ∷ es) h =
-      let eq = λ (a b : Vec ℕ A). bytes_eq a.items b.items in
-      (none_equal e.0.items es (IsDistinct-head eq e.0 (keys_of es) h), are_apart es (IsDistinct-tail eq e.0 (keys_of es) h))
+      let eq = λ (a b : List ℕ). bytes_eq a b in
+      (none_equal e.0 es (IsDistinct-head eq e.0 (keys_of es) h), are_apart es (IsDistinct-tail eq e.0 (keys_of es) h))
 
-  pub all_left : (n : List ℕ) (es : Entries A) (left : List (Vec ℕ A)) (there : Bool) → left ≡ keys_of es → has_name n (seen es) ≡ true → (list_any (λ (k : Vec ℕ A). bytes_eq n k.items) left || there) ≡ true
+  pub all_left : (n : List ℕ) (es : Entries A) (left : List (List ℕ)) (there : Bool) → left ≡ keys_of es → has_name n (seen es) ≡ true → (list_any (λ (k : List ℕ). bytes_eq n k) left || there) ≡ true
   all_left n es left there is has = rw is (rw (← has_keys n es) (rw has refl))

@@ -4,7 +4,6 @@ use Rattle.std.specs.Map.{IsKeyTest, KeepsOthers, lookup}
 use Rattle.std.specs.Option.{option_map}
 use Rattle.std.specs.Prelude.{map}
 use Rattle.std.specs.Str.{bytes_eq}
-use Rattle.std.specs.declared.vec.Vec.{Vec}
 use Rattle.std.proofs.lemmas.Bool.Decides.{nat_tests}
 use Rattle.design_tables.specs.LettingGo.{is_unused}
 use Rattle.design_tables.specs.Listings.{Listing, found, listed, or_unlisted, unlisted}
@@ -25,19 +24,16 @@ pub unused_is : (o : Option Listing) → is_unused o ≡ true → or_unlisted o 
 unused_is None h = refl
 unused_is (Some l) h = empty_is l.marks l.entries h
 
+key_test : (n : List ℕ) → IsKeyTest bytes_eq (is_key n)
+key_test n x y h = ap (λ k. bytes_eq k y) (same_name n x h)
+
 module _ {A : Type 0} where
-  abbrev same_key : Vec ℕ A → Vec ℕ A → Bool
-  same_key a b = bytes_eq a.items b.items
-
-  key_test : (n : List ℕ) → IsKeyTest same_key (is_key {A = A} n)
-  key_test n x y h = ap (λ k. bytes_eq k y.items) (same_name n x.items h)
-
-  others : (name n : List ℕ) (es fs : List (Vec ℕ A × code.Listing A)) → KeepsOthers same_key (is_key name) es fs → bytes_eq n name ≡ false → lookup (is_key n) fs ≡ lookup (is_key n) es
+  others : (name n : List ℕ) (es fs : List (List ℕ × code.Listing A)) → KeepsOthers bytes_eq (is_key name) es fs → bytes_eq n name ≡ false → lookup (is_key n) fs ≡ lookup (is_key n) es
   unfolding KeepsOthers
   others name n es fs keeps other =
-      keeps (is_key n) (key_test n) (λ k at. ap (bytes_eq n) (sym (same_name name k.items at)) ∙ other)
+      keeps (is_key n) (key_test n) (λ k at. ap (bytes_eq n) (sym (same_name name k at)) ∙ other)
 
-  module _ (name : List ℕ) (es fs : List (Vec ℕ A × code.Listing A)) (none : lookup (is_key name) fs ≡ None) (keeps : KeepsOthers same_key (is_key name) es fs) where
+  module _ (name : List ℕ) (es fs : List (List ℕ × code.Listing A)) (none : lookup (is_key name) fs ≡ None) (keeps : KeepsOthers bytes_eq (is_key name) es fs) where
     here : (n : List ℕ) → bytes_eq n name ≡ true → found n (map named_view fs) ≡ None
     here n is = ap (λ k. found k (map named_view fs)) (same_name n name is) ∙ found_is name fs ∙ ap (option_map listing_view) none
 

@@ -4,7 +4,6 @@ use Rattle.std.specs.Prelude.{OnOk}
 use Rattle.std.specs.Map.{lookup, set_value}
 use Rattle.std.specs.Option.{option_copied_mut, option_map}
 use Rattle.std.specs.Str.{bytes_eq}
-use Rattle.std.specs.declared.vec.Vec.{Vec}
 use Rattle.std.proofs.lemmas.List.{append-nil, map-append}
 use Rattle.std.proofs.lemmas.Slice.Eq.{bytes_eq-Decides}
 use Rattle.indexmap.specs.IndexMap.{IndexMap, insert_entry}
@@ -38,17 +37,17 @@ own_name a = grind (arith, bytes_eq-Decides)
 pub bytes_eq_sym : (a b : List ℕ) → bytes_eq a b ≡ bytes_eq b a
 bytes_eq_sym a b = grind (arith, bytes_eq-Decides)
 
-module _ {A : Type 0} where
-  abbrev pub is_key : List ℕ → Vec ℕ A → Bool
-  is_key name k = bytes_eq name k.items
+abbrev pub is_key : List ℕ → List ℕ → Bool
+is_key name k = bytes_eq name k
 
+module _ {A : Type 0} where
   found_step : (b : Bool) (l : code.Listing A) (later : Option Listing) (o : Option (code.Listing A)) → later ≡ option_map listing_view o
       → (if b then Some (listing_view l) else later) ≡ option_map listing_view (cond b (Some l) o)
   found_step true l later o h = refl
   found_step false l later o h = h
 
   -- a look-up in the table finds what stands under a name
-  pub found_is : (name : List ℕ) (es : List (Vec ℕ A × code.Listing A)) → found name (map named_view es) ≡ option_map listing_view (lookup (is_key name) es)
+  pub found_is : (name : List ℕ) (es : List (List ℕ × code.Listing A)) → found name (map named_view es) ≡ option_map listing_view (lookup (is_key name) es)
   found_is name [] = refl
   found_is name (e ∷ es) = found_step (is_key name e.0) e.1 (found name (map named_view es)) (lookup (is_key name) es) (found_is name es)
 
@@ -62,27 +61,27 @@ module _ {A : Type 0} where
   has_step true r l o h = refl
   has_step false r l o h = h
 
-  pub has_is : (name : List ℕ) (es : List (Vec ℕ A × code.Listing A)) → has_name name (map named_view es) ≡ is_some (lookup (is_key name) es)
+  pub has_is : (name : List ℕ) (es : List (List ℕ × code.Listing A)) → has_name name (map named_view es) ≡ is_some (lookup (is_key name) es)
   has_is name [] = refl
   has_is name (e ∷ es) = has_step (is_key name e.0) (has_name name (map named_view es)) e.1 (lookup (is_key name) es) (has_is name es)
 
   -- a name that is new goes last
-  pub named_last : (es : List (Vec ℕ A × code.Listing A)) (k : Vec ℕ A) (l : code.Listing A) (name : List ℕ) (left : Listing) → k.items ≡ name → listing_view l ≡ left
+  pub named_last : (es : List (List ℕ × code.Listing A)) (k : List ℕ) (l : code.Listing A) (name : List ℕ) (left : Listing) → k ≡ name → listing_view l ≡ left
       → map named_view (es ++ (k, l) ∷ []) ≡ map named_view es ++ (name, left) ∷ []
   named_last es k l name left key view = rw (map-append named_view es ((k, l) ∷ []), key, view) refl
 
   -- a name that a look-up doesn't find gets a place
-  pub placed : {S : Type 0} (name : List ℕ) (left : Listing) (m : IndexMap (Vec ℕ A) (code.Listing A) S) (k : Vec ℕ A) (l : code.Listing A) (after : List (Vec ℕ A × code.Listing A)) → k.items ≡ name → listing_view l ≡ left
-      → lookup (is_key name) m.entries ≡ None → after ≡ insert_entry (λ (a b : Vec ℕ A). is_key a.items b) m.entries k l → map named_view after ≡ map named_view m.entries ++ (name, left) ∷ []
+  pub placed : {S : Type 0} (name : List ℕ) (left : Listing) (m : IndexMap (List ℕ) (code.Listing A) S) (k : List ℕ) (l : code.Listing A) (after : List (List ℕ × code.Listing A)) → k ≡ name → listing_view l ≡ left
+      → lookup (is_key name) m.entries ≡ None → after ≡ insert_entry (λ (a b : List ℕ). is_key a b) m.entries k l → map named_view after ≡ map named_view m.entries ++ (name, left) ∷ []
   placed name left m k l after key view none put =
-      ap (map named_view) (put ∙ insert_entry-new (λ (a b : Vec ℕ A). is_key a.items b) m k l (rw key none)) ∙ named_last m.entries k l name left key view
+      ap (map named_view) (put ∙ insert_entry-new (λ (a b : List ℕ). is_key a b) m k l (rw key none)) ∙ named_last m.entries k l name left key view
 
-  set_step : (b : Bool) (name : List ℕ) (e : Vec ℕ A × code.Listing A) (es rest : List (Vec ℕ A × code.Listing A)) (l : code.Listing A) (later : List (List ℕ × Listing)) → map named_view rest ≡ later
-      → map named_view (cond b ((e.0, l) ∷ es) (e ∷ rest)) ≡ (if b then (e.0.items, listing_view l) ∷ map named_view es else named_view e ∷ later)
+  set_step : (b : Bool) (name : List ℕ) (e : List ℕ × code.Listing A) (es rest : List (List ℕ × code.Listing A)) (l : code.Listing A) (later : List (List ℕ × Listing)) → map named_view rest ≡ later
+      → map named_view (cond b ((e.0, l) ∷ es) (e ∷ rest)) ≡ (if b then (e.0, listing_view l) ∷ map named_view es else named_view e ∷ later)
   set_step true name e es rest l later h = refl
   set_step false name e es rest l later h = ap (λ xs. named_view e ∷ xs) h
 
-  pub set_is : (name : List ℕ) (l : code.Listing A) (es : List (Vec ℕ A × code.Listing A)) → map named_view (set_value (is_key name) es l) ≡ set_named name (listing_view l) (map named_view es)
+  pub set_is : (name : List ℕ) (l : code.Listing A) (es : List (List ℕ × code.Listing A)) → map named_view (set_value (is_key name) es l) ≡ set_named name (listing_view l) (map named_view es)
   set_is name l [] = refl
   set_is name l (e ∷ es) = set_step (is_key name e.0) name e es (set_value (is_key name) es l) l (set_named name (listing_view l) (map named_view es)) (set_is name l es)
 

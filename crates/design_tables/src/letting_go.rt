@@ -11,6 +11,7 @@ ghost use Rattle.design_tables.specs.Listings.{AreTablesOf, found, listed};
 use crate::names::{Listing, NameTable};
 use crate::prepared::PreparedTables;
 use crate::tables::Tables;
+use name_keys::Name;
 use std::alloc::Allocator;
 
 impl<A: Allocator + Copy> Listing<A> {
@@ -39,7 +40,7 @@ impl<A: Allocator + Copy> NameTable<A> {
         ensures gone { (n : List ℕ) → is_unused (found n self.new) ≡ (not (bytes_eq n name.now) && is_unused (found n self.old)) }
     {
         if self.is_unused(name) {
-            drop(self.names.swap_remove(name));
+            drop(self.names.swap_remove(Name { bytes: name }));
         }
     }
 
@@ -50,7 +51,7 @@ impl<A: Allocator + Copy> NameTable<A> {
     {
         let mut left = change.names.keys();
         while let Some(name) = left.next() {
-            self.let_go_of(name.as_slice());
+            self.let_go_of(name.bytes());
         }
     }
 }

@@ -12,6 +12,7 @@ ghost use Rattle.design_tables.specs.Prepared.{HasNames};
 use crate::mark_list::MarkList;
 use crate::role::{Mark, Role};
 use indexmap::{IndexMap, IndexSet};
+use name_keys::{Name, OwnName};
 use std::alloc::{AllocError, Allocator, Global};
 use std::hash::{BuildHasherDefault, FoldHasher, RandomState};
 use std::marker::Model;
@@ -105,7 +106,7 @@ pub(crate) type Ids<A> = IndexSet<usize, BuildHasherDefault<FoldHasher>, A>;
 /// Names with what stands under them.
 #[derive(Drop)]
 pub(crate) struct NameTable<A: Allocator + Copy = Global> {
-    pub names: IndexMap<Vec<u8, A>, Listing<A>, RandomState, A>,
+    pub names: IndexMap<OwnName<A>, Listing<A>, RandomState, A>,
 }
 
 impl<A: Allocator + Copy> Model for NameTable<A> {
@@ -142,7 +143,7 @@ impl<A: Allocator + Copy> NameTable<A> {
     pub fn get(&self, name: &[u8]) -> Option<&Listing<A>>
         ensures { option_map (λ l. listing_view l.now) result ≡ found name.now self.now }
     {
-        self.names.get(name)
+        self.names.get(Name { bytes: name })
     }
 
     /// Makes a place for a name, under which nothing stands, unless it has one.
@@ -151,11 +152,11 @@ impl<A: Allocator + Copy> NameTable<A> {
         ensures there { OnOk result ((n : List ℕ) → has_name n self.new ≡ (has_name n self.old || bytes_eq n name.now)) }
         ensures kept { HasNames self.old self.new }
     {
-        if self.names.contains_key(name) {
+        if self.names.contains_key(Name { bytes: name }) {
             return Ok(());
         }
         let alloc = self.allocator();
-        let name = Vec::from_slice(alloc, name)?;
+        let name = OwnName::copy_of(alloc, name)?;
         self.names.insert(name, Listing::new())?;
         Ok(())
     }
@@ -182,11 +183,11 @@ impl<A: Allocator + Copy> NameTable<A> {
         ensures copied { OnOk result ((n : List ℕ) → listed n self.new ≡ or_else_listed (found n self.old) (if bytes_eq n name.now then without (is_gone gone.now.keys) (listed name.now from.now) else unlisted)) }
         ensures there { OnOk result ((n : List ℕ) → has_name n self.new ≡ (has_name n self.old || bytes_eq n name.now)) }
     {
-        if self.names.contains_key(name) {
+        if self.names.contains_key(Name { bytes: name }) {
             return Ok(());
         }
         let listing = from.left_of(name, gone)?;
-        let name = Vec::from_slice(self.allocator(), name)?;
+        let name = OwnName::copy_of(self.allocator(), name)?;
         self.names.insert(name, listing)?;
         Ok(())
     }
@@ -196,7 +197,7 @@ impl<A: Allocator + Copy> NameTable<A> {
         ensures names { (n : List ℕ) → has_name n self.new ≡ has_name n self.old }
         ensures counted { (n : List ℕ) → listed n self.new ≡ (if bytes_eq word.now n then less 1 (listed n self.old) else listed n self.old) }
     {
-        match self.names.get_mut(word) {
+        match self.names.get_mut(Name { bytes: word }) {
             Some(listing) => listing.uncount(),
             None => {}
         }
@@ -209,14 +210,14 @@ impl<A: Allocator + Copy> NameTable<A> {
         ensures fresh { IfOk result (λ is_new. is_new ≡ not (has_name name.now self.old)) }
     {
         let alloc = self.allocator();
-        match self.names.get_mut(name) {
+        match self.names.get_mut(Name { bytes: name }) {
             Some(listing) => {
                 listing.push(alloc, mark)?;
                 return Ok(false);
             }
             None => {}
         }
-        let name = Vec::from_slice(alloc, name)?;
+        let name = OwnName::copy_of(alloc, name)?;
         self.names.insert(name, Listing::one(mark))?;
         Ok(true)
     }

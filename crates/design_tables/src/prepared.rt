@@ -17,6 +17,7 @@ use crate::names::NameTable;
 use crate::role::Role;
 use crate::tables::{Numbered, Tables};
 use def_reader::statement::Statement;
+use name_keys::Name;
 use std::alloc::{AllocError, Allocator, Global};
 use std::marker::Model;
 
@@ -104,7 +105,7 @@ impl<A: Allocator + Copy> NameTable<A> {
     {
         let mut left = of.names.keys();
         while let Some(name) = left.next() {
-            self.make_place(name.as_slice())?;
+            self.make_place(name.bytes())?;
         }
         Ok(())
     }
@@ -117,7 +118,9 @@ impl<A: Allocator + Copy> NameTable<A> {
     {
         for i in 0..change.names.len() {
             let (name, other) = change.names.pair_mut(i);
-            match self.names.get_mut(name.as_slice()) {
+            match self.names.get_mut(Name {
+                bytes: name.bytes(),
+            }) {
                 Some(own) => std::mem::swap(own, other),
                 None => {}
             }

@@ -5,6 +5,7 @@ ghost use Rattle.name_groups.specs.Groups.{Group, members_named, with_member};
 
 use indexmap::IndexMap;
 use indexmap::map::Entry;
+use name_keys::Name;
 use std::alloc::{AllocError, Allocator, Global};
 use std::hash::RandomState;
 use std::marker::Model;
@@ -12,7 +13,7 @@ use std::marker::Model;
 /// Things by their names, a group for each name.
 #[derive(Drop)]
 pub struct Groups<'t, T, A: Allocator = Global> {
-    groups: IndexMap<&'t [u8], Vec<T, A>, RandomState, A>,
+    groups: IndexMap<Name<'t>, Vec<T, A>, RandomState, A>,
 }
 
 impl<'t, T, A: Allocator> Model for Groups<'t, T, A> {
@@ -49,7 +50,7 @@ impl<'t, T: Drop, A: Allocator + Copy> Groups<'t, T, A> {
         ensures { OnOk result (self.new ≡ with_member name.now member self.old) }
     {
         let alloc = *self.groups.allocator();
-        match self.groups.entry(name)? {
+        match self.groups.entry(Name { bytes: name })? {
             Entry::Occupied(entry) => entry.into_mut().push(member)?,
             Entry::Vacant(entry) => {
                 entry.insert(one(alloc, member)?);
@@ -62,7 +63,7 @@ impl<'t, T: Drop, A: Allocator + Copy> Groups<'t, T, A> {
     pub fn get(&self, name: &[u8]) -> &[T]
         ensures { result.now ≡ members_named name.now self.now }
     {
-        match self.groups.get(name) {
+        match self.groups.get(Name { bytes: name }) {
             Some(members) => members.as_slice(),
             None => &[],
         }
@@ -81,6 +82,6 @@ impl<'t, T: Drop, A: Allocator + Copy> Groups<'t, T, A> {
         ensures { slice_get self.now index ≡ Some (record { name = result.0.now; members = result.1.now }) }
     {
         let (name, members) = self.groups.get_index(index).unwrap();
-        (*name, members.as_slice())
+        (name.bytes, members.as_slice())
     }
 }

@@ -15,7 +15,7 @@ use Rattle.piece_laws.specs.Pieces.{AreChained, IsPiece, modes_from}
 use Rattle.text_pieces.specs.Changes.{IsBetween, Prepared}
 use Rattle.text_pieces.specs.Chunks.{Numbers, all_ids}
 use Rattle.text_pieces.specs.Content.{Content, IsText, bytes_of, text_of}
-use Rattle.text_pieces.specs.KeptRecords.{AreParted, HavePieces, record_of, record_or, records_under}
+use Rattle.text_pieces.specs.KeptRecords.{AreKept, AreParted, HavePieces, record_of, record_or, records_under}
 use Rattle.text_pieces.specs.Lent.{numbered_records}
 use Rattle.text_pieces.specs.Statements.{statements_of}
 use Rattle.text_pieces.specs.Tables.{AreChunks, AreHome, Kept, ids_of, kept_at, slot, standing}
@@ -85,16 +85,16 @@ module _ (slots : List (Option Kept)) where
 
 module _ (law : TextsAreRead def) (leads : ChainsLead def) where
   -- what a text in pieces says is what is kept of its statements
-  pub record SaysKept (c : Content) : Type 0 where
-    pub says : numbered_records c ≡ records_under c.table.slots (ids_of c.table)
-    pub pieces : HavePieces c.table.slots (ids_of c.table)
-
-  pub says_kept : (c : Content) → IsText c → SaysKept c
+  pub says_kept : (c : Content) → IsText c → AreKept c
   says_kept c t =
       let all = say c.table.slots leads Top After (ids_of c.table) t.recs (held_chunks c.table.slots 0 c.table.chunks t.table.chunks) t.chained t.modes in
       let located = (law Top After (bytes_of (standing c.table)) t.recs c.tail t.chained t.apart t.ends).1 in
       let recs : map (λ x. x.1) (statements_of (text_of c)) ≡ t.recs = ap (map (λ x. x.1)) located ∙ records_placed 0 Top After (bytes_of (standing c.table)) t.recs t.chained in
-      record { says = ap (zip (ids_of c.table)) recs ∙ all.says; pieces = all.pieces }
+      record {
+        says = ap (zip (ids_of c.table)) recs ∙ all.says;
+        pieces = all.pieces;
+        reads = reads_as law c t ∙ ap (λ (l : List Record). Ok l) (sym (seconds-zip (ids_of c.table) (map (λ x. x.1) (statements_of (text_of c))) (length-map (statements_of (text_of c)) (λ x. x.1) ∙ sym (as_many law c t))));
+      }
 
   pub parted_so : (c : Content) (p : Prepared) (base other : Content) → IsText c → IsBetween c p base other → AreParted c.table.slots p base other
   parted_so c p base other t b =
@@ -112,7 +112,7 @@ module _ (law : TextsAreRead def) (leads : ChainsLead def) where
         comes = new.says ∙ rw (slots, b.comes) refl;
         base_once = rw (← old_ids) t.table.once;
         other_once = rw (← b.comes) b.text.table.once;
-        reads = reads_as law other b.text ∙ ap (λ (l : List Record). Ok l) (sym (seconds-zip (ids_of other.table) (map (λ x. x.1) (statements_of (text_of other))) (length-map (statements_of (text_of other)) (λ x. x.1) ∙ sym (as_many law other b.text))));
+        reads = new.reads;
         out = pieces_between c.table.slots b.front p.out b.rest old_pieces;
         put = pieces_between c.table.slots b.front p.put b.rest new_pieces;
       }

@@ -13,7 +13,7 @@ use Rattle.text_pieces.specs.Changes.{Prepared}
 use Rattle.text_pieces.specs.Chunks.{AreOnce}
 use Rattle.text_pieces.specs.Content.{Content, read_keyless, text_of}
 use Rattle.text_pieces.specs.Lent.{numbered_records}
-use Rattle.text_pieces.specs.Tables.{Kept, kept_at, slot}
+use Rattle.text_pieces.specs.Tables.{Kept, ids_of, kept_at, slot}
 
 -- what a piece says by itself in its mode; one that doesn't read is kept nowhere
 abbrev pub record_or : Result (Record × Mode) fault.Fault → Record
@@ -36,6 +36,12 @@ pub record HasPiece (slots : List (Option Kept)) (id : StmtId) : Type 0 where
 abbrev pub HavePieces : List (Option Kept) → List StmtId → Type 0
 HavePieces slots [] = Unit {0}
 HavePieces slots (id ∷ ids) = HasPiece slots id × HavePieces slots ids
+
+-- the statements of a text are kept under their numbers, and the text reads without its keys as they say
+pub record AreKept (c : Content) : Type 0 where
+  pub says : numbered_records c ≡ records_under c.table.slots (ids_of c.table)
+  pub pieces : HavePieces c.table.slots (ids_of c.table)
+  pub reads : read_keyless (text_of c) ≡ Ok (map (λ x. x.1) (numbered_records c))
 
 -- the statements of the two texts between which a change leads are the same but for those that go out and those that come in, and the
 -- text to which it leads reads without its keys as its own say

@@ -1,9 +1,11 @@
 //! Pieces that are lent.
 
+ghost use Rattle.std.specs.Prelude.{◌≡◌, IfOk};
 ghost use Rattle.text_pieces.specs.Changes.{IsBetween};
 ghost use Rattle.text_pieces.specs.Content.{Content};
-ghost use Rattle.text_pieces.specs.KeptRecords.{AreParted, LendsKept};
+ghost use Rattle.text_pieces.specs.KeptRecords.{AreKept, AreParted, LendsKept};
 ghost use Rattle.text_pieces.specs.Lent.{Lends};
+ghost use Rattle.text_pieces.specs.Tables.{ids_of};
 
 use crate::prepared::PreparedText;
 use crate::text::TextPieces;
@@ -11,7 +13,7 @@ use design_model::identifier::StmtId;
 use design_model::mode::Mode;
 use piece_laws::chains::chains_lead;
 use piece_laws::pieces::texts_are_read;
-use std::alloc::Allocator;
+use std::alloc::{AllocError, Allocator};
 
 /// A statement with the blanks and comments before it, the mode in which it stands, and where these bytes begin in the text.
 #[derive(Clone, Copy)]
@@ -44,6 +46,22 @@ impl<A: Allocator + Copy> TextPieces<A> {
     {
         let piece = self.table.pieces.get(id.0)?;
         Some((piece.bytes.as_slice(), piece.mode))
+    }
+
+    /// The numbers of the statements, in the order of the text.
+    pub fn numbers(&self, alloc: A) -> Result<Vec<StmtId, A>, AllocError>
+        ensures { IfOk result (λ ids. ids.items ≡ ids_of self.now.table) }
+    {
+        self.table.numbers(alloc)
+    }
+
+    /// A law: the statements are kept under their numbers, and the text reads as they say.
+    pub fn statements_are_kept(&self)
+        ensures { AreKept self.now }
+    {
+        texts_are_read();
+        chains_lead();
+        let _ = &self.table;
     }
 
     /// A law: what the statements say that go out of the text by a change, and those that come in.

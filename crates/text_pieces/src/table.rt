@@ -361,3 +361,16 @@ impl<A: Allocator> PieceTable<A> {
         last_before(&self.chunks, chunk)
     }
 }
+
+impl<A: Allocator + Copy> PieceTable<A> {
+    /// The numbers of the statements that stand, in their order.
+    pub(crate) fn numbers(&self, alloc: A) -> Result<Vec<StmtId, A>, AllocError>
+        ensures { IfOk result (λ ids. ids.items ≡ ids_of (table_of self.now)) }
+    {
+        let mut ids = Vec::with_capacity(alloc, self.pieces.len())?;
+        for chunk in &self.chunks {
+            ids.extend_from_slice(&chunk.ids)?;
+        }
+        Ok(ids)
+    }
+}

@@ -8,12 +8,12 @@ use Rattle.design_names.proofs.names.add.Goals as goal
 
 pub returns-in_ok-insert : goal.returns-in_ok-insert
 returns-in_ok-insert g c =
-    adds_back lent_entry (entry_view c.args.entry.now) c.in-Some.name.now (sym c.in-Some.ensures) c.args.table.now.entries (c.word.result, c.in-Some.name) c.args.entry
-    (c.word.ensures ∙ ap section_word c.section.ensures) refl c.insert.new.self.entries c.insert-in-Some-2.new.self.entries c.in-Some-2.first
+    adds_back lent_entry (entry_view c.args.entry.now) c.in-Some.name.now (sym c.in-Some.ensures) c.args.table.now.entries (record { word = c.word-word.result; name = c.in-Some.name }) c.args.entry
+    (c.word-word.ensures ∙ ap section_word c.section.ensures) refl c.insert.new.self.entries c.insert-in-Some-2.new.self.entries c.in-Some-2.first
     (sym c.in_ok-first.ensures.old ∙ c.in-Some-2.is) c.in_ok-first.ensures.entries c.in_ok-insert.ensures.entries
 
 pub returns-in_default-2 : goal.returns-in_default-2
 returns-in_default-2 g c =
-    adds_last lent_entry (entry_view c.args.entry.now) c.in-Some.name.now (sym c.in-Some.ensures) c.args.table.now.entries (c.word.result, c.in-Some.name) c.args.entry
-    (c.word.ensures ∙ ap section_word c.section.ensures) refl c.insert.new.self.entries refl
+    adds_last lent_entry (entry_view c.args.entry.now) c.in-Some.name.now (sym c.in-Some.ensures) c.args.table.now.entries (record { word = c.word-word.result; name = c.in-Some.name }) c.args.entry
+    (c.word-word.ensures ∙ ap section_word c.section.ensures) refl c.insert.new.self.entries refl
     (ap (λ (o : Option (Bor code.Entry)). is_some o) (sym c.in_ok-first.ensures.old ∙ c.in_default-2.is)) c.in_ok-first.ensures.entries

@@ -18,7 +18,7 @@ pub returns-clause-copied : goal.returns-clause-copied
 returns-clause-copied g c = λ n.
     let name = c.args.name.now in
     let left = without (is_gone c.args.gone.now.keys) (listed name c.args.from.now) in
-    ap (listed n) (placed name left c.self.inside.names c.in_ok-name.name c.in_ok-listing.listing c.insert.new.self.entries c.in_ok-name.ensures.items c.in_ok-listing.ensures (none_of _ _ c.if-contains_key.false c.contains_key.ensures) c.in_ok-insert.ensures.entries)
+    ap (listed n) (placed name left c.self.inside.names c.in_ok-name.name c.in_ok-listing.listing c.insert.new.self.entries c.in_ok-name.ensures c.in_ok-listing.ensures (none_of _ _ c.if-contains_key.false c.contains_key.ensures) c.in_ok-insert.ensures.entries)
     ∙ ap (λ es. listed n (es ++ (name, left) ∷ [])) c.self.view_is
     ∙ listed_both n c.args.self.now ((name, left) ∷ [])
     ∙ ap (or_else_listed (found n c.args.self.now)) (listed_one n name left)
@@ -27,5 +27,5 @@ pub returns-clause-there : goal.returns-clause-there
 returns-clause-there g c = λ n.
     let name = c.args.name.now in
     let left = without (is_gone c.args.gone.now.keys) (listed name c.args.from.now) in
-    ap (has_name n) (placed name left c.self.inside.names c.in_ok-name.name c.in_ok-listing.listing c.insert.new.self.entries c.in_ok-name.ensures.items c.in_ok-listing.ensures (none_of _ _ c.if-contains_key.false c.contains_key.ensures) c.in_ok-insert.ensures.entries)
+    ap (has_name n) (placed name left c.self.inside.names c.in_ok-name.name c.in_ok-listing.listing c.insert.new.self.entries c.in_ok-name.ensures c.in_ok-listing.ensures (none_of _ _ c.if-contains_key.false c.contains_key.ensures) c.in_ok-insert.ensures.entries)
     ∙ ap (λ es. has_name n (es ++ (name, left) ∷ [])) c.self.view_is ∙ has_last c.args.self.now n name left

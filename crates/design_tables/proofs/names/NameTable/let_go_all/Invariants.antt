@@ -8,5 +8,5 @@ use Rattle.design_tables.proofs.names.NameTable.let_go_all.Given as goal
 abbrev pub invariant-loop-name : goal.invariant-loop-name
 invariant-loop-name g l = record {
   same : (n : List ℕ) → listed n l.self ≡ listed n l.initial.self;
-  gone : (n : List ℕ) → has_name n l.change ≡ true → (list_any (λ k. bytes_eq n k.items) l.left || not (is_unused (found n l.self))) ≡ true;
+  gone : (n : List ℕ) → has_name n l.change ≡ true → (list_any (λ k. bytes_eq n k) l.left || not (is_unused (found n l.self))) ≡ true;
 }

@@ -11,12 +11,12 @@ returns-then-contains_key-clause-there g c = λ n.
 
 pub returns-clause-same : goal.returns-clause-same
 returns-clause-same g c = λ n.
-    ap (listed n) (placed c.args.name.now unlisted c.self.inside.names c.in_ok-name.name c.new.result c.insert.new.self.entries c.in_ok-name.ensures.items c.new.ensures (none_of _ _ c.if-contains_key.false c.contains_key.ensures) c.in_ok-insert.ensures.entries)
+    ap (listed n) (placed c.args.name.now unlisted c.self.inside.names c.in_ok-name.name c.new.result c.insert.new.self.entries c.in_ok-name.ensures c.new.ensures (none_of _ _ c.if-contains_key.false c.contains_key.ensures) c.in_ok-insert.ensures.entries)
     ∙ ap (λ es. listed n (es ++ (c.args.name.now, unlisted) ∷ [])) c.self.view_is ∙ listed_last c.args.self.now n c.args.name.now
 
 pub returns-clause-there : goal.returns-clause-there
 returns-clause-there g c = λ n.
-    ap (has_name n) (placed c.args.name.now unlisted c.self.inside.names c.in_ok-name.name c.new.result c.insert.new.self.entries c.in_ok-name.ensures.items c.new.ensures (none_of _ _ c.if-contains_key.false c.contains_key.ensures) c.in_ok-insert.ensures.entries)
+    ap (has_name n) (placed c.args.name.now unlisted c.self.inside.names c.in_ok-name.name c.new.result c.insert.new.self.entries c.in_ok-name.ensures c.new.ensures (none_of _ _ c.if-contains_key.false c.contains_key.ensures) c.in_ok-insert.ensures.entries)
     ∙ ap (λ es. has_name n (es ++ (c.args.name.now, unlisted) ∷ [])) c.self.view_is ∙ has_last c.args.self.now n c.args.name.now unlisted
 
 pub returns-then-contains_key-clause-kept : goal.returns-then-contains_key-clause-kept

@@ -9,5 +9,5 @@ abbrev pub invariant-loop-name : goal.invariant-loop-name
 invariant-loop-name g l = record {
   same : (n : List ℕ) → listed n l.self ≡ listed n l.initial.self;
   kept : HasNames l.initial.self l.self;
-  there : (n : List ℕ) → has_name n l.of ≡ true → (list_any (λ k. bytes_eq n k.items) l.left || has_name n l.self) ≡ true;
+  there : (n : List ℕ) → has_name n l.of ≡ true → (list_any (λ k. bytes_eq n k) l.left || has_name n l.self) ≡ true;
 }

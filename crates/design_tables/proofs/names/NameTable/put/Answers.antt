@@ -34,7 +34,7 @@ returns-clause-there g c = λ n.
     let name = c.args.name.now in
     let left = with_marks (c.args.mark ∷ []) unlisted in
     let none = looked_none _ _ c.in-None.is c.get_mut.ensures.value in
-    ap (has_name n) (placed name left c.self.inside.names c.in_ok-name.name c.one.result c.insert.new.self.entries c.in_ok-name.ensures.items c.one.ensures none (rw c.get_mut.follows.holds-at-none at c.in_ok-insert.ensures.entries))
+    ap (has_name n) (placed name left c.self.inside.names c.in_ok-name.name c.one.result c.insert.new.self.entries c.in_ok-name.ensures c.one.ensures none (rw c.get_mut.follows.holds-at-none at c.in_ok-insert.ensures.entries))
     ∙ ap (λ es. has_name n (es ++ (name, left) ∷ [])) c.self.view_is
     ∙ has_last c.args.self.now n name left
 
@@ -44,7 +44,7 @@ returns-clause-put g c = λ n.
     let left = with_marks (c.args.mark ∷ []) unlisted in
     let none = looked_none _ _ c.in-None.is c.get_mut.ensures.value in
     let absent : has_name name c.args.self.now ≡ false = ap (has_name name) (sym c.self.view_is) ∙ has_is name c.self.inside.names.entries ∙ ap is_some none in
-    ap (listed n) (placed name left c.self.inside.names c.in_ok-name.name c.one.result c.insert.new.self.entries c.in_ok-name.ensures.items c.one.ensures none (rw c.get_mut.follows.holds-at-none at c.in_ok-insert.ensures.entries))
+    ap (listed n) (placed name left c.self.inside.names c.in_ok-name.name c.one.result c.insert.new.self.entries c.in_ok-name.ensures c.one.ensures none (rw c.get_mut.follows.holds-at-none at c.in_ok-insert.ensures.entries))
     ∙ ap (λ es. listed n (es ++ (name, left) ∷ [])) c.self.view_is
     ∙ listed_both n c.args.self.now ((name, left) ∷ [])
     ∙ ap (or_else_listed (found n c.args.self.now)) (listed_one n name left)
