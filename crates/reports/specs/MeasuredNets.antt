@@ -1,7 +1,6 @@
 -- What is kept of each net.
 use Rattle.std.specs.Prelude.{ℕ, List, [], ◌∷◌, Option}
 use Rattle.std.specs.Option.{option_map}
-use Rattle.std.specs.declared.vec.Vec.{Vec}
 use Rattle.design_model.specs.Geometry.{Rectangle}
 use Rattle.design_model.specs.Views.{rectangle_of}
 use Rattle.form_meanings.specs.Firsts.{with_all}
@@ -32,8 +31,8 @@ firsts ns = with_all name_of [] ns
 abbrev pub measures_view : List ℕ → Measures → MeasuredNet
 measures_view name m = record { name = name; net_length = m.length; net_box = option_map rectangle_of m.bounds }
 
-abbrev pub entry_view : {A : Type 0} → Vec ℕ A × Measures → MeasuredNet
-entry_view e = measures_view e.0.items e.1
+abbrev pub entry_view : List ℕ × Measures → MeasuredNet
+entry_view e = measures_view e.0 e.1
 
 -- the rectangle of a shape
 abbrev pub shape_box : OwnedShape → Rectangle

@@ -8,6 +8,7 @@ ghost use Rattle.reports.specs.MeasuredNets.{firsts, measured, measures_view, na
 use crate::net_box::box_round;
 use design_model::geometry::Rect;
 use indexmap::IndexMap;
+use name_keys::{Name, OwnName};
 use net_lists::NetList;
 use std::alloc::{AllocError, Allocator, Global};
 use std::hash::RandomState;
@@ -23,7 +24,7 @@ pub(crate) struct Measures {
 /// The measures of nets by their names, each name once.
 #[derive(Drop)]
 pub(crate) struct NetTable<A: Allocator = Global> {
-    nets: IndexMap<Vec<u8, A>, Measures, RandomState, A>,
+    nets: IndexMap<OwnName<A>, Measures, RandomState, A>,
 }
 
 impl<A: Allocator> Model for NetTable<A> {
@@ -49,10 +50,10 @@ impl<A: Allocator + Copy> NetTable<A> {
     fn add(&mut self, alloc: A, name: &[u8], measures: Measures) -> Result<(), AllocError>
         ensures { OnOk result (self.new ≡ with_first name_of self.old (measures_view name.now measures)) }
     {
-        if self.nets.contains_key(name) {
+        if self.nets.contains_key(Name { bytes: name }) {
             return Ok(());
         }
-        let name = Vec::from_slice(alloc, name)?;
+        let name = OwnName::copy_of(alloc, name)?;
         self.nets.insert(name, measures)?;
         Ok(())
     }
@@ -61,7 +62,7 @@ impl<A: Allocator + Copy> NetTable<A> {
     pub(crate) fn get(&self, name: &[u8]) -> Option<Measures>
         ensures { option_map (measures_view name.now) result ≡ find_named name_of self.now name.now }
     {
-        self.nets.get(name).copied()
+        self.nets.get(Name { bytes: name }).copied()
     }
 }
 

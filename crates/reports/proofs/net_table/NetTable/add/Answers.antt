@@ -10,5 +10,5 @@ returns-then-contains_key g c =
 pub returns : goal.returns
 returns g c =
     rw (← c.self.view_is)
-    (added_new c.in_ok-name.name c.args.measures c.args.name.now c.self.inside.nets.entries c.insert.new.self.entries c.in_ok-name.ensures.items
+    (added_new c.in_ok-name.name c.args.measures c.args.name.now c.self.inside.nets.entries c.insert.new.self.entries c.in_ok-name.ensures
     (sym c.contains_key.ensures ∙ c.if-contains_key.false) c.in_ok-insert.ensures.entries)
