@@ -4,6 +4,7 @@ mod EntryPlaces
 mod FewMade
 mod FoundNumbers
 mod FoundStatements
+mod KeptDesigns
 mod KeptKeys
 mod KeyedTexts
 mod Opened

@@ -20,8 +20,8 @@ module _ (slots : List (Option Kept)) where
   has_piece (x ∷ xs) zero d h below = h.0
   has_piece (x ∷ xs) (suc i) d h below = has_piece xs i d h.1 (omega (arith, below))
 
-  pub is_held : (ids : List StmtId) (i : ℕ) (d : StmtId) → HavePieces slots ids → i < length ids → slot slots (get_or ids i d) ≡ None → ⊥
-  is_held ids i d h below none = let p = has_piece ids i d h below in let e = sym p.held ∙ none in absurd (cc)
+  pub is_held : (id : StmtId) → HasPiece slots id → slot slots id ≡ None → ⊥
+  is_held id p none = let e = sym p.held ∙ none in absurd (cc)
 
   pub kept_is : (id : StmtId) (k : Kept) → HasPiece slots id → slot slots id ≡ Some k → k ≡ kept_at slots id
   kept_is id k p held = let e = sym held ∙ p.held in cc

@@ -14,6 +14,7 @@ mod editing;
 pub mod entries;
 mod look_ups;
 mod opening;
+mod records;
 mod replacing;
 mod statements;
 mod step;

@@ -12,8 +12,10 @@ ghost use Rattle.def_reader.specs.Lent.{StatementAt};
 ghost use Rattle.def_reader.specs.StatementViews.{record_view};
 ghost use Rattle.def_splice.specs.Lying.{LiesIn, lying_statement};
 ghost use Rattle.text_pieces.specs.Content.{text_of};
+ghost use Rattle.text_pieces.specs.KeptRecords.{HasPiece, record_of};
 ghost use Rattle.text_pieces.specs.Lent.{numbered_statements};
 ghost use Rattle.text_pieces.specs.Statements.{look_up};
+ghost use Rattle.text_pieces.specs.Tables.{kept_at};
 
 use def_reader::read_statement::{Read, read_statement};
 use def_reader::statement::Statement;
@@ -39,6 +41,20 @@ pub(crate) fn read_piece<'t>(bytes: &'t [u8], mode: Mode) -> Read<'t>
     };
     let Some(read) = found else { unreachable!() };
     read
+}
+
+/// The statement that is kept under a number, read from its piece alone.
+pub(crate) fn kept_statement<'t, A: Allocator + Copy>(
+    pieces: &'t TextPieces<A>,
+    id: StmtId,
+) -> Statement<'t>
+    requires { HasPiece pieces.now.table.slots id }
+    ensures { record_view result ≡ record_of (kept_at pieces.now.table.slots id) }
+{
+    let Some((bytes, mode)) = pieces.kept_piece(id) else {
+        unreachable!()
+    };
+    read_piece(bytes, mode).statement
 }
 
 /// The statement of a number, read from its piece alone, with its tokens where they lie in the text.

@@ -15,7 +15,7 @@ ghost use Rattle.design_text.specs.DesignTexts.{text_of};
 ghost use Rattle.design_text.specs.FewReads.{new_in};
 ghost use Rattle.design_text.specs.Steps.{Both, LeadsTo, PreparesCuts};
 
-use crate::statements::read_piece;
+use crate::statements::kept_statement;
 use crate::text::DesignText;
 use def_reader::statement::Statement;
 use design_model::identifier::StmtId;
@@ -65,10 +65,7 @@ fn numbered<'t, A: Allocator + Copy>(
 {
     let mut statements = Vec::with_capacity(alloc, ids.len())?;
     for id in ids {
-        let Some((bytes, mode)) = pieces.kept_piece(*id) else {
-            unreachable!()
-        };
-        let statement = read_piece(bytes, mode).statement;
+        let statement = kept_statement(pieces, *id);
         statements.push(Numbered { id: *id, statement })?;
     }
     Ok(statements)

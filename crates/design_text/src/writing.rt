@@ -4,6 +4,7 @@ ghost use Rattle.std.specs.Prelude.{◌≡◌, ◌<◌, ◌≤◌, ◌+◌, ◌^
 ghost use Rattle.std.specs.Io.KnownBytes.{Appends};
 ghost use Rattle.counted_devices.specs.Counting.{HasFailed};
 ghost use Rattle.counted_devices.specs.Known.{WritesPart};
+ghost use Rattle.text_pieces.specs.Content.{text_of as text_in_pieces};
 ghost use Rattle.design_text.specs.DesignTexts.{text_of};
 
 use crate::text::DesignText;
@@ -11,6 +12,18 @@ use counted_devices::counted::{Counted, CountedWrite, Failures};
 use counted_devices::output::WriteFault;
 use std::alloc::{AllocError, Allocator};
 use std::io::Write;
+use text_pieces::text::TextPieces;
+
+/// Pieces of a text, put together.
+fn joined<A: Allocator + Copy>(alloc: A, pieces: &TextPieces<A>) -> Result<Vec<u8, A>, AllocError>
+    ensures { IfOk result (λ v. v.items ≡ text_in_pieces pieces.now) }
+{
+    let mut out = Counted::new(Vec::with_capacity(alloc, pieces.len())?);
+    match pieces.write_to(&mut out) {
+        Ok(()) => Ok(out.into_inner()),
+        Err(_) => Err(AllocError),
+    }
+}
 
 impl<A: Allocator + Copy> DesignText<A> {
     /// How many bytes the text has.
@@ -24,11 +37,21 @@ impl<A: Allocator + Copy> DesignText<A> {
     pub fn text(&self, alloc: A) -> Result<Vec<u8, A>, AllocError>
         ensures { IfOk result (λ v. v.items ≡ text_of self.now) }
     {
-        let mut out = Counted::new(Vec::with_capacity(alloc, self.pieces.len())?);
-        match self.write_to(&mut out) {
-            Ok(()) => Ok(out.into_inner()),
-            Err(_) => Err(AllocError),
-        }
+        joined(alloc, &self.pieces)
+    }
+
+    /// The text, put together. The tables are given back before memory is taken for it.
+    pub fn into_text(self, alloc: A) -> Result<Vec<u8, A>, AllocError>
+        ensures { IfOk result (λ v. v.items ≡ text_of self.entry) }
+    {
+        let DesignText {
+            pieces,
+            tables,
+            unused,
+        } = self;
+        drop(tables);
+        drop(unused);
+        joined(alloc, &pieces)
     }
 
     /// Writes the text.

@@ -1,12 +1,10 @@
 //! What is measured of a text.
 
-ghost use Rattle.std.specs.Prelude.{IfOk, IfSome, IsOk};
-ghost use Rattle.def_grammar.specs.Records.{read_def};
+ghost use Rattle.std.specs.Prelude.{IfOk, IfSome};
 ghost use Rattle.design_text.specs.DesignTexts.{text_of};
 ghost use Rattle.edit_session.specs.Sessions.{AnswersOn};
 
 use cell_library::library::Library;
-use def_reader::records::statements_of;
 use design_names::names::names_of;
 use design_text::text::DesignText;
 use line_laws::scales::scales_are_good;
@@ -15,34 +13,20 @@ use measure_laws::ranges::lines_fit;
 use reports::Reports;
 use std::alloc::{AllocError, Allocator};
 
-/// The lengths and boxes of all nets of a text that reads, and its cells. The text is read once.
-fn reports_of<'t, A: Allocator + Copy>(
+/// The lengths and boxes of all nets of a text, and its cells. Each statement is read once, from its piece.
+fn reports_on<'t, A: Allocator + Copy>(
     alloc: A,
     library: &'t Library<'_, A>,
-    text: &'t [u8],
+    text: &'t DesignText<A>,
 ) -> Result<Reports<A>, AllocError>
-    requires { IsOk (read_def text.now) }
-    ensures { IfOk result (AnswersOn library.now text.now) }
+    ensures { IfOk result (AnswersOn library.now (text_of text.now)) }
 {
     scales_are_good();
     lengths_fit();
     lines_fit();
-    let records = statements_of(alloc, text)?;
+    let records = text.statements(alloc)?;
     let names = names_of(alloc, library.hash_builder(), &records)?;
     Reports::open(alloc, library, &names)
-}
-
-/// What is measured of a text in pieces, which is put together for it.
-fn reports_on<A: Allocator + Copy>(
-    alloc: A,
-    library: &Library<'_, A>,
-    text: &DesignText<A>,
-) -> Result<Reports<A>, AllocError>
-    ensures { IfOk result (AnswersOn library.now (text_of text.now)) }
-{
-    text.text_reads();
-    let text = text.text(alloc)?;
-    reports_of(alloc, library, &text)
 }
 
 /// What was measured of a text, if that is kept, and else what is measured of it now.

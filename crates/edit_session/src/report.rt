@@ -1,7 +1,6 @@
 //! The report on a text.
 
-ghost use Rattle.std.specs.Prelude.{◌≡◌, ◌++◌, ◌<◌, ◌≤◌, IfOk, IsOk, OnOk, flat_map, map};
-ghost use Rattle.def_grammar.specs.Records.{read_def};
+ghost use Rattle.std.specs.Prelude.{◌≡◌, ◌++◌, ◌<◌, ◌≤◌, IfOk, OnOk, flat_map, map};
 ghost use Rattle.def_reader.specs.StatementViews.{record_view};
 ghost use Rattle.connection_rules.specs.NetLines.{net_lines};
 ghost use Rattle.design_rules.specs.Boxes.{scale};
@@ -9,14 +8,15 @@ ghost use Rattle.report_rules.specs.Diagnostics.{statement_lines};
 ghost use Rattle.design_rules.specs.OverlapLines.{overlap_lines};
 ghost use Rattle.design_rules.specs.PlaceLines.{place_lines};
 ghost use Rattle.line_laws.specs.Lines.{SameLines};
+ghost use Rattle.design_text.specs.DesignTexts.{text_of};
 ghost use Rattle.report_lines.specs.Kinds.{HaveTheirKinds};
 ghost use Rattle.edit_session.specs.Sessions.{AreDiagnostics};
 
 use cell_library::library::Library;
-use def_reader::records::statements_of;
 use def_reader::statement::Statement;
 use design_model::diagnostic::DiagLines;
 use design_names::names::names_of;
+use design_text::text::DesignText;
 use entry_checks::known::Defined;
 use entry_checks::off_layers::off_layers_in;
 use entry_checks::unchecked::{unchecked_in_library, unchecked_in_statement};
@@ -116,19 +116,18 @@ fn put_places<'t, A: Allocator + Copy>(
     Ok(())
 }
 
-/// All diagnostics of a text that reads, in the order of their bytes, repeats kept. The text is read once.
+/// All diagnostics of a text, in the order of their bytes, repeats kept. Each statement is read once, from its piece.
 pub fn report<'t, A: Allocator + Copy>(
     alloc: A,
     library: &'t Library<'_, A>,
-    text: &'t [u8],
+    text: &'t DesignText<A>,
 ) -> Result<DiagLines<A>, AllocError>
-    requires { IsOk (read_def text.now) }
-    ensures lines { IfOk result (λ lines. AreDiagnostics library.now text.now lines) }
+    ensures lines { IfOk result (λ lines. AreDiagnostics library.now (text_of text.now) lines) }
     ensures kinds { IfOk result (λ lines. HaveTheirKinds lines) }
 {
     scales_are_good();
     same_lines_sort_alike();
-    let records = statements_of(alloc, text)?;
+    let records = text.statements(alloc)?;
     let mut lines = Lines::new(alloc);
     counts_of(&records, &mut lines)?;
     let mut lines = put_named(alloc, library, &records, lines)?;

@@ -100,7 +100,7 @@ impl<'s, 'l, A: Allocator + Copy> Session<'s, 'l, A> {
     pub fn into_text(self) -> Result<Vec<u8, A>, AllocError>
         ensures { IfOk result (λ v. v.items ≡ self.entry.text) }
     {
-        self.text.text(self.alloc)
+        self.text.into_text(self.alloc)
     }
 
     /// Makes an edit, or refuses it and leaves the text as it was.
@@ -147,8 +147,7 @@ impl<'s, 'l, A: Allocator + Copy> Session<'s, 'l, A> {
         ensures lines { IfOk result (λ lines. AreDiagnostics self.now.library self.now.text lines) }
         ensures kinds { IfOk result (λ lines. HaveTheirKinds lines) }
     {
-        let text = self.text.text(self.alloc)?;
-        report(self.alloc, self.library, &text)
+        report(self.alloc, self.library, &self.text)
     }
 
     /// What is measured of the present text, which no field has then.

@@ -21,4 +21,4 @@ returns-clause-lines g c =
     all_families _ _ _ _ (count_lines design) (flat_map (statement_lines library design) design) (unchecked_in_library library) (overlap_lines library design)
     (place_lines library design) (net_lines library design (scale design)) counts named c.in_ok-unchecked_in_library.ensures places
     in
-    (design, c.in_ok-records.ensures.records, c.into_sorted.ensures.texts ∙ c.same_lines_sort_alike.ensures _ _ same)
+    (design, c.in_ok-records.ensures, c.into_sorted.ensures.texts ∙ c.same_lines_sort_alike.ensures _ _ same)
