@@ -1,5 +1,6 @@
 -- The design of a text as what is kept of its statements.
-use Rattle.std.proofs.Common.{◌≡◌, ℕ, List, [], ◌∷◌, length, map, Option, refl, sym, ap, ◌∙◌}
+use Rattle.std.proofs.Common.{◌≡◌, ℕ, List, [], ◌∷◌, length, map, Option, Result, Ok, Err, refl, sym, ap, ◌∙◌}
+use Rattle.std.specs.Prelude.{IfOk}
 use Rattle.std.proofs.lemmas.List.{length-map}
 use Rattle.std.proofs.lemmas.Slice.Zip.{seconds-zip}
 use Rattle.design_model.specs.declared.identifier.StmtId.{StmtId}
@@ -20,3 +21,7 @@ kept_design c design n k =
     ∙ ap (map (λ x. x.1)) (sym k.says)
     ∙ seconds-zip (numbers_of c) (map (λ x. x.1) said) (length-map said (λ x. x.1) ∙ sym n.many)
     ∙ n.said
+
+pub ok_so : {X E : Type 0} {P Q : X → Type 0} (r : Result X E) → ((x : X) → P x → Q x) → IfOk r P → IfOk r Q
+ok_so (Ok x) f p = f x p
+ok_so (Err e) f p = p

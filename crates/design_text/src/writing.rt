@@ -42,7 +42,7 @@ impl<A: Allocator + Copy> DesignText<A> {
 
     /// The text, put together. The tables are given back before memory is taken for it.
     pub fn into_text(self, alloc: A) -> Result<Vec<u8, A>, AllocError>
-        ensures { IfOk result (λ v. v.items ≡ text_of self.entry) }
+        ensures { IfOk result (λ v. v.items ≡ text_of self) }
     {
         let DesignText {
             pieces,

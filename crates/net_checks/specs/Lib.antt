@@ -1,1 +1,2 @@
 pub mod BarrierViews
+pub mod Drawings

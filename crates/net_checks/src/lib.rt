@@ -1,16 +1,16 @@
 //! The lines on the nets of a design: on shapes of two nets that touch, on wires where routing is blocked, and on what hangs
 //! together in each net.
 //!
-//! Begin with `with_net_lines`, which puts them all behind others. They are `net_lines` of `connection_rules/specs/NetLines`, in an
-//! order that is left open. The nets come from `design_nets`, the lines on shapes from `net_touches`, and those on classes from
+//! Begin with `NetDrawing::new`, whose `put_lines` puts them all behind others. They are `net_lines` of
+//! `connection_rules/specs/NetLines`, in an order that is left open. The nets come from `design_nets`, the lines on shapes from `net_touches`, and those on classes from
 //! `net_classes`.
 //!
-//! Nothing is lent. While it works it holds the design's nets with all their shapes, its vias, and its blockages on layers. The one
-//! error is `AllocError`.
+//! A `NetDrawing` holds the design's nets with all their shapes, and its blockages on layers; while it is made, the design's vias too.
+//! It borrows names from the texts, and nothing from the `Names` that it is made from. The one error is `AllocError`.
 #![tactic(auto)]
 
 mod barriers;
 mod layer_names;
 mod net_lines;
 
-pub use net_lines::with_net_lines;
+pub use net_lines::NetDrawing;

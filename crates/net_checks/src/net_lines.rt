@@ -1,9 +1,12 @@
 //! The lines on the nets of a design.
 
-ghost use Rattle.std.specs.Prelude.{◌≡◌, ◌++◌, ◌<◌, ◌≤◌, IfOk};
+ghost use Rattle.std.specs.Prelude.{◌≡◌, ◌++◌, ◌<◌, ◌≤◌, IfOk, List};
+ghost use Rattle.def_grammar.specs.Records.{Record};
+ghost use Rattle.lef_grammar.specs.Library.{Library as TheLibrary};
 ghost use Rattle.design_rules.specs.Boxes.{scale};
 ghost use Rattle.connection_rules.specs.NetLines.{net_lines};
 ghost use Rattle.line_laws.specs.Lines.{SameLines};
+ghost use Rattle.net_checks.specs.Drawings.{IsDrawingOf};
 
 use crate::barriers::barriers_of;
 use crate::layer_names::layer_names;
@@ -13,29 +16,62 @@ use design_nets::nets_of;
 use design_wires::wires::DesignWires;
 use line_laws::same::same_lines_append;
 use net_classes::put_class_lines;
-use net_touches::{layers_have_their_names, touching_lines};
+use net_lists::NetList;
+use net_touches::{Barrier, layers_have_their_names, touching_lines};
 use report_lines::Lines;
-use std::alloc::{AllocError, Allocator};
+use std::alloc::{AllocError, Allocator, Global};
+use std::marker::Model;
 
-/// Puts the lines on shapes of two nets that touch, on wires where routing is blocked, and on what hangs together in each net
-/// behind others, in an order that is left open.
-pub fn with_net_lines<A: Allocator + Copy>(
-    alloc: A,
-    library: &Library<'_, A>,
-    names: &Names<'_, '_, A>,
-    lines: Lines<A>,
-) -> Result<Lines<A>, AllocError>
-    requires some { 0 < scale names.now }
-    requires few { scale names.now ≤ 100000 }
-    ensures { IfOk result (λ l. SameLines l (lines ++ net_lines library.now names.now (scale names.now))) }
-{
-    layers_have_their_names();
-    same_lines_append();
-    let wires = DesignWires::new(alloc, library, names)?;
-    let nets = nets_of(alloc, library, names, &wires)?;
-    let barriers = barriers_of(alloc, library, names.records())?;
-    let layers = layer_names(alloc, library)?;
-    let mut lines = touching_lines(alloc, &layers, &nets, &barriers, lines)?;
-    put_class_lines(alloc, &nets, &mut lines)?;
-    Ok(lines)
+/// What the lines on the nets of a design speak of: its nets with their shapes, where routing is blocked, and the names of layers. It
+/// borrows from the texts alone, so what it was made from may be given back before its lines are made.
+#[derive(Drop)]
+pub struct NetDrawing<'l, 't, A: Allocator = Global> {
+    nets: NetList<'t, A>,
+    barriers: Vec<Barrier, A>,
+    layers: Vec<&'l [u8], A>,
+}
+
+impl<'l, 't, A: Allocator> Model for NetDrawing<'l, 't, A> {
+    ghost use Rattle.std.specs.Prelude.{map};
+    ghost use Rattle.net_touches.specs.Barriers.{barrier_view};
+    ghost use Rattle.net_checks.specs.Drawings.{Drawing};
+
+    ghost Value = { Drawing };
+
+    ghost view = { λ d. record { nets = d.nets; barriers = map barrier_view d.barriers.items; layers = map (λ w. w.now) d.layers.items } };
+}
+
+impl<'l, 't, A: Allocator + Copy> NetDrawing<'l, 't, A> {
+    /// The nets of a design whose text reads, so that its scale is in range.
+    pub fn new(
+        alloc: A,
+        library: &Library<'l, A>,
+        names: &Names<'_, 't, A>,
+    ) -> Result<NetDrawing<'l, 't, A>, AllocError>
+        requires some { 0 < scale names.now }
+        requires few { scale names.now ≤ 100000 }
+        ensures { IfOk result (IsDrawingOf library.now names.now) }
+    {
+        let wires = DesignWires::new(alloc, library, names)?;
+        let nets = nets_of(alloc, library, names, &wires)?;
+        let barriers = barriers_of(alloc, library, names.records())?;
+        let layers = layer_names(alloc, library)?;
+        Ok(NetDrawing {
+            nets,
+            barriers,
+            layers,
+        })
+    }
+
+    /// Puts the lines on shapes of two nets that touch, on wires where routing is blocked, and on what hangs together in each net
+    /// behind others, in an order that is left open.
+    pub fn put_lines(&self, alloc: A, lines: Lines<A>) -> Result<Lines<A>, AllocError>
+        ensures { (library : TheLibrary) (design : List Record) → IsDrawingOf library design self.now → IfOk result (λ l. SameLines l (lines ++ net_lines library design (scale design))) }
+    {
+        layers_have_their_names();
+        same_lines_append();
+        let mut lines = touching_lines(alloc, &self.layers, &self.nets, &self.barriers, lines)?;
+        put_class_lines(alloc, &self.nets, &mut lines)?;
+        Ok(lines)
+    }
 }

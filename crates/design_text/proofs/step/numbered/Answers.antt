@@ -7,8 +7,8 @@ use Rattle.design_tables.specs.TableViews.{numbered_view}
 use Rattle.design_text.proofs.Pushing.{has_piece, pushed}
 use Rattle.design_text.proofs.step.numbered.Goals as goal
 
-pub kept_statement-requires : goal.kept_statement-requires
-kept_statement-requires g c = has_piece c.args.pieces.now.table.slots c.args.ids.now c.loop-id.id-index (record { 0 = 0 }) c.requires c.loop-id-test.true
+pub kept_statement-statement-requires : goal.kept_statement-statement-requires
+kept_statement-statement-requires g c = has_piece c.args.pieces.now.table.slots c.args.ids.now c.loop-id.id-index (record { 0 = 0 }) c.requires c.loop-id-test.true
 
 pub loop-id-preserved : goal.loop-id-preserved
 loop-id-preserved g c =
@@ -17,7 +17,7 @@ loop-id-preserved g c =
     let i = c.loop-id.id-index in
     let id = get_or ids i (record { 0 = 0 }) in
     pushed numbered_view (λ x. (x, record_of (kept_at slots x))) ids i (record { 0 = 0 }) id c.loop-id.statements.items c.push.new.self.items _ c.loop-id-test.true refl c.in_ok-push.ensures.items
-    (ap (λ (rec : Record). (id, rec)) c.kept_statement.ensures) c.loop-id.invariant
+    (ap (λ (rec : Record). (id, rec)) c.kept_statement-statement.ensures) c.loop-id.invariant
 
 pub returns : goal.returns
 returns g c =
