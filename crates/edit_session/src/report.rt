@@ -2,7 +2,6 @@
 
 ghost use Rattle.std.specs.Prelude.{◌≡◌, ◌++◌, ◌<◌, ◌≤◌, IfOk, OnOk, flat_map, map};
 ghost use Rattle.def_reader.specs.StatementViews.{record_view};
-ghost use Rattle.connection_rules.specs.NetLines.{net_lines};
 ghost use Rattle.design_rules.specs.Boxes.{scale};
 ghost use Rattle.report_rules.specs.Diagnostics.{statement_lines};
 ghost use Rattle.design_rules.specs.OverlapLines.{overlap_lines};
@@ -10,6 +9,8 @@ ghost use Rattle.design_rules.specs.PlaceLines.{place_lines};
 ghost use Rattle.line_laws.specs.Lines.{SameLines};
 ghost use Rattle.design_text.specs.DesignTexts.{text_of};
 ghost use Rattle.report_lines.specs.Kinds.{HaveTheirKinds};
+ghost use Rattle.net_checks.specs.Drawings.{IsDrawingOf};
+ghost use Rattle.edit_session.specs.Reports.{LackNets};
 ghost use Rattle.edit_session.specs.Sessions.{AreDiagnostics};
 
 use cell_library::library::Library;
@@ -26,7 +27,7 @@ use line_laws::one::components_in_any_order;
 use line_laws::same::{maps_are_same, permutations_are_same};
 use line_laws::scales::scales_are_good;
 use line_laws::sorting::same_lines_sort_alike;
-use net_checks::with_net_lines;
+use net_checks::NetDrawing;
 use place_checks::blocked::blocked_of;
 use place_checks::boxes::boxes_of;
 use place_checks::count::counts_of;
@@ -69,26 +70,25 @@ fn put_each<'t, A: Allocator + Copy>(
     Ok(())
 }
 
-/// Puts the lines on each statement of a design by itself behind others, and those on its nets, in an order that is left open.
-fn put_named<'t, A: Allocator + Copy>(
+/// Puts the lines on each statement of a design by itself behind others, and gives its nets with their shapes.
+fn put_named<'l, 't, A: Allocator + Copy>(
     alloc: A,
-    library: &Library<'_, A>,
+    library: &Library<'l, A>,
     records: &[Statement<'t>],
-    lines: Lines<A>,
-) -> Result<Lines<A>, AllocError>
+    lines: &mut Lines<A>,
+) -> Result<NetDrawing<'l, 't, A>, AllocError>
     requires some { 0 < scale (map record_view records.now) }
     requires few { scale (map record_view records.now) ≤ 100000 }
-    ensures { let design = map record_view records.entry.now in
-        IfOk result (λ l. SameLines l ((lines ++ flat_map (statement_lines library.now design) design) ++ net_lines library.now design (scale design))) }
+    ensures lines { let design = map record_view records.entry.now in OnOk result (lines.new ≡ lines.old ++ flat_map (statement_lines library.now design) design) }
+    ensures nets { IfOk result (IsDrawingOf library.now (map record_view records.entry.now)) }
 {
     let names = names_of(alloc, library.hash_builder(), records)?;
     let defined = Defined {
         library,
         names: &names,
     };
-    let mut lines = lines;
-    put_each(alloc, &defined, records, &mut lines)?;
-    with_net_lines(alloc, library, &names, lines)
+    put_each(alloc, &defined, records, lines)?;
+    NetDrawing::new(alloc, library, &names)
 }
 
 /// Puts the lines on components and what they stand in behind others, in the order of a sweep over them.
@@ -116,22 +116,36 @@ fn put_places<'t, A: Allocator + Copy>(
     Ok(())
 }
 
-/// All diagnostics of a text, in the order of their bytes, repeats kept. Each statement is read once, from its piece.
-pub fn report<'t, A: Allocator + Copy>(
+/// All lines on a text but those on its nets, and its nets with their shapes. Each statement is read once, from its piece, and none
+/// is kept.
+fn all_but_nets<'l, 't, A: Allocator + Copy>(
     alloc: A,
-    library: &'t Library<'_, A>,
+    library: &'t Library<'l, A>,
+    text: &'t DesignText<A>,
+) -> Result<(Lines<A>, NetDrawing<'l, 't, A>), AllocError>
+    ensures { IfOk result (λ x. LackNets library.now (text_of text.now) x.0 x.1) }
+{
+    scales_are_good();
+    let records = text.statements(alloc)?;
+    let mut lines = Lines::new(alloc);
+    counts_of(&records, &mut lines)?;
+    unchecked_in_library(library, &mut lines)?;
+    put_places(alloc, library, &records, &mut lines)?;
+    let nets = put_named(alloc, library, &records, &mut lines)?;
+    Ok((lines, nets))
+}
+
+/// All diagnostics of a text, in the order of their bytes, repeats kept.
+pub fn report<'l, 't, A: Allocator + Copy>(
+    alloc: A,
+    library: &'t Library<'l, A>,
     text: &'t DesignText<A>,
 ) -> Result<DiagLines<A>, AllocError>
     ensures lines { IfOk result (λ lines. AreDiagnostics library.now (text_of text.now) lines) }
     ensures kinds { IfOk result (λ lines. HaveTheirKinds lines) }
 {
-    scales_are_good();
     same_lines_sort_alike();
-    let records = text.statements(alloc)?;
-    let mut lines = Lines::new(alloc);
-    counts_of(&records, &mut lines)?;
-    let mut lines = put_named(alloc, library, &records, lines)?;
-    unchecked_in_library(library, &mut lines)?;
-    put_places(alloc, library, &records, &mut lines)?;
+    let (lines, nets) = all_but_nets(alloc, library, text)?;
+    let lines = nets.put_lines(alloc, lines)?;
     Ok(lines.into_sorted())
 }
