@@ -1,5 +1,5 @@
 -- Lines that are put behind others.
-use Rattle.std.proofs.Common.{◌≡◌, ◌+◌, ℕ, List, ◌++◌, refl, ap, ◌∙◌, append_assoc}
+use Rattle.std.proofs.Common.{◌≡◌, ℕ, List, ◌++◌, refl, ap, ◌∙◌, append_assoc}
 use Rattle.line_laws.specs.Lines.{SameLines, times}
 use Rattle.line_laws.specs.SameLaws.{SameLinesAppend}
 
