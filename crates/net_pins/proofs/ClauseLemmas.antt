@@ -1,10 +1,9 @@
 -- The clauses of a pin of the design, one by one.
-use Rattle.std.proofs.Common.{◌≡◌, ℕ, Bool, true, false, ◌||◌, List, [], ◌∷◌, ◌++◌, map, flat_map, refl, sym, ap, ◌∙◌, Option, Some, None, if◌then◌else◌}
+use Rattle.std.proofs.Common.{◌≡◌, ℕ, Bool, true, false, ◌||◌, List, [], ◌∷◌, ◌++◌, flat_map, sym, ap, ◌∙◌, Option, if◌then◌else◌}
 use Rattle.design_model.specs.declared.geometry.Orient.{Orient}
 use Rattle.design_model.specs.declared.geometry.Point.{Point}
 use Rattle.def_grammar.specs.Pins.{PinClause}
 use Rattle.lef_grammar.specs.Definitions.{Layer}
-use Rattle.lef_grammar.specs.Measures.{Shape}
 use Rattle.wire_rules.specs.ViaShapes.{NamedShape}
 use Rattle.connection_rules.specs.NetParts.{Net}
 use Rattle.connection_rules.specs.PinShapes.{checked_named, clause_shapes, port_shapes, ports}

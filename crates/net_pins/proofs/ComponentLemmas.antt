@@ -1,5 +1,5 @@
 -- The pin of a component as a part.
-use Rattle.std.proofs.Common.{◌≡◌, ℕ, Bool, true, false, List, [], ◌∷◌, ◌++◌, map, flat_map, refl, sym, ap, ap₂, ◌∙◌, Option, Some, None}
+use Rattle.std.proofs.Common.{◌≡◌, ℕ, Bool, true, false, List, [], ◌∷◌, ◌++◌, map, refl, sym, ap, ap₂, ◌∙◌, Option, Some, None}
 use Rattle.std.proofs.lemmas.List.{map-append}
 use Rattle.design_model.specs.Geometry.{Rectangle, spanned}
 use Rattle.design_model.specs.Views.{rectangle_of}
@@ -23,7 +23,7 @@ use Rattle.place_parts.specs.declared.standing.Standing.TheVariants.{At}
 use Rattle.design_wires.specs.Scales.{units_of}
 use Rattle.net_pins.specs.CellPlaces.{origin, place_of_spot}
 use Rattle.net_pins.specs.Counting.{counted}
-use Rattle.net_pins.specs.MacroPins.{all_checked, all_placed, layer_checked, layer_placed, placed_in, rectangles_if}
+use Rattle.net_pins.specs.MacroPins.{all_checked, all_placed, layer_checked, placed_in, rectangles_if}
 use Rattle.net_pins.specs.declared.cell_place.CellPlace.{CellPlace}
 use Rattle.net_pins.proofs.MacroLemmas.{boundary_in_order, layer_by_layer, placed_so}
 

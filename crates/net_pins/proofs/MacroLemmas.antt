@@ -1,9 +1,9 @@
 -- The shapes of a pin of a macro on layers of TYPE ROUTING or CUT, layer by layer.
-use Rattle.std.proofs.Common.{◌≡◌, ℕ, ℤ, pos, neg_ℤ, ◌+ℤ◌, ◌-ℤ◌, Bool, true, false, List, [], ◌∷◌, ◌++◌, filter, map, flat_map, refl, sym, ap, ap₂, ◌∙◌, arith, Option, Some, None, if◌then◌else◌}
+use Rattle.std.proofs.Common.{◌≡◌, ℕ, ℤ, pos, neg_ℤ, ◌-ℤ◌, Bool, true, false, List, [], ◌∷◌, ◌++◌, filter, map, refl, ap, ap₂, ◌∙◌, arith, Option, Some, None, if◌then◌else◌}
 use Rattle.std.specs.Int.{int_min, int_max}
 use Rattle.std.proofs.lemmas.Int.{ints, clamps}
 use Rattle.std.proofs.lemmas.List.{map-append}
-use Rattle.design_model.specs.Geometry.{Rectangle, lower_left, placed, moved, spanned, turned, upper_right}
+use Rattle.design_model.specs.Geometry.{Rectangle, lower_left, moved, spanned, turned, upper_right}
 use Rattle.design_model.specs.declared.geometry.Orient.{Orient}
 use Rattle.design_model.specs.declared.geometry.Orient.TheVariants.{N, W, S, E, FN, FS, FW, FE}
 use Rattle.design_model.specs.declared.geometry.Point.{Point}

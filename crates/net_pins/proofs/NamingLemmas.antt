@@ -1,5 +1,5 @@
 -- The pins of the design that name a net, and the terminals of entries.
-use Rattle.std.proofs.Common.{◌≡◌, ℕ, zero, suc, ◌+◌, ◌<◌, ◌≤◌, Bool, true, false, List, [], ◌∷◌, ◌++◌, filter, map, flat_map, refl, sym, ap, ap₂, ◌∙◌, Bor, Option, Some, None, is_some, if◌then◌else◌, arith, get_or, length, take}
+use Rattle.std.proofs.Common.{◌≡◌, ℕ, zero, suc, ◌+◌, ◌<◌, ◌≤◌, List, [], ◌∷◌, ◌++◌, filter, map, flat_map, refl, sym, ap, ap₂, ◌∙◌, Option, Some, None, is_some, if◌then◌else◌, arith, get_or, length, take}
 use Rattle.std.specs.List.{cons_option, filter_map}
 use Rattle.std.specs.Option.{option_map, option_to_list}
 use Rattle.std.specs.Str.{bytes_eq}
@@ -16,7 +16,7 @@ use Rattle.def_grammar.specs.Terminals.{Terminal}
 use Rattle.lef_grammar.specs.Library.{Library}
 use Rattle.entry_rules.specs.Unknown.{is_same}
 use Rattle.connection_rules.specs.NetParts.{Net, Wired, pin_part, pin_parts, wired_of}
-use Rattle.connection_rules.specs.Terminals.{NetPin, design_pin, design_pins, each_once, names_net, pins_by_name, pins_of}
+use Rattle.connection_rules.specs.Terminals.{NetPin, design_pin, each_once, pins_by_name, pins_of}
 use Rattle.name_groups.specs.Groups.{Group, grouped, members_named, of_name, seen, with_member}
 use Rattle.name_groups.proofs.GroupLaws.{found_are_seen, grouped_none, named, one_more_seen}
 use Rattle.net_lists.specs.Building.{with_parts}

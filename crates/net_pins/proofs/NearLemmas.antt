@@ -1,5 +1,5 @@
 -- Numbers that are near enough to be turned and moved.
-use Rattle.std.proofs.Common.{◌≡◌, ℕ, ◌≤◌, ℤ, ◌+ℤ◌, nat_abs, arith}
+use Rattle.std.proofs.Common.{◌≤◌, ℤ, ◌+ℤ◌, nat_abs, arith}
 use Rattle.std.proofs.lemmas.Int.{ints}
 use Rattle.design_model.specs.Geometry.{IsNear, IsNearRectangle, Rectangle, moved}
 use Rattle.design_model.specs.Ranges.{IsBoxWithin, IsPointWithin, IsWithin}

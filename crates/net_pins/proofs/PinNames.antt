@@ -1,13 +1,13 @@
 -- Pins of the design by their names.
 use Rattle.std.proofs.Common.{◌≡◌, ℕ, Bool, true, false, cond, ◌&&◌, List, [], ◌∷◌, refl, sym, ap, ◌∙◌, Option, Some, None, if◌then◌else◌}
-use Rattle.std.specs.List.{cons_option, filter_map, find}
+use Rattle.std.specs.List.{cons_option, filter_map}
 use Rattle.std.specs.Str.{bytes_eq}
 use Rattle.form_meanings.specs.Firsts.{find_named}
 use Rattle.form_meanings.specs.Words.{◌>>=◌}
 use Rattle.design_model.specs.EnumWords.{section_word}
 use Rattle.design_model.specs.declared.mode.Section.TheVariants.{Pins}
 use Rattle.def_grammar.specs.Pins.{Pin}
-use Rattle.def_grammar.specs.Records.{Record, Entry, top, in_properties, end_section, entry, component, pin, region, group, blockage, net, special_net, via, rule, skipped, entry_of}
+use Rattle.def_grammar.specs.Records.{Record, Entry, top, in_properties, end_section, entry, component, pin, region, group, blockage, net, special_net, via, rule, skipped}
 use Rattle.lef_grammar.specs.Library.{Library}
 use Rattle.entry_rules.specs.EntryNames.{entry_named}
 use Rattle.entry_rules.specs.Unknown.{is_in}

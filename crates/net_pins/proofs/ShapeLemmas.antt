@@ -1,12 +1,9 @@
 -- Shapes on layers of TYPE ROUTING or CUT.
-use Rattle.std.proofs.Common.{◌≡◌, ℕ, Bool, true, false, ◌||◌, List, [], ◌∷◌, ◌++◌, filter, map, flat_map, refl, sym, ap, ◌∙◌, append_assoc, Option, Some, None, if◌then◌else◌}
-use Rattle.std.specs.List.{filter_map}
+use Rattle.std.proofs.Common.{◌≡◌, Bool, true, false, ◌||◌, List, [], ◌∷◌, ◌++◌, filter, refl, ap, ◌∙◌, if◌then◌else◌}
 use Rattle.std.specs.Option.{option_map}
-use Rattle.std.proofs.lemmas.List.{map-append}
 use Rattle.std.proofs.lemmas.List.Elements.{filter_map-append}
-use Rattle.design_model.specs.declared.geometry.Point.{Point}
-use Rattle.lef_grammar.specs.Definitions.{Distances, Layer, LayerShapes}
-use Rattle.lef_grammar.specs.Measures.{Shape, moved_by, on_layer, on_layer_if, place_among, rectangle_in, shapes_in}
+use Rattle.lef_grammar.specs.Definitions.{Layer}
+use Rattle.lef_grammar.specs.Measures.{Shape, place_among}
 use Rattle.wire_rules.specs.ViaShapes.{NamedShape}
 use Rattle.connection_rules.specs.PinShapes.{checked, checked_named, is_checked, on_place, placed_among}
 use Rattle.connection_rules.specs.Terminals.{is_some_shape}

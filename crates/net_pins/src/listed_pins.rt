@@ -19,7 +19,7 @@ ghost use Rattle.net_pins.specs.EntryPins.{borrowed_pin, listed, pin_of_entry, p
 
 use crate::component_pins::{MacroPin, put_component_pin};
 use crate::design_pins::put_design_pin;
-use crate::seen_pins::SeenPins;
+use crate::seen_pins::{PinWords, SeenPins};
 use crate::sources::Sources;
 use cell_library::library::Library;
 use def_reader::entry::Entry;
@@ -54,7 +54,11 @@ fn put_pin_of<'t, A: Allocator + Copy>(
     let Some(found) = cell.pin(pin) else {
         return Ok(());
     };
-    if !seen.note((Some(component.name.bytes), pin))? {
+    let words = PinWords {
+        component: Some(component.name.bytes),
+        pin,
+    };
+    if !seen.note(words)? {
         return Ok(());
     }
     let pin = MacroPin {
@@ -77,7 +81,11 @@ pub(crate) fn put_pin<'a, 'l: 'a, 'r: 'a, 't: 'a, A: Allocator + Copy>(
     ensures ok { OnOk result ((seen.new, nets.new) ≡ with_pins (design_pin of.now.library.now of.now.names.now (units_of of.now.scale) (pin_view pin.now) ∷ []) (seen.old, nets.old)) }
     ensures net { OnOk result (0 < length nets.new) }
 {
-    if seen.note((None, pin.name.bytes))? {
+    let words = PinWords {
+        component: None,
+        pin: pin.name.bytes,
+    };
+    if seen.note(words)? {
         put_design_pin(of, pin, nets)
     } else {
         Ok(())

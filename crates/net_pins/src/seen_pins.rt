@@ -2,15 +2,47 @@
 
 ghost use Rattle.std.specs.Prelude.{◌≡◌, ◌++◌, ◌∷◌, [], IfOk, OnOk, not, if◌then◌else◌};
 ghost use Rattle.statement_model.specs.Reading.{is_among};
-ghost use Rattle.net_pins.specs.SeenViews.{words_of};
+ghost use Rattle.std.specs.Cmp.{partial_equiv_from_equiv};
+ghost use Rattle.net_pins.specs.SeenViews.{is_same_pin, same_pins, same_words_of, words_of};
 
 use indexmap::IndexSet;
 use std::alloc::{AllocError, Allocator, Global};
-use std::hash::RandomState;
+use std::hash::{Hash, Hasher, RandomState};
 use std::marker::Model;
 
-/// The component of a pin, unless it is the design's, and its name.
-pub(crate) type PinWords<'t> = (Option<&'t [u8]>, &'t [u8]);
+/// The component of a pin, unless it is the design's, and its name: a key of a table, each hashed by one write.
+#[derive(Clone, Copy)]
+pub(crate) struct PinWords<'t> {
+    pub(crate) component: Option<&'t [u8]>,
+    pub(crate) pin: &'t [u8],
+}
+
+impl<'t> PartialEq for PinWords<'t> {
+    ghost eq = { is_same_pin };
+
+    ghost laws = { partial_equiv_from_equiv same_pins };
+
+    fn eq(&self, other: &PinWords<'t>) -> bool {
+        self.component == other.component && self.pin == other.pin
+    }
+}
+
+impl<'t> Eq for PinWords<'t> {
+    ghost laws = { same_pins };
+}
+
+impl<'t> Hash for PinWords<'t> {
+    ghost hash_input = { words_of };
+
+    ghost respects_eq = { same_words_of };
+
+    fn hash<H: Hasher>(&self, state: &mut H) {
+        if let Some(component) = self.component {
+            state.write(component);
+        }
+        state.write(self.pin);
+    }
+}
 
 /// Pins by their words, in the order in which they were noted.
 #[derive(Drop)]

@@ -33,11 +33,12 @@ fn things_on<'n, 't, A: Allocator + Copy>(
     Ok(here)
 }
 
-/// Takes the things out that are on a layer.
+/// Takes the things out that are on a layer, and gives their memory back.
 fn take_out<'n, 't, A: Allocator + Copy>(layer: LayerId, things: &mut Vec<Thing<'n, 't>, A>)
     ensures { things.new.items ≡ filter (λ x. not (is_on layer.0 (thing_view x))) things.old.items }
 {
     things.retain(|thing| thing.layer() != layer);
+    things.shrink_to_fit();
 }
 
 /// Puts the lines of all pairs of things behind others, in an order that is left open. Things of two layers have none, and are not
@@ -55,8 +56,8 @@ fn put_by_layers<A: Allocator + Copy>(
     while let Some(first) = left.first() {
         let layer = first.layer();
         let here = things_on(alloc, layer, &left)?;
-        lines = put_pairs(alloc, names, &here, lines)?;
         take_out(layer, &mut left);
+        lines = put_pairs(alloc, names, &here, lines)?;
     }
     Ok(lines)
 }

@@ -1,8 +1,6 @@
-use Rattle.std.proofs.Common.{◌≡◌, List, map, Option, Some, ap, sym, ◌∙◌}
+use Rattle.std.proofs.Common.{◌≡◌, map, Some, ap, sym, ◌∙◌}
 use Rattle.std.proofs.lemmas.Result.{on_ok_weaker}
 use Rattle.def_grammar.specs.Placing.{placing}
-use Rattle.lef_grammar.specs.Measures.{Shape}
-use Rattle.net_lists.specs.Building.{with_shapes}
 use Rattle.cell_library.specs.CellViews.{cell_view}
 use Rattle.cell_library.specs.PinViews.{pin_view}
 use Rattle.cell_library.specs.ShapeViews.{shapes_view}

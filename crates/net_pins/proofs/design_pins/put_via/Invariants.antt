@@ -1,5 +1,5 @@
 use Rattle.std.proofs.Common.{map, length}
-use Rattle.connection_rules.specs.PinShapes.{checked_named, clause_shapes, moved_shape, turned_shape}
+use Rattle.connection_rules.specs.PinShapes.{checked_named, moved_shape, turned_shape}
 use Rattle.design_wires.specs.KnownShapes.{known_left}
 use Rattle.net_pins.specs.PortViews.{port_place_view}
 use Rattle.net_pins.specs.Putting.{Puts}

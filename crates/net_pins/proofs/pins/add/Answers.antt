@@ -1,4 +1,4 @@
-use Rattle.std.proofs.Common.{sym, ap, ◌∙◌}
+use Rattle.std.proofs.Common.{sym, ◌∙◌}
 use Rattle.std.proofs.lemmas.Result.{on_ok_weaker}
 use Rattle.def_reader.specs.StatementViews.{record_view}
 use Rattle.net_pins.specs.EntryPins.{borrowed_pin}
