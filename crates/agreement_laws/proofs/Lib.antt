@@ -1,0 +1,3 @@
+mod NameLemmas
+mod ShownLemmas
+mod ViaLemmas

@@ -1,0 +1,28 @@
+-- Laws of lines on which two designs agree.
+use Rattle.std.specs.Prelude.{◌≡◌, ℕ, List}
+use Rattle.std.specs.List.{AllByRecursion}
+use Rattle.def_grammar.specs.Records.{Record}
+use Rattle.lef_grammar.specs.Library.{Library}
+use Rattle.entry_rules.specs.OffLayer.{ViaLayers, off_layer_lines_of}
+use Rattle.entry_rules.specs.Unknown.{Known, known_by, unknown_lines_of}
+use Rattle.entry_rules.specs.ViaLayers.{via_layers}
+use Rattle.report_rules.specs.Diagnostics.{statement_lines}
+use Rattle.agreement_laws.specs.Agreement.{AgreeOn, all_shown, references_of, vias_of}
+
+abbrev pub SameNamesSameLines : Type 0
+SameNamesSameLines = (a b : Known) (r : Record) → AllByRecursion (AgreeOn a b) (references_of r) → unknown_lines_of a r ≡ unknown_lines_of b r
+
+abbrev pub SameViasSameLines : Type 0
+SameViasSameLines = (a b : ViaLayers) (r : Record) → AllByRecursion (λ (via : List ℕ). a via ≡ b via) (vias_of r) → off_layer_lines_of a r ≡ off_layer_lines_of b r
+
+abbrev pub SameStatementLines : Type 0
+SameStatementLines = (library : Library) (design other : List Record) (r : Record)
+    → AllByRecursion (AgreeOn (known_by library design) (known_by library other)) (references_of r)
+    → AllByRecursion (λ (via : List ℕ). via_layers library design via ≡ via_layers library other via) (vias_of r)
+    → statement_lines library design r ≡ statement_lines library other r
+
+-- Two designs whose entries show the same have the same lines on each statement: an edit that changes nothing that others can see of
+-- an entry leaves the lines on all others.
+abbrev pub SameShownSameLines : Type 0
+SameShownSameLines = (library : Library) (design other : List Record) (r : Record) → all_shown design ≡ all_shown other
+    → statement_lines library design r ≡ statement_lines library other r

@@ -1,0 +1,28 @@
+//! Laws of what the lines on one statement depend on: two designs that agree on it have the same lines there.
+//!
+//! Each law is an empty function that ensures it; call it to use it. What a statement's lines depend on, besides itself and the
+//! library, is what the names in it stand for: `references_of` and `vias_of` of `specs/Agreement`. An edit that leaves what entries
+//! show of themselves (`all_shown`) leaves the lines on all other statements.
+#![tactic(auto)]
+
+ghost use Rattle.agreement_laws.specs.Laws.{SameNamesSameLines, SameShownSameLines, SameStatementLines, SameViasSameLines};
+
+/// The lines on names that aren't defined depend on what is known of the names alone.
+pub fn same_names_same_lines()
+    ensures { SameNamesSameLines }
+{}
+
+/// The lines on vias off their layer depend on the layers of the vias alone.
+pub fn same_vias_same_lines()
+    ensures { SameViasSameLines }
+{}
+
+/// Two designs that agree on the names in a statement have the same lines on it.
+pub fn same_statement_lines()
+    ensures { SameStatementLines }
+{}
+
+/// Two designs whose entries show others the same have the same lines on a statement.
+pub fn same_shown_same_lines()
+    ensures { SameShownSameLines }
+{}
