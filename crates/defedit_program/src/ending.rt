@@ -8,6 +8,7 @@ ghost use Rattle.defedit_program.specs.Endings.{EndsBy, EndsWhole};
 use crate::outcome::Outcome;
 use cell_library::lef_texts::LefTexts;
 use counted_devices::counted::{CountedRead, CountedWrite, Failures};
+use design_text::text::DesignText;
 use edit_script::finished::run_owned;
 use edit_script::run::RunFault;
 use std::alloc::Global;
@@ -19,8 +20,8 @@ use std::io::{Read, Write};
 pub struct Ended {
     /// How the program ends.
     pub outcome: Outcome,
-    /// What the output file gets: the DEF text in the end.
-    pub text: Vec<u8>,
+    /// What the output file gets: the DEF text in the end, in pieces.
+    pub text: DesignText,
 }
 
 /// Runs a script over a DEF text, which it takes, and the library of LEF texts. The answers go to `out`.

@@ -12,5 +12,6 @@
 pub mod command_line;
 pub mod ending;
 mod files;
+mod in_pieces;
 pub mod outcome;
 pub mod program;

@@ -7,12 +7,14 @@ ghost use Rattle.defedit_program.specs.Statuses.{ends, refused_ends, unreadable}
 use crate::command_line::{Request, read_request};
 use crate::ending::run_to_end;
 use crate::files::read_text;
+use crate::in_pieces::InPieces;
 use crate::outcome::{Outcome, Stop};
 use cell_library::lef_texts::LefTexts;
 use clap::Error;
 use clap::error::ErrorKind;
 use counted_devices::counted::Counted;
 use counted_devices::input::InputError;
+use design_text::text::DesignText;
 use output_file::{OutputFault, write_file};
 use std::alloc::Global;
 use std::hash::RandomState;
@@ -68,7 +70,7 @@ fn run_request<'a, R: Files + Print + RandomSource>(
         Ok(ended) => ended,
         Err(fault) => return Err(Stop::Run(fault)),
     };
-    write_text(alloc, rt, request.out, ended.text.as_slice())?;
+    write_text(alloc, rt, request.out, ended.text)?;
     Ok(ended.outcome)
 }
 
@@ -77,12 +79,13 @@ fn write_text<'a, R: Files>(
     alloc: Global,
     rt: &R,
     path: &'a str,
-    text: &[u8],
+    text: DesignText,
 ) -> Result<(), Stop<'a>> {
-    match write_file(alloc, rt, path, text) {
+    match write_file(alloc, rt, path, &InPieces { text }) {
         Ok(()) => Ok(()),
         Err(OutputFault::Make) => Err(Stop::CannotWrite(path)),
         Err(OutputFault::Write) => Err(Stop::WriteFailed),
+        Err(OutputFault::Memory) => Err(Stop::Memory),
     }
 }
 

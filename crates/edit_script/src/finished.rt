@@ -3,6 +3,7 @@
 ghost use Rattle.std.specs.Prelude.{◌≡◌, ◌+◌, ◌<◌, ◌≤◌, ◌^◌, [], IfErr, IfOk, IsErrOf, IsOk, Some};
 ghost use Rattle.def_grammar.specs.Records.{read_def};
 ghost use Rattle.counted_devices.specs.Counting.{HasFailed};
+ghost use Rattle.design_text.specs.DesignTexts.{text_of};
 ghost use Rattle.edit_script.specs.Answered.{counts_of};
 ghost use Rattle.edit_script.specs.Ends.{RunsOver, RunsWhole, StopsBy, StopsOver, TookAllTurns, hard_after_run};
 
@@ -11,6 +12,7 @@ use cell_library::lef_texts::LefTexts;
 use cell_library::library::{Library, LibraryError};
 use counted_devices::counted::{CountedRead, CountedWrite, Failures};
 use design_model::fault::ReadError;
+use design_text::text::DesignText;
 use edit_session::session::Session;
 use std::alloc::{Allocator, Global};
 use std::hash::RandomState;
@@ -18,11 +20,11 @@ use std::io::{Read, Write};
 
 /// What is left after a run to its end.
 #[derive(Drop)]
-pub struct Finished<A: Allocator = Global> {
+pub struct Finished<A: Allocator + Copy = Global> {
     /// How the lines of the script were answered.
     pub tally: Tally,
-    /// The DEF text in the end.
-    pub text: Vec<u8, A>,
+    /// The DEF text in the end, in pieces.
+    pub text: DesignText<A>,
 }
 
 /// Reads a script, and answers its lines over a session.
@@ -40,7 +42,6 @@ where
     requires script { R.failed script.old < 2 ^ 63 }
     requires out { W.failed out.old < 2 ^ 63 }
     ensures ok { IfOk result (λ tally. RunsOver session.old.library session.old.text (R.remaining script.old) (W.contents out.old) (W.contents out.new) (Some []) (Some session.new.text) (counts_of tally)) }
-    ensures some { IfOk result (λ _. StopsOver session.old.library session.old.text (R.remaining script.old) (W.contents out.old) (W.contents out.new) (Some []) (Some []) RunFault.Memory) }
     ensures fault { IfErr result (λ e. StopsOver session.old.library session.old.text (R.remaining script.old) (W.contents out.old) (W.contents out.new) (Some []) (Some []) e) }
     ensures read { IsErrOf result RunFault.Read → R.failed script.old < R.failed script.new }
     ensures read_hard { R.failed_hard script.new ≡ hard_after_run result (R.failed_hard script.old) }
@@ -71,7 +72,7 @@ where
     W: CountedWrite,
     requires script { R.failed script.old < 2 ^ 63 }
     requires out { W.failed out.old < 2 ^ 63 }
-    ensures ok { IfOk result (λ f. RunsOver library.now def.items (R.remaining script.old) (W.contents out.old) (W.contents out.new) (Some []) (Some f.text.items) (counts_of f.tally)) }
+    ensures ok { IfOk result (λ f. RunsOver library.now def.items (R.remaining script.old) (W.contents out.old) (W.contents out.new) (Some []) (Some (text_of f.text)) (counts_of f.tally)) }
     ensures fault { IfErr result (λ e. StopsOver library.now def.items (R.remaining script.old) (W.contents out.old) (W.contents out.new) (Some []) (Some []) e) }
     ensures read { IsErrOf result RunFault.Read → R.failed script.old < R.failed script.new }
     ensures read_hard { R.failed_hard script.new ≡ hard_after_run result (R.failed_hard script.old) }
@@ -86,10 +87,8 @@ where
         Err(ReadError::Memory) => return Err(RunFault::Memory),
     };
     let tally = finish_in(alloc, &mut session, script, out)?;
-    match session.into_text() {
-        Ok(text) => Ok(Finished { tally, text }),
-        Err(_) => Err(RunFault::Memory),
-    }
+    let text = session.into_pieces();
+    Ok(Finished { tally, text })
 }
 
 /// Runs a script over a DEF text, which it takes, and the library of LEF texts, as `run` does, and gives the text in the end
@@ -111,7 +110,7 @@ where
     requires out { W.failed out.old < 2 ^ 63 }
 
     // The writer got the answers of the script, which the tally counts, and the text is that in the end.
-    ensures ok { IfOk result (λ f. RunsWhole lefs.now def.items (R.remaining script.old) (W.contents out.old) (W.contents out.new) (Some []) (Some f.text.items) (counts_of f.tally)) }
+    ensures ok { IfOk result (λ f. RunsWhole lefs.now def.items (R.remaining script.old) (W.contents out.old) (W.contents out.new) (Some []) (Some (text_of f.text)) (counts_of f.tally)) }
 
     // The texts are to blame, with nothing written, or the first part of an output was written.
     ensures fault { IfErr result (λ e. StopsBy lefs.now def.items (R.remaining script.old) (W.contents out.old) (W.contents out.new) (Some []) (Some []) e) }

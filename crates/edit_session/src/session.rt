@@ -15,6 +15,7 @@ ghost use Rattle.lef_grammar.specs.Measures.{place_among};
 ghost use Rattle.measure_rules.specs.Density.{cell_density, place_density};
 ghost use Rattle.measure_rules.specs.Lengths.{net_length, total_length};
 ghost use Rattle.measure_rules.specs.NetBoxes.{net_box};
+ghost use Rattle.design_text.specs.DesignTexts.{text_of};
 ghost use Rattle.design_text.specs.Editing.{KeepsTheRest, ReadsEdited};
 ghost use Rattle.design_text.specs.FewReads.{ReadsFew, new_in};
 ghost use Rattle.edit_session.specs.Sessions.{AnswersOn, AreDiagnostics, HasParts, Measures, OpensAs, Views};
@@ -101,6 +102,13 @@ impl<'s, 'l, A: Allocator + Copy> Session<'s, 'l, A> {
         ensures { IfOk result (λ v. v.items ≡ self.entry.text) }
     {
         self.text.into_text(self.alloc)
+    }
+
+    /// The present text, in pieces, as which it can be written without being put together.
+    pub fn into_pieces(self) -> DesignText<A>
+        ensures { text_of result ≡ self.entry.text }
+    {
+        self.text
     }
 
     /// Makes an edit, or refuses it and leaves the text as it was.

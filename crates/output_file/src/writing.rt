@@ -1,13 +1,13 @@
 //! Writing a whole text into a file.
 
-ghost use Rattle.std.specs.Prelude.{OnOk};
+ghost use Rattle.std.specs.Prelude.{ℕ, List, IfOk};
 ghost use Rattle.std.specs.Io.KnownBytes.{Appends};
 
 use crate::beside::new_file;
 use std::alloc::Global;
 use std::fs;
 use std::fs::{Metadata, OpenOptions};
-use std::io::Write;
+use std::io::{BufWriter, Write};
 use std::rt::Files;
 
 /// Why a file isn't written.
@@ -17,37 +17,61 @@ pub enum OutputFault {
     Make,
     /// Its bytes can't be written, or the new file can't take its name.
     Write,
+    /// Memory was refused.
+    Memory,
+}
+
+/// How many bytes are put together before they are written.
+const BUFFER: usize = 65536;
+
+/// What a file gets.
+pub trait FileText {
+    ghost bytes: { Self → List ℕ };
+
+    /// Writes all of it.
+    fn write_into<W: Write + Drop>(&self, file: W) -> Result<W, OutputFault>
+        ensures { IfOk result (λ w. Appends (W.contents file) (W.contents w) (bytes self.now)) };
 }
 
 /// Writes a text into a file that is open.
-fn fill<W: Write>(file: &mut W, text: &[u8]) -> Result<(), OutputFault>
-    ensures { OnOk result (Appends (W.contents file.old) (W.contents file.new) text.now) }
+fn fill<W: Write + Drop, T: FileText>(alloc: Global, file: W, text: &T) -> Result<W, OutputFault>
+    ensures { IfOk result (λ w. Appends (W.contents file) (W.contents w) (T.bytes text.now)) }
 {
-    match file.write_all(text) {
-        Ok(()) => Ok(()),
+    let Ok(buffered) = BufWriter::with_capacity(alloc, BUFFER, file) else {
+        return Err(OutputFault::Memory);
+    };
+    let buffered = text.write_into(buffered)?;
+    match buffered.into_inner() {
+        Ok(file) => Ok(file),
         Err(_) => Err(OutputFault::Write),
     }
 }
 
 /// Writes a text into what has this path, from its begin on.
-fn write_in_place<R: Files>(rt: &R, path: &str, text: &[u8]) -> Result<(), OutputFault> {
-    let Ok(mut file) = fs::create(rt, path) else {
+fn write_in_place<R: Files, T: FileText>(
+    alloc: Global,
+    rt: &R,
+    path: &str,
+    text: &T,
+) -> Result<(), OutputFault> {
+    let Ok(file) = fs::create(rt, path) else {
         return Err(OutputFault::Make);
     };
-    fill(&mut file, text)
+    fill(alloc, file, text)?;
+    Ok(())
 }
 
 /// Writes a text into a new file, gives that the mode of the old one, and then the old one's name.
-fn fill_and_rename<R: Files>(
+fn fill_and_rename<R: Files, T: FileText>(
+    alloc: Global,
     rt: &R,
     file: R::File,
     name: &str,
     path: &str,
     old: Option<Metadata>,
-    text: &[u8],
+    text: &T,
 ) -> Result<(), OutputFault> {
-    let mut file = file;
-    fill(&mut file, text)?;
+    fill(alloc, file, text)?;
     if let Some(old) = old {
         if let Err(_) = fs::set_permissions(rt, name, old.permissions()) {
             return Err(OutputFault::Write);
@@ -60,17 +84,17 @@ fn fill_and_rename<R: Files>(
 }
 
 /// Writes a text into a new file beside this path, which then takes that name. A new file that doesn't come to that is taken away.
-fn write_beside<R: Files>(
+fn write_beside<R: Files, T: FileText>(
     alloc: Global,
     rt: &R,
     path: &str,
     old: Option<Metadata>,
-    text: &[u8],
+    text: &T,
 ) -> Result<(), OutputFault> {
     let Some((file, name)) = new_file(alloc, rt, path) else {
         return Err(OutputFault::Make);
     };
-    let written = fill_and_rename(rt, file, name.as_str(), path, old, text);
+    let written = fill_and_rename(alloc, rt, file, name.as_str(), path, old, text);
     if let Err(_) = written {
         let _ = fs::remove_file(rt, name.as_str());
     }
@@ -85,12 +109,12 @@ fn may_write<R: Files>(rt: &R, path: &str) -> bool {
 }
 
 /// Replaces a plain file, where a link's path leads to it.
-fn replace<R: Files>(
+fn replace<R: Files, T: FileText>(
     alloc: Global,
     rt: &R,
     path: &str,
     old: Metadata,
-    text: &[u8],
+    text: &T,
 ) -> Result<(), OutputFault> {
     if !may_write(rt, path) {
         return Err(OutputFault::Make);
@@ -110,16 +134,16 @@ fn is_link<R: Files>(rt: &R, path: &str) -> bool {
 }
 
 /// Writes a text into the file of a path. A plain file that is there keeps its old bytes where any step fails.
-pub fn write_file<R: Files>(
+pub fn write_file<R: Files, T: FileText>(
     alloc: Global,
     rt: &R,
     path: &str,
-    text: &[u8],
+    text: &T,
 ) -> Result<(), OutputFault> {
     match fs::metadata(rt, path) {
         Ok(old) if old.is_file() => replace(alloc, rt, path, old, text),
-        Ok(_) => write_in_place(rt, path, text),
-        Err(_) if is_link(rt, path) => write_in_place(rt, path, text),
+        Ok(_) => write_in_place(alloc, rt, path, text),
+        Err(_) if is_link(rt, path) => write_in_place(alloc, rt, path, text),
         Err(_) => write_beside(alloc, rt, path, None, text),
     }
 }

@@ -16,6 +16,3 @@ pub returns-in_err-tally-clause-write : goal.returns-in_err-tally-clause-write
 returns-in_err-tally-clause-write g c =
     let p = err_from_is_err_and c.from_residual.result c.from_residual.ensures.1 in
     rw (p.1, p.2) (λ is. c.in_err-tally.ensures.write (err_of_other _ _ is))
-
-pub returns-in-Err-clause-fault : goal.returns-in-Err-clause-fault
-returns-in-Err-clause-fault g c = rw (c.in-Ok.ensures.library, c.in-Ok.ensures.text) at c.in_ok-tally.ensures.some
