@@ -1,3 +1,4 @@
+mod FollowLemmas
 mod NameLemmas
 mod ShownLemmas
 mod ViaLemmas

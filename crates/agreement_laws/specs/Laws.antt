@@ -1,5 +1,5 @@
 -- Laws of lines on which two designs agree.
-use Rattle.std.specs.Prelude.{◌≡◌, ℕ, List}
+use Rattle.std.specs.Prelude.{◌≡◌, ℕ, List, ◌++◌, flat_map}
 use Rattle.std.specs.List.{AllByRecursion}
 use Rattle.def_grammar.specs.Records.{Record}
 use Rattle.lef_grammar.specs.Library.{Library}
@@ -7,6 +7,7 @@ use Rattle.entry_rules.specs.OffLayer.{ViaLayers, off_layer_lines_of}
 use Rattle.entry_rules.specs.Unknown.{Known, known_by, unknown_lines_of}
 use Rattle.entry_rules.specs.ViaLayers.{via_layers}
 use Rattle.report_rules.specs.Diagnostics.{statement_lines}
+use Rattle.line_laws.specs.Lines.{SameLines}
 use Rattle.agreement_laws.specs.Agreement.{AgreeOn, all_shown, references_of, vias_of}
 
 abbrev pub SameNamesSameLines : Type 0
@@ -26,3 +27,11 @@ SameStatementLines = (library : Library) (design other : List Record) (r : Recor
 abbrev pub SameShownSameLines : Type 0
 SameShownSameLines = (library : Library) (design other : List Record) (r : Record) → all_shown design ≡ all_shown other
     → statement_lines library design r ≡ statement_lines library other r
+
+-- Where statements go out of a design and others come in, and its entries show the same, the lines on single statements follow: those
+-- on what goes out go, and those on what comes in come. Both are told by the design before.
+abbrev pub StatementLinesFollow : Type 0
+StatementLinesFollow = (library : Library) (front out put behind : List Record) → let design = front ++ (out ++ behind) in let other = front ++ (put ++ behind) in
+    all_shown design ≡ all_shown other
+    → SameLines (flat_map (statement_lines library other) other ++ flat_map (statement_lines library design) out)
+    (flat_map (statement_lines library design) design ++ flat_map (statement_lines library design) put)

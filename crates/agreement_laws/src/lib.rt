@@ -5,7 +5,7 @@
 //! show of themselves (`all_shown`) leaves the lines on all other statements.
 #![tactic(auto)]
 
-ghost use Rattle.agreement_laws.specs.Laws.{SameNamesSameLines, SameShownSameLines, SameStatementLines, SameViasSameLines};
+ghost use Rattle.agreement_laws.specs.Laws.{SameNamesSameLines, SameShownSameLines, SameStatementLines, SameViasSameLines, StatementLinesFollow};
 
 /// The lines on names that aren't defined depend on what is known of the names alone.
 pub fn same_names_same_lines()
@@ -25,4 +25,9 @@ pub fn same_statement_lines()
 /// Two designs whose entries show others the same have the same lines on a statement.
 pub fn same_shown_same_lines()
     ensures { SameShownSameLines }
+{}
+
+/// The lines on single statements follow a change of statements that shows others the same.
+pub fn statement_lines_follow()
+    ensures { StatementLinesFollow }
 {}

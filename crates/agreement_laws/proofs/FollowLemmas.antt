@@ -1,0 +1,49 @@
+-- Lines on single statements that follow a change.
+use Rattle.std.proofs.Common.{◌≡◌, ◌+◌, ℕ, List, [], ◌∷◌, ◌++◌, flat_map, refl, sym, ap, ap₂, ◌∙◌, arith}
+use Rattle.std.proofs.lemmas.Grind.{flat_map-append}
+use Rattle.def_grammar.specs.Records.{Record}
+use Rattle.lef_grammar.specs.Library.{Library}
+use Rattle.entry_rules.specs.Unchecked.{unchecked_lines_of}
+use Rattle.entry_rules.specs.Unknown.{known_by}
+use Rattle.entry_rules.specs.ViaLayers.{via_layers}
+use Rattle.report_rules.specs.Diagnostics.{statement_lines}
+use Rattle.line_laws.specs.Lines.{SameLines, times}
+use Rattle.line_laws.proofs.PairSums.{times-append}
+use Rattle.agreement_laws.specs.Agreement.{all_shown, references_of, vias_of}
+use Rattle.agreement_laws.proofs.NameLemmas.{same_unknown}
+use Rattle.agreement_laws.proofs.ShownLemmas.{names_agree, vias_agree}
+use Rattle.agreement_laws.proofs.ViaLemmas.{same_off_layer}
+
+pub same_shown : (library : Library) (design other : List Record) (r : Record) → all_shown design ≡ all_shown other → statement_lines library design r ≡ statement_lines library other r
+same_shown library design other r same =
+    ap₂ (λ (l m : List (List ℕ)). l ++ (m ++ (unchecked_lines_of r ++ [])))
+    (same_unknown (known_by library design) (known_by library other) r (names_agree library design other same (references_of r)))
+    (same_off_layer (via_layers library design) (via_layers library other) r (vias_agree library design other same (vias_of r)))
+
+same_all : (f g : Record → List (List ℕ)) → ((r : Record) → f r ≡ g r) → (rs : List Record) → flat_map f rs ≡ flat_map g rs
+same_all f g h [] = refl
+same_all f g h (r ∷ rs) = ap₂ (λ (l m : List (List ℕ)). l ++ m) (h r) (same_all f g h rs)
+
+times_parts : (q : List ℕ) (f : Record → List (List ℕ)) (xs ys zs : List Record)
+    → times q (flat_map f (xs ++ (ys ++ zs))) ≡ times q (flat_map f xs) + (times q (flat_map f ys) + times q (flat_map f zs))
+times_parts q f xs ys zs =
+    ap (times q) (flat_map-append f xs (ys ++ zs))
+    ∙ times-append q (flat_map f xs) (flat_map f (ys ++ zs))
+    ∙ ap (λ (n : ℕ). times q (flat_map f xs) + n) (ap (times q) (flat_map-append f ys zs) ∙ times-append q (flat_map f ys) (flat_map f zs))
+
+pub follow : (library : Library) (front out put behind : List Record) → all_shown (front ++ (out ++ behind)) ≡ all_shown (front ++ (put ++ behind))
+    → SameLines (flat_map (statement_lines library (front ++ (put ++ behind))) (front ++ (put ++ behind)) ++ flat_map (statement_lines library (front ++ (out ++ behind))) out)
+    (flat_map (statement_lines library (front ++ (out ++ behind))) (front ++ (out ++ behind)) ++ flat_map (statement_lines library (front ++ (out ++ behind))) put)
+follow library front out put behind same = record {
+  often = λ q.
+      let design = front ++ (out ++ behind) in
+      let other = front ++ (put ++ behind) in
+      let f = statement_lines library design in
+      let g = statement_lines library other in
+      let new : times q (flat_map g other) ≡ times q (flat_map f other) = ap (times q) (same_all g f (λ r. sym (same_shown library design other r same)) other) in
+      let here = times_parts q f front put behind in
+      let there = times_parts q f front out behind in
+      let left = times-append q (flat_map g other) (flat_map f out) in
+      let right = times-append q (flat_map f design) (flat_map f put) in
+      omega (arith, new, here, there, left, right);
+}
