@@ -1,11 +1,12 @@
 -- Worked rows of what the lines on a statement depend on, by computing.
-use Rattle.std.proofs.Common.{◌≡◌, List, ℕ, [], ◌∷◌, ◌++◌, Option, Some, None, Result, Ok, Err, refl, codes, flat_map}
+use Rattle.std.proofs.Common.{◌≡◌, List, ℕ, [], ◌∷◌, ◌++◌, Option, Some, None, Result, Ok, Err, refl, codes, flat_map, map}
+use Rattle.design_model.specs.declared.mode.Section.TheVariants.{Components}
 use Rattle.design_model.specs.EnumWords.{section_word}
 use Rattle.design_model.specs.declared.fault.Fault.{Fault}
 use Rattle.def_grammar.specs.Records.{Record, read_def}
 use Rattle.entry_rules.specs.References.{to_site}
 use Rattle.entry_examples.proofs.Computing.{def_lines}
-use Rattle.agreement_laws.specs.Agreement.{Shown, all_shown, references_of, vias_of}
+use Rattle.agreement_laws.specs.Agreement.{Shown, a_header, all_shown, an_end, an_entry, nothing, outline_of, references_of, vias_of}
 
 abbrev design_of : Result (List Record) Fault → List Record
 design_of (Ok design) = design
@@ -57,3 +58,9 @@ vias_of_special_nets = refl
 floor_refers : flat_map references_of (design (codes "DIEAREA ( 0 0 ) ( 9 9 ) ;\nROW r0 core 0 0 N ;\n")) ≡ to_site (codes "core") ∷ []
 unfolding def_lines
 floor_refers = refl
+
+-- what each statement is to the number in a header
+outline : map outline_of (design (codes "DIEAREA ( 0 0 ) ( 9 9 ) ;\nCOMPONENTS 2 ;\n- u1 INV ;\nEND COMPONENTS\n"))
+    ≡ nothing ∷ nothing ∷ a_header Components (codes "2") ∷ an_entry ∷ an_end ∷ nothing ∷ []
+unfolding def_lines
+outline = refl

@@ -1,3 +1,4 @@
+mod CountLemmas
 mod FollowLemmas
 mod NameLemmas
 mod ShownLemmas

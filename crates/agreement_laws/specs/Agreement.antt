@@ -5,10 +5,10 @@ use Rattle.def_grammar.specs.Nets.{is_net}
 use Rattle.def_grammar.specs.NetWires.{net_wires}
 use Rattle.def_grammar.specs.Records as records
 use Rattle.def_grammar.specs.DefVias.{DefVia}
-use Rattle.def_grammar.specs.Records.{Entry, Record, entry, entry_of, name_of, section_of, top}
+use Rattle.def_grammar.specs.Records.{Entry, Record, end_section, entry, entry_of, name_of, section_of, top}
 use Rattle.design_model.specs.declared.mode.Section.{Section}
 use Rattle.def_grammar.specs.SpecialWires.{special_net_wires}
-use Rattle.def_grammar.specs.Top.{row}
+use Rattle.def_grammar.specs.Top.{header, row}
 use Rattle.def_grammar.specs.Wiring.{SpecialVia, SpecialWire, Wire, WireVia, via_of_item}
 use Rattle.entry_rules.specs.References.{Reference, entry_references, row_references, to_layer, to_macro, to_net, to_region, to_rule, to_site, to_terminal, to_via}
 use Rattle.entry_rules.specs.Unknown.{Known}
@@ -68,3 +68,16 @@ shown e = record { section = section_of e; name = name_of e; cell = cell_of_entr
 
 abbrev pub all_shown : List Record → List Shown
 all_shown design = map shown (filter_map entry_of design)
+
+-- what a statement is to the number in a header: a header with its number, an entry, the end of a section, or nothing
+pub data Outline : Type 0 where
+  a_header : Section → List ℕ → Outline
+  an_entry : Outline
+  an_end : Outline
+  nothing : Outline
+
+abbrev pub outline_of : Record → Outline
+outline_of (top (header s n)) = a_header s n
+outline_of (entry e) = an_entry
+outline_of (end_section s) = an_end
+outline_of _ = nothing

@@ -1,14 +1,15 @@
 -- Laws of lines on which two designs agree.
-use Rattle.std.specs.Prelude.{◌≡◌, ℕ, List, ◌++◌, flat_map}
+use Rattle.std.specs.Prelude.{◌≡◌, ℕ, List, ◌++◌, flat_map, map}
 use Rattle.std.specs.List.{AllByRecursion}
 use Rattle.def_grammar.specs.Records.{Record}
+use Rattle.design_rules.specs.CountLines.{count_lines}
 use Rattle.lef_grammar.specs.Library.{Library}
 use Rattle.entry_rules.specs.OffLayer.{ViaLayers, off_layer_lines_of}
 use Rattle.entry_rules.specs.Unknown.{Known, known_by, unknown_lines_of}
 use Rattle.entry_rules.specs.ViaLayers.{via_layers}
 use Rattle.report_rules.specs.Diagnostics.{statement_lines}
 use Rattle.line_laws.specs.Lines.{SameLines}
-use Rattle.agreement_laws.specs.Agreement.{AgreeOn, all_shown, references_of, vias_of}
+use Rattle.agreement_laws.specs.Agreement.{AgreeOn, all_shown, outline_of, references_of, vias_of}
 
 abbrev pub SameNamesSameLines : Type 0
 SameNamesSameLines = (a b : Known) (r : Record) → AllByRecursion (AgreeOn a b) (references_of r) → unknown_lines_of a r ≡ unknown_lines_of b r
@@ -35,3 +36,7 @@ StatementLinesFollow = (library : Library) (front out put behind : List Record) 
     all_shown design ≡ all_shown other
     → SameLines (flat_map (statement_lines library other) other ++ flat_map (statement_lines library design) out)
     (flat_map (statement_lines library design) design ++ flat_map (statement_lines library design) put)
+
+-- The lines on the numbers in headers depend on the outline of a design alone: an entry in the place of another leaves them.
+abbrev pub SameOutlineSameCounts : Type 0
+SameOutlineSameCounts = (design other : List Record) → map outline_of design ≡ map outline_of other → count_lines design ≡ count_lines other

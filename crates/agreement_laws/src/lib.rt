@@ -5,7 +5,7 @@
 //! show of themselves (`all_shown`) leaves the lines on all other statements.
 #![tactic(auto)]
 
-ghost use Rattle.agreement_laws.specs.Laws.{SameNamesSameLines, SameShownSameLines, SameStatementLines, SameViasSameLines, StatementLinesFollow};
+ghost use Rattle.agreement_laws.specs.Laws.{SameNamesSameLines, SameOutlineSameCounts, SameShownSameLines, SameStatementLines, SameViasSameLines, StatementLinesFollow};
 
 /// The lines on names that aren't defined depend on what is known of the names alone.
 pub fn same_names_same_lines()
@@ -30,4 +30,9 @@ pub fn same_shown_same_lines()
 /// The lines on single statements follow a change of statements that shows others the same.
 pub fn statement_lines_follow()
     ensures { StatementLinesFollow }
+{}
+
+/// The lines on the numbers in headers depend on the outline of a design alone.
+pub fn same_outline_same_counts()
+    ensures { SameOutlineSameCounts }
 {}
