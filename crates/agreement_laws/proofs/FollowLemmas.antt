@@ -20,7 +20,7 @@ same_shown library design other r same =
     (same_unknown (known_by library design) (known_by library other) r (names_agree library design other same (references_of r)))
     (same_off_layer (via_layers library design) (via_layers library other) r (vias_agree library design other same (vias_of r)))
 
-same_all : (f g : Record → List (List ℕ)) → ((r : Record) → f r ≡ g r) → (rs : List Record) → flat_map f rs ≡ flat_map g rs
+pub same_all : (f g : Record → List (List ℕ)) → ((r : Record) → f r ≡ g r) → (rs : List Record) → flat_map f rs ≡ flat_map g rs
 same_all f g h [] = refl
 same_all f g h (r ∷ rs) = ap₂ (λ (l m : List (List ℕ)). l ++ m) (h r) (same_all f g h rs)
 

@@ -1,5 +1,5 @@
 mod CountLemmas
-mod FollowLemmas
+pub mod FollowLemmas
 mod NameLemmas
 mod ShownLemmas
 mod ViaLemmas

@@ -1,11 +1,11 @@
 -- Where the sum of a cell stands among blocks.
-use Rattle.std.proofs.Common.{◌≡◌, ◌+◌, ◌*◌, ◌/◌, ◌%◌, ◌-◌, ◌<◌, ◌≤◌, ℕ, Bool, true, false, not, cond, if◌then◌else◌, nat_lt, ◌==◌, List, [], ◌∷◌, ◌++◌, length, get_or, take, replicate, Option, Some, None, refl, ap, ◌∙◌, arith, length-append, length-take}
+use Rattle.std.proofs.Common.{◌≡◌, ◌+◌, ◌*◌, ◌/◌, ◌%◌, ◌-◌, ◌<◌, ◌≤◌, ℕ, zero, suc, Bool, true, false, not, cond, if◌then◌else◌, nat_lt, ◌==◌, List, [], ◌∷◌, ◌++◌, length, get_or, take, replicate, Option, Some, None, refl, sym, ap, ◌∙◌, arith, length-append, length-take}
 use Rattle.std.proofs.lemmas.Bool.Decides.{nat_tests}
 use Rattle.std.proofs.lemmas.List.{get_or_append_left, get_or-append_right, get_or-replicate, get_or-take}
 use Rattle.std.proofs.lemmas.List.Folds.{position_or_len_push}
 use Rattle.std.proofs.lemmas.List.Quantifiers.{position-Some}
 use Rattle.std.proofs.lemmas.List.Sums.{prefix_len-le-length}
-use Rattle.std.specs.List.{position_or_len}
+use Rattle.std.specs.List.{AllByRecursion, IsDistinct, position_or_len}
 use Rattle.cell_sums.specs.Blocks.{Key, block_at, is_key, sum_at, sum_in}
 
 -- one more key goes last
@@ -34,6 +34,29 @@ one_key keys a b n h k = same_key a b (get_or keys n a) (position-Some (is_key a
 
 pub within_keys : (keys : List Key) (k : Key) (n : ℕ) → block_at keys k ≡ Some n → n < length keys
 within_keys keys k n h = (position-Some (is_key k) keys n k h).0
+
+either_way : (a b : Key) → is_key a b ≡ is_key b a
+either_way (a0, a1, a2) (b0, b1, b2) = grind (arith, nat_tests)
+
+-- a key that is found behind another isn't that one
+other_before : (x k : Key) (xs : List Key) (n : ℕ) (d : Key) → AllByRecursion (λ y. is_key x y ≡ false) xs → n < length xs → is_key (get_or xs n d) k ≡ true → is_key k x ≡ false
+other_before x k [] n d apart within h = absurd (omega (arith, within))
+other_before x k (y ∷ ys) zero d apart within h = either_way k x ∙ ap (is_key x) (sym (same_key y k k h (itself k))) ∙ apart.0
+other_before x k (y ∷ ys) (suc n) d apart within h = other_before x k ys n d apart.1 (omega (arith, within)) h
+
+stands_at : (keys : List Key) (k : Key) (n : ℕ) (d : Key) → IsDistinct is_key keys → n < length keys → is_key (get_or keys n d) k ≡ true → position_or_len (is_key k) keys ≡ n
+unfolding IsDistinct
+stands_at [] k n d apart within h = absurd (omega (arith, within))
+stands_at (x ∷ xs) k zero d apart within h = ap (λ b. cond (not b) (1 + position_or_len (is_key k) xs) 0) (either_way k x ∙ h)
+stands_at (x ∷ xs) k (suc n) d apart within h =
+    ap (λ b. cond (not b) (1 + position_or_len (is_key k) xs) 0) (other_before x k xs n d apart.0 (omega (arith, within)) h) ∙ ap (λ m. 1 + m) (stands_at xs k n d apart.1 (omega (arith, within)) h) ∙ omega arith
+
+-- keys that are apart: one that is read at a place is found there
+pub found_at : (keys : List Key) (k : Key) (n : ℕ) (d : Key) → IsDistinct is_key keys → n < length keys → is_key (get_or keys n d) k ≡ true → block_at keys k ≡ Some n
+found_at keys k n d apart within h =
+    let at = stands_at keys k n d apart within h in
+    let is_within : nat_lt n (length keys) ≡ true = grind (arith, nat_tests) in
+    ap (λ m. cond (nat_lt m (length keys)) (Some m) None) at ∙ ap (λ b. cond b (Some n) None) is_within
 
 -- the place of a key that wasn't there, behind all
 pub new_place : (keys : List Key) (k : Key) → block_at keys k ≡ None → block_at (keys ++ k ∷ []) k ≡ Some (length keys)

@@ -1,15 +1,15 @@
 -- Which columns, or rows, a stretch covers.
-use Rattle.std.proofs.Common.{◌≡◌, ◌+◌, ◌-◌, ◌<◌, ◌≤◌, ◌≤ℤ◌, min, max, Bool, true, false, ◌⊎◌, inl, inr, nat_lt, ℕ, zero, suc, List, [], ◌∷◌, length, ℤ, Some, None, refl, sym, ap, ap₂, ◌∙◌, arith, get_or}
+use Rattle.std.proofs.Common.{◌≡◌, ◌+◌, ◌-◌, ◌<◌, ◌≤◌, ◌≤ℤ◌, ◌+ℤ◌, pos, negsuc, FitsSigned, w64, ◌^◌, min, max, Bool, true, false, ◌⊎◌, inl, inr, nat_lt, ℕ, zero, suc, List, [], ◌∷◌, length, ℤ, Some, None, refl, sym, ap, ap₂, ◌∙◌, arith, get_or, not}
 use Rattle.std.proofs.lemmas.Bool.Decides.{nat_tests}
 use Rattle.std.proofs.lemmas.Int.{ints, clamps}
-use Rattle.std.specs.Int.{int_max, int_min}
-use Rattle.std.specs.Int.Signed.{le_z, lt_z}
+use Rattle.std.specs.Int.{int_max, int_min, saturate_to_bits}
+use Rattle.std.specs.Int.Signed.{lt_z}
 use Rattle.std.specs.List.{AllByRecursion}
-use Rattle.std.specs.List.Sorted.{IsPartitionedBy, IsPartitionPoint, IsStrictlySortedBy}
+use Rattle.std.specs.List.Sorted.{IsPartitionedBy, IsStrictlySortedBy}
 use Rattle.std.specs.Ordering.{int_cmp}
 use Rattle.std.specs.declared.cmp.Ordering.TheVariants.{Less}
 use Rattle.measure_rules.specs.GridCells.{between}
-use Rattle.cell_sums.specs.Covered.{IsCovered}
+use Rattle.cell_sums.specs.Covered.{AreBefore, IsCovered, is_before}
 use Rattle.cell_sums.specs.Lines.{common_length, is_from, shared_by}
 use Rattle.cell_sums.proofs.LengthLemmas.{extent_none}
 
@@ -45,20 +45,73 @@ rises_at (l ∷ ls) (suc i) zero d up le within = absurd (omega (arith, le))
 rises_at (l ∷ ls) zero (suc j) d up le within = later_than l ls j d up.0 (omega (arith, within))
 rises_at (l ∷ ls) (suc i) (suc j) d up le within = rises_at ls i j d up.1 (omega (arith, le)) (omega (arith, within))
 
-upto_too : (a b t : ℤ) → a ≤ℤ b → le_z b t ≡ true → le_z a t ≡ true
-upto_too a b t le h = grind (arith, ints)
-
 below_too : (a b t : ℤ) → a ≤ℤ b → lt_z b t ≡ true → lt_z a t ≡ true
 below_too a b t le h = grind (arith, ints)
-
-pub parted_upto : (ls : List ℤ) (t : ℤ) → IsStrictlySortedBy int_cmp ls → IsPartitionedBy (λ l. le_z l t) ls
-parted_upto ls t up = λ i j d le within h. upto_too _ _ t (rises_at ls i j d up le within) h
 
 pub parted_below : (ls : List ℤ) (t : ℤ) → IsStrictlySortedBy int_cmp ls → IsPartitionedBy (λ l. lt_z l t) ls
 parted_below ls t up = λ i j d le within h. below_too _ _ t (rises_at ls i j d up le within) h
 
-ends_before : (l m low high : ℤ) → le_z m low ≡ true → int_min m high ≤ℤ int_max l low
-ends_before l m low high h = grind (arith, ints, clamps)
+not_below : (a b t : ℤ) → a ≤ℤ b → lt_z a t ≡ false → lt_z b t ≡ false
+not_below a b t le h = grind (arith, ints)
+
+-- a line as the code reads it
+pub is_before_at : (ls : List ℤ) (place : ℤ) (i : ℕ) (d : ℤ) → i < length ls → lt_z (get_or ls i d) place ≡ is_before ls place i
+is_before_at [] place i d within = absurd (omega (arith, within))
+is_before_at (l ∷ ls) place zero d within = refl
+is_before_at (l ∷ ls) place (suc i) d within = is_before_at ls place i d (omega (arith, within))
+
+pub line_before : (ls : List ℤ) (place : ℤ) (i : ℕ) (l : ℤ) → i < length ls → l ≡ get_or ls i l → lt_z l place ≡ is_before ls place i
+line_before ls place i l within is = ap (λ m. lt_z m place) is ∙ is_before_at ls place i l within
+
+pub none_there : (ls : List ℤ) (place : ℤ) (i : ℕ) → length ls ≤ i → false ≡ is_before ls place i
+none_there [] place i past = refl
+none_there (l ∷ ls) place zero past = absurd (omega (arith, past))
+none_there (l ∷ ls) place (suc i) past = none_there ls place i (omega (arith, past))
+
+held : (ls : List ℤ) (place : ℤ) (i : ℕ) (d : ℤ) → is_before ls place i ≡ true → (i < length ls) × (lt_z (get_or ls i d) place ≡ true)
+held [] place i d h = absurd (no_line h)
+  where
+    no_line : false ≡ true → ⊥
+    no_line e = cc
+held (l ∷ ls) place zero d h = (omega arith, h)
+held (l ∷ ls) place (suc i) d h = let rest = held ls place i d h in (omega (arith, rest.0), rest.1)
+
+not_held : (ls : List ℤ) (place : ℤ) (i : ℕ) (d : ℤ) → i < length ls → is_before ls place i ≡ false → lt_z (get_or ls i d) place ≡ false
+not_held [] place i d within h = absurd (omega (arith, within))
+not_held (l ∷ ls) place zero d within h = h
+not_held (l ∷ ls) place (suc i) d within h = not_held ls place i d (omega (arith, within)) h
+
+not_true : (b : Bool) → not b ≡ true → b ≡ false
+not_true true h = cc
+not_true false h = refl
+
+module _ (ls : List ℤ) (up : IsStrictlySortedBy int_cmp ls) (place : ℤ) where
+  -- so many lines lie before a place where the last of them does and the next doesn't
+  pub none_before : (count : ℕ) (next : Bool) → count ≡ 0 → next ≡ is_before ls place 0 → not next ≡ true → AreBefore ls place count
+  none_before count next none is h = (
+    λ k d low within. absurd (omega (arith, within, none)),
+    λ k d low within. not_below _ _ place (rises_at ls 0 k d up (omega arith) within) (not_held ls place 0 d (omega (arith, within)) (sym is ∙ not_true next h)),
+  )
+
+  pub some_before : (count : ℕ) (last next : Bool) → last ≡ is_before ls place (count - 1) → last ≡ true → next ≡ is_before ls place count → not next ≡ true → AreBefore ls place count
+  some_before count last next last_is e is h = (
+    λ k d low within. let here = held ls place (count - 1) d (sym last_is ∙ e) in below_too _ _ place (rises_at ls k (count - 1) d up (omega (arith, within)) here.0) here.1,
+    λ k d low within. not_below _ _ place (rises_at ls count k d up low within) (not_held ls place count d (omega (arith, low, within)) (sym is ∙ not_true next h)),
+  )
+
+-- the place behind another, as 64 bits hold it
+pub next_follows : (low next : ℤ) → FitsSigned w64 low → next ≡ saturate_to_bits 63 (low +ℤ pos 1) → next ≤ℤ (low +ℤ pos 1)
+next_follows (pos n) next fits is = omega (arith, ints, is)
+next_follows (negsuc zero) next fits is = omega (arith, ints, is)
+next_follows (negsuc (suc n)) next fits is =
+    let sum : (negsuc (suc n) +ℤ pos 1) ≡ negsuc n = omega (arith, ints) in
+    let next_is = is ∙ ap (saturate_to_bits 63) sum in
+    let small : n < 2 ^ 63 = omega (arith, fits) in
+    omega (arith, ints, sum, next_is, small)
+
+-- a line before the place that follows another doesn't lie behind that one
+ends_before : (l m low next high : ℤ) → next ≤ℤ (low +ℤ pos 1) → lt_z m next ≡ true → int_min m high ≤ℤ int_max l low
+ends_before l m low next high le h = grind (arith, ints, clamps)
 
 begins_behind : (l m low high : ℤ) → lt_z l high ≡ false → int_min m high ≤ℤ int_max l low
 begins_behind l m low high h = grind (arith, ints, clamps)
@@ -67,12 +120,11 @@ begins_behind l m low high h = grind (arith, ints, clamps)
 outside_cases : (first end i : ℕ) → is_from first end i ≡ false → (i < first) ⊎ (end ≤ i)
 outside_cases first end i h = grind (arith, nat_tests)
 
-module _ (ls : List ℤ) (low high : ℤ) (p q : ℕ) (before : IsPartitionPoint (λ l. le_z l low ≡ true) (λ l. le_z l low ≡ false) ls p)
-    (upto : IsPartitionPoint (λ l. lt_z l high ≡ true) (λ l. lt_z l high ≡ false) ls q) where
+module _ (ls : List ℤ) (low next high : ℤ) (follows : next ≤ℤ (low +ℤ pos 1)) (p q : ℕ) (before : AreBefore ls next p) (upto : AreBefore ls high q) where
   none_shared : (i : ℕ) → suc i < length ls → (i < p - 1) ⊎ (q ≤ i) → common_length ls low high i ≡ 0
   none_shared i within (inl h) =
       ap (λ o. shared_by low high o) (between_some ls i low low within)
-      ∙ extent_none _ _ (ends_before (get_or ls i low) (get_or ls (suc i) low) low high (before.0 (suc i) low (omega arith) (omega (arith, h))))
+      ∙ extent_none _ _ (ends_before (get_or ls i low) (get_or ls (suc i) low) low next high follows (before.0 (suc i) low (omega arith) (omega (arith, h))))
   none_shared i within (inr h) =
       ap (λ o. shared_by low high o) (between_some ls i low low within)
       ∙ extent_none _ _ (begins_behind (get_or ls i low) (get_or ls (suc i) low) low high (upto.1 i low (omega (arith, h)) (omega (arith, within))))

@@ -1,6 +1,18 @@
 -- Which columns, or rows, a stretch covers.
-use Rattle.std.specs.Prelude.{◌≡◌, ◌≤◌, ℕ, false, List, ℤ}
+use Rattle.std.specs.Prelude.{◌≡◌, ◌≤◌, ℕ, zero, suc, Bool, true, false, List, [], ◌∷◌, ℤ}
+use Rattle.std.specs.Int.Signed.{lt_z}
+use Rattle.std.specs.List.Sorted.{IsPartitionPoint}
 use Rattle.cell_sums.specs.Lines.{common_length, is_from}
+
+-- there is a line of a number, and it lies before a place
+abbrev pub is_before : List ℤ → ℤ → ℕ → Bool
+is_before [] place i = false
+is_before (l ∷ ls) place zero = lt_z l place
+is_before (l ∷ ls) place (suc i) = is_before ls place i
+
+-- so many lines, from the first on, lie before a place
+abbrev pub AreBefore : List ℤ → ℤ → ℕ → Type 0
+AreBefore ls place count = IsPartitionPoint (λ l. lt_z l place ≡ true) (λ l. lt_z l place ≡ false) ls count
 
 -- no column outside of those from one up to another has length in common with a stretch
 pub record IsCovered (ls : List ℤ) (low high : ℤ) (first end : ℕ) : Type 0 where

@@ -1,11 +1,12 @@
 //! Sums in blocks of 64, each for neighbours in a row of a layer.
 
-ghost use Rattle.std.specs.Prelude.{◌≡◌, ◌<◌, ◌≤◌, ◌+◌, ◌*◌, ◌/◌, ◌-◌, ◌^◌, ℕ, Some, IfOk, OnOk, OnErr, length, slice_index, if◌then◌else◌};
+ghost use Rattle.std.specs.Prelude.{◌≡◌, true, ◌<◌, ◌≤◌, ◌+◌, ◌*◌, ◌/◌, ◌-◌, ◌^◌, ℕ, Some, IfOk, OnOk, OnErr, length, slice_index, if◌then◌else◌};
 ghost use Rattle.cell_sums.specs.Blocks.{HasGained, HasGainedAtMost, block_at, no_sums, strip_gains, sum_at};
 ghost use Rattle.cell_sums.specs.Lines.{common_length, is_from};
 
 use crate::lines::GridLines;
-use crate::row_cells::{RowCells, Strip};
+use crate::noted_places::NotedPlaces;
+use crate::row_cells::{Key, RowCells, Strip};
 use crate::stretch::Stretch;
 use indexmap::IndexSet;
 use std::alloc::{AllocError, Allocator, Global};
@@ -15,15 +16,13 @@ use std::marker::Model;
 /// How many cells of a row share a block.
 const BLOCK: usize = 64;
 
-/// The layer, the row and the number of a block in its row.
-type Key = (usize, usize, usize);
-
 /// Sums by layer, row and column. They take memory only for blocks to which something was added.
 #[derive(Drop)]
 pub(crate) struct Blocks<A: Allocator = Global> {
     keys: IndexSet<Key, RandomState, A>,
     /// The sums of one block after the other, in the order of the keys. Others may follow where a key's growth was refused.
     sums: Vec<u128, A>,
+    noted: NotedPlaces<A>,
 }
 
 impl<A: Allocator> Model for Blocks<A> {
@@ -76,6 +75,7 @@ impl<A: Allocator + Copy> Blocks<A> {
         Blocks {
             keys: IndexSet::with_hasher(alloc, hash_builder),
             sums: Vec::new(alloc),
+            noted: NotedPlaces::new(alloc),
         }
     }
 
@@ -89,8 +89,16 @@ impl<A: Allocator + Copy> Blocks<A> {
         }
     }
 
-    /// The place of a block among all, made where there is none. No sum changes.
-    fn block(&mut self, key: Key) -> Result<usize, AllocError>
+    /// Whether the block of a key is the one at a place.
+    fn is_at(&self, key: Key, place: usize) -> bool
+        ensures { result ≡ true → block_at self.now.keys key ≡ Some place }
+    {
+        let keys = self.keys.as_slice();
+        place < keys.len() && keys[place] == key
+    }
+
+    /// The place of a block among all, by the hash of its key, made where there is none. No sum changes.
+    fn hashed_block(&mut self, key: Key) -> Result<usize, AllocError>
         ensures place { IfOk result (λ n. block_at self.new.keys key ≡ Some n) }
         ensures stands { IfOk result (λ n. n * 64 + 64 ≤ length self.new.sums) }
         ensures same { (l i j : ℕ) → sum_at self.new l i j ≡ sum_at self.old l i j }
@@ -102,6 +110,21 @@ impl<A: Allocator + Copy> Blocks<A> {
         self.sums.truncate(block * BLOCK);
         self.sums.extend_from_slice(&[0; BLOCK])?;
         self.keys.insert(key)?;
+        Ok(block)
+    }
+
+    /// The place of a block among all, made where there is none. No sum changes.
+    fn block(&mut self, key: Key) -> Result<usize, AllocError>
+        ensures place { IfOk result (λ n. block_at self.new.keys key ≡ Some n) }
+        ensures stands { IfOk result (λ n. n * 64 + 64 ≤ length self.new.sums) }
+        ensures same { (l i j : ℕ) → sum_at self.new l i j ≡ sum_at self.old l i j }
+    {
+        let noted = self.noted.place_for(key);
+        if self.is_at(key, noted) {
+            return Ok(noted);
+        }
+        let block = self.hashed_block(key)?;
+        self.noted.note(key, block)?;
         Ok(block)
     }
 

@@ -6,13 +6,14 @@
 //! `specs/Tables`, where `Adds` says what `add` does to it; cells are those of `measure_rules/specs/GridCells`, and areas those of
 //! `measure_rules/specs/Density`.
 //!
-//! Only cells that some rectangle covered take memory, in blocks of 64 that stand in a row. The one error is `AllocError`, of `add`
-//! alone; what is lent is copied out.
+//! Only cells that some rectangle covered take memory, in blocks of 64 that stand in a row, with a slot or two a block by which it is
+//! found again. The one error is `AllocError`, of `add` alone; what is lent is copied out.
 #![tactic(auto)]
 
 mod blocks;
 mod cell_sums;
 mod lines;
+mod noted_places;
 mod row_cells;
 mod stretch;
 

@@ -1,10 +1,10 @@
 //! The lines of one axis of a grid.
 
-ghost use Rattle.std.specs.Prelude.{◌≡◌, ◌<◌, ◌^◌, IfSome};
+ghost use Rattle.std.specs.Prelude.{◌≡◌, ◌<◌, ◌^◌, true, IfSome};
 ghost use Rattle.std.specs.List.{All};
 ghost use Rattle.design_model.specs.Ranges.{IsWithin};
 ghost use Rattle.measure_rules.specs.GridCells.{between, in_order};
-ghost use Rattle.cell_sums.specs.Covered.{IsCovered};
+ghost use Rattle.cell_sums.specs.Covered.{AreBefore, IsCovered, is_before};
 ghost use Rattle.cell_sums.specs.Lines.{AreLines, common_length, farthest};
 
 use crate::stretch::{Places, Stretch, length_shared};
@@ -15,6 +15,8 @@ use std::marker::Model;
 #[derive(Drop)]
 pub struct GridLines<A: Allocator = Global> {
     lines: Vec<i64, A>,
+    /// How many lines come to a unit of length, in parts of 2^32. It serves to guess alone.
+    lines_per_unit: u64,
 }
 
 impl<A: Allocator> Model for GridLines<A> {
@@ -28,6 +30,16 @@ impl<A: Allocator> Model for GridLines<A> {
     ghost invariant = { λ g. AreLines g.lines.items };
 }
 
+/// How many lines in order come to a unit of length, in parts of 2^32, rounded up, so that no guess among evenly spaced ones is low.
+fn lines_per_unit(lines: &[i64]) -> u64 {
+    let (Some(first), Some(last)) = (lines.first(), lines.last()) else {
+        return 0;
+    };
+    let others = lines.len().saturating_sub(1) as u64;
+    let length = last.abs_diff(*first).max(1);
+    ((others << 32) / length).wrapping_add(1)
+}
+
 impl<A: Allocator> GridLines<A> {
     /// Lines in order, each once. It takes no memory.
     pub fn of(lines: Vec<i64, A>) -> GridLines<A>
@@ -37,7 +49,11 @@ impl<A: Allocator> GridLines<A> {
         let mut lines = lines;
         lines.sort_unstable();
         lines.dedup();
-        GridLines { lines }
+        let lines_per_unit = lines_per_unit(lines.as_slice());
+        GridLines {
+            lines,
+            lines_per_unit,
+        }
     }
 
     /// The two neighbours among the lines between which the cells of a number lie, counted from 0.
@@ -63,13 +79,56 @@ impl<A: Allocator> GridLines<A> {
         }
     }
 
+    /// About how many lines lie before a place: as many or one less where they are evenly spaced.
+    fn guess(&self, place: i64) -> usize {
+        let Some(first) = self.lines.first() else {
+            return 0;
+        };
+        let past = place.saturating_sub(*first).max(0).unsigned_abs();
+        let guess = (past.wrapping_mul(self.lines_per_unit) >> 32) as usize;
+        guess.min(self.lines.len())
+    }
+
+    /// Whether there is a line of a number, and it lies before a place.
+    fn is_before(&self, number: usize, place: i64) -> bool
+        ensures { result ≡ is_before self.now place number }
+    {
+        number < self.lines.len() && self.lines[number] < place
+    }
+
+    /// Whether so many lines lie before a place.
+    fn are_before(&self, count: usize, place: i64) -> bool
+        ensures { result ≡ true → AreBefore self.now place count }
+    {
+        let _ = &self.lines;
+        if count == 0 {
+            return !self.is_before(0, place);
+        }
+        self.is_before(count - 1, place) && !self.is_before(count, place)
+    }
+
+    /// How many lines lie before a place.
+    fn before(&self, place: i64) -> usize
+        ensures { AreBefore self.now place result }
+    {
+        let guess = self.guess(place);
+        let next = guess.saturating_add(1);
+        if self.are_before(next, place) {
+            return next;
+        }
+        if self.are_before(guess, place) {
+            return guess;
+        }
+        self.lines.partition_point(|line| *line < place)
+    }
+
     /// The columns, or rows, that a stretch covers: no other one has length in common with it.
     pub(crate) fn covered(&self, stretch: Stretch) -> Places
         ensures covered { IsCovered self.now stretch.low stretch.high result.first result.end }
         ensures lines { AreLines self.now }
     {
-        let behind = self.lines.partition_point(|line| *line <= stretch.low);
-        let before = self.lines.partition_point(|line| *line < stretch.high);
+        let behind = self.before(stretch.low.saturating_add(1));
+        let before = self.before(stretch.high);
         let first = behind.saturating_sub(1);
         let end = before.min(self.lines.len().saturating_sub(1));
         Places {

@@ -2,6 +2,9 @@
 
 ghost use Rattle.std.specs.Prelude.{◌<◌, ◌^◌};
 
+/// The layer, the row and the number of a block in its row.
+pub(crate) type Key = (usize, usize, usize);
+
 /// Consecutive cells of a row of a layer: those of the columns from `first` up to, and without, `end`.
 #[derive(Clone, Copy)]
 pub(crate) struct RowCells {

@@ -1,1 +1,2 @@
 pub mod CheckedLayers
+pub mod LastLayers

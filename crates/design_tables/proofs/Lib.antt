@@ -14,3 +14,4 @@ mod PutLemmas
 mod RecordLemmas
 mod TableLemmas
 mod TurnLemmas
+mod UpdateLemmas

@@ -53,7 +53,7 @@ impl<A: Allocator + Copy> NameTable<A> {
         ensures { OnOk result (ArePut id (entry_marks (Some (entry_view entry.now))) self.old self.new) }
     {
         let role = Role::Member;
-        self.put(entry.section().word(), Mark { role, id })?;
+        self.put_again(entry.section().word(), Mark { role, id })?;
         match terminals_of(entry) {
             Some(terminals) => self.put_terminals(id, terminals),
             None => Ok(()),
@@ -79,7 +79,7 @@ impl<A: Allocator + Copy> NameTable<A> {
         match own_mark(statement) {
             Some(mark) => {
                 let role = mark.role;
-                self.put(mark.name, Mark { role, id })
+                self.put_new(mark.name, Mark { role, id })
             }
             None => Ok(false),
         }

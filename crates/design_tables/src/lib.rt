@@ -1,10 +1,10 @@
 //! Which statements of a DEF text have to do with a name, in tables, so that an edit needn't read the text for them.
 //!
-//! Begin with `Tables::new`, and `add` the statements of a text one after the other, each under a number of its own: it says whether
-//! what a text has once comes again, and `has_units` whether there is UNITS. `find` gives
-//! the number of a section's entry by its name, `header` and `end` those of a section, and `entries_in` says how many entries it
-//! has. `nets_of`, `nets_by_star` and `nets_of_design_pin` give the numbers of the entries of NETS and SPECIALNETS that list a pin,
-//! one at a time by `Numbers::next`. None of these takes memory.
+//! Begin with `Tables::new`, or `with_room` where many statements will come, and `add` the statements of a text one after the
+//! other, each under a number of its own: it says whether what a text has once comes again, and `has_units` whether there is UNITS.
+//! `find` gives the number of a section's entry by its name, `header` and `end` those of a section, and `entries_in` says how many
+//! entries it has. `nets_of`, `nets_by_star` and `nets_of_design_pin` give the numbers of the entries of NETS and SPECIALNETS that
+//! list a pin, one at a time by `Numbers::next`. None of these takes memory.
 //!
 //! A change is statements that go out and others that are put in. `prepare` makes what stands under their names after it beside the
 //! tables, which go on to say what they said. `commit` exchanges the two and takes no memory, and a second commit puts back what
@@ -23,6 +23,7 @@ mod added;
 mod edited;
 pub mod laws;
 mod letting_go;
+mod likely;
 mod mark_list;
 mod marks;
 mod names;

@@ -1,6 +1,6 @@
 //! A table of names, with the marks of statements under each.
 
-ghost use Rattle.std.specs.Prelude.{◌≡◌, ◌∷◌, ◌||◌, [], ℕ, List, IfOk, OnOk, Some, count_by, if◌then◌else◌, not};
+ghost use Rattle.std.specs.Prelude.{◌≡◌, ◌∷◌, ◌||◌, [], ℕ, List, IfOk, OnOk, Some, count_by, if◌then◌else◌};
 ghost use Rattle.std.specs.Option.{option_map};
 ghost use Rattle.std.specs.Str.{bytes_eq};
 ghost use Rattle.design_tables.specs.ListingViews.{listing_view};
@@ -37,7 +37,7 @@ impl<A: Allocator + Copy> Listing<A> {
     }
 
     /// One mark, or one entry counted. It takes no memory.
-    fn one(mark: Mark) -> Listing<A>
+    pub fn one(mark: Mark) -> Listing<A>
         ensures { listing_view result ≡ with_marks (mark ∷ []) unlisted }
     {
         if mark.role.is(Role::Member) {
@@ -107,6 +107,8 @@ pub(crate) type Ids<A> = IndexSet<usize, BuildHasherDefault<FoldHasher>, A>;
 #[derive(Drop)]
 pub(crate) struct NameTable<A: Allocator + Copy = Global> {
     pub names: IndexMap<OwnName<A>, Listing<A>, RandomState, A>,
+    // Where the name stood that `put_again` put a mark under last. Another name may have the place now.
+    pub last: usize,
 }
 
 impl<A: Allocator + Copy> Model for NameTable<A> {
@@ -126,7 +128,17 @@ impl<A: Allocator + Copy> NameTable<A> {
     {
         NameTable {
             names: IndexMap::with_hasher(alloc, hash_builder),
+            last: 0,
         }
+    }
+
+    /// The same with room for so many names, where there is memory for it.
+    pub fn with_room(alloc: A, hash_builder: RandomState, names: usize) -> NameTable<A>
+        ensures { result ≡ [] }
+    {
+        let mut table = NameTable::new(alloc, hash_builder);
+        let _ = table.names.reserve(names);
+        table
     }
 
     /// Where it has its memory from.
@@ -203,22 +215,21 @@ impl<A: Allocator + Copy> NameTable<A> {
         }
     }
 
-    /// Puts a mark under a name, and answers whether the name is new.
-    pub fn put(&mut self, name: &[u8], mark: Mark) -> Result<bool, AllocError>
+    /// Puts a mark under a name.
+    pub fn put(&mut self, name: &[u8], mark: Mark) -> Result<(), AllocError>
         ensures there { OnOk result ((n : List ℕ) → has_name n self.new ≡ (has_name n self.old || bytes_eq n name.now)) }
         ensures put { OnOk result ((n : List ℕ) → listed n self.new ≡ with_marks (marks_named n ((name.now, mark) ∷ [])) (listed n self.old)) }
-        ensures fresh { IfOk result (λ is_new. is_new ≡ not (has_name name.now self.old)) }
     {
         let alloc = self.allocator();
         match self.names.get_mut(Name { bytes: name }) {
             Some(listing) => {
                 listing.push(alloc, mark)?;
-                return Ok(false);
+                return Ok(());
             }
             None => {}
         }
         let name = OwnName::copy_of(alloc, name)?;
         self.names.insert(name, Listing::one(mark))?;
-        Ok(true)
+        Ok(())
     }
 }

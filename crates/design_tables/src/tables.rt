@@ -82,6 +82,15 @@ impl<A: Allocator + Copy> Tables<A> {
         }
     }
 
+    /// The same with room for so many names, where there is memory for it.
+    pub fn with_room(alloc: A, hash_builder: RandomState, names: usize) -> Tables<A>
+        ensures { AreTablesOf [] result }
+    {
+        Tables {
+            names: NameTable::with_room(alloc, hash_builder, names),
+        }
+    }
+
     /// What the names are hashed with.
     pub fn hash_builder(&self) -> RandomState {
         self.names.hash_builder()

@@ -24,6 +24,21 @@ use text_pieces::bytes::Block;
 use text_pieces::text::TextPieces;
 use text_pieces::told::Told;
 
+/// How many bytes a text has at least that is opened with room for its names, so that their table isn't made anew as they come.
+const LARGE: usize = 1048576;
+
+/// For how many bytes such a text is taken to have a name.
+const NAME: usize = 256;
+
+/// For how many names the tables of a text get room before its statements are read.
+fn names_in(text: &[u8]) -> usize {
+    if text.len() < LARGE {
+        0
+    } else {
+        text.len() / NAME
+    }
+}
+
 /// The tables of the statements that were told, and whether one came again of which a text has one.
 #[derive(Drop)]
 struct Telling<A: Allocator + Copy> {
@@ -120,7 +135,7 @@ impl<A: Allocator + Copy> DesignText<A> {
         let alloc = *text.allocator();
         let block = Block::new(text)?;
         let text = block.as_slice();
-        let tables = Tables::new(alloc, hash_builder);
+        let tables = Tables::with_room(alloc, hash_builder, names_in(text));
         let mut telling = Telling {
             tables,
             is_repeated: false,

@@ -38,9 +38,9 @@ fn put_clause<'a, 'l: 'a, 'r: 'a, 't: 'a, A: Allocator + Copy>(
     walk: &mut Walk,
     nets: &mut NetList<'_, A>,
 ) -> Result<(), AllocError>
-    requires { IsReady (drawing walk.old nets.old) }
+    requires { IsReady library.now.layers walk.old nets.old }
     ensures ok { OnOk result (drawing walk.new nets.new ≡ put_pieces library.now.layers (clause_pieces wires.now.library wires.now.design (scale wires.now.design) (special_clause_view clause.now)) (drawing walk.old nets.old)) }
-    ensures ready { OnOk result (IsReady (drawing walk.new nets.new)) }
+    ensures ready { OnOk result (IsReady library.now.layers walk.new nets.new) }
 {
     match clause {
         SpecialClause::Rectangle(layer, corners) => {
@@ -64,9 +64,9 @@ pub(crate) fn put_clauses<'p, 'a, 'l: 'a, 'r: 'a, 't: 'a, A: Allocator + Copy>(
     walk: &mut Walk,
     nets: &mut NetList<'_, A>,
 ) -> Result<(), AllocError>
-    requires { IsReady (drawing walk.old nets.old) }
+    requires { IsReady library.now.layers walk.old nets.old }
     ensures ok { OnOk result (drawing walk.new nets.new ≡ put_pieces library.now.layers (flat_map (clause_pieces wires.now.library wires.now.design (scale wires.now.design)) (special_clauses_of clauses.entry)) (drawing walk.old nets.old)) }
-    ensures ready { OnOk result (IsReady (drawing walk.new nets.new)) }
+    ensures ready { OnOk result (IsReady library.now.layers walk.new nets.new) }
 {
     let mut left = clauses;
     while let Some(clause) = left.next() {

@@ -9,15 +9,16 @@ ghost use Rattle.wire_shapes.specs.RuleViews.{shape_view};
 ghost use Rattle.drawn_parts.specs.Drawing.{IsReady, drawing, named_shapes, put_named, put_piece};
 
 use cell_library::library::Library;
-use checked_layers::checked_layer;
+use checked_layers::LastLayers;
 use net_lists::NetList;
 use std::alloc::{AllocError, Allocator};
 use wire_shapes::{LayerShape, Piece};
 
-/// What is drawn at present: whether its part stands in the list, where it comes with its first shape.
-#[derive(Clone, Copy)]
+/// What is drawn at present: whether its part stands in the list, where it comes with its first shape; and the layers of its shapes.
+#[derive(Drop)]
 pub(crate) struct Walk {
     pub(crate) is_begun: bool,
+    pub(crate) layers: LastLayers,
 }
 
 /// Whether a piece is a further shape of the via before it.
@@ -58,11 +59,11 @@ pub(crate) fn put_shape<A: Allocator + Copy>(
     walk: &mut Walk,
     nets: &mut NetList<'_, A>,
 ) -> Result<(), AllocError>
-    requires { IsReady (drawing walk.old nets.old) }
+    requires { IsReady library.now.layers walk.old nets.old }
     ensures ok { OnOk result (drawing walk.new nets.new ≡ put_named library.now.layers (shape_view shape.now ∷ []) (drawing walk.old nets.old)) }
-    ensures ready { OnOk result (IsReady (drawing walk.new nets.new)) }
+    ensures ready { OnOk result (IsReady library.now.layers walk.new nets.new) }
 {
-    let Some(layer) = checked_layer(library, shape.layer) else {
+    let Some(layer) = walk.layers.layer_of(library, shape.layer) else {
         return Ok(());
     };
     if !walk.is_begun {
@@ -79,9 +80,9 @@ pub(crate) fn put_piece<A: Allocator + Copy>(
     walk: &mut Walk,
     nets: &mut NetList<'_, A>,
 ) -> Result<(), AllocError>
-    requires { IsReady (drawing walk.old nets.old) }
+    requires { IsReady library.now.layers walk.old nets.old }
     ensures ok { OnOk result (drawing walk.new nets.new ≡ put_piece library.now.layers (piece_view piece.now) (drawing walk.old nets.old)) }
-    ensures ready { OnOk result (IsReady (drawing walk.new nets.new)) }
+    ensures ready { OnOk result (IsReady library.now.layers walk.new nets.new) }
 {
     if !is_further(piece) {
         walk.is_begun = false;

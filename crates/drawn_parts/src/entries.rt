@@ -18,6 +18,7 @@ use crate::clauses::put_clauses;
 use crate::drawing::Walk;
 use crate::entry_pieces::{put_net_wires, put_special_wires};
 use cell_library::library::Library;
+use checked_layers::LastLayers;
 use def_reader::entry::Entry;
 use design_wires::wires::DesignWires;
 use net_entries::LentEntry;
@@ -38,7 +39,10 @@ fn put_net<'a, 'l: 'a, 'r: 'a, 't: 'a, A: Allocator + Copy>(
     ensures net { OnOk result (0 < length nets.new) }
     ensures length { IfOk result (λ n. n ≡ capped (wired_length (wired_net wires.now.library wires.now.design (scale wires.now.design) (net_view parts.now)))) }
 {
-    let mut walk = Walk { is_begun: false };
+    let mut walk = Walk {
+        is_begun: false,
+        layers: LastLayers::new(),
+    };
     let length = put_net_wires(library, wires, parts, &mut walk, nets)?;
     Ok(length)
 }
@@ -56,7 +60,10 @@ fn put_special_net<'p, 'a, 'l: 'a, 'r: 'a, 't: 'a, A: Allocator + Copy>(
     ensures net { OnOk result (0 < length nets.new) }
     ensures length { IfOk result (λ n. n ≡ capped (wired_length (wired_special wires.now.library wires.now.design (scale wires.now.design) (special_net_view parts.now)))) }
 {
-    let mut walk = Walk { is_begun: false };
+    let mut walk = Walk {
+        is_begun: false,
+        layers: LastLayers::new(),
+    };
     let length = put_special_wires(library, wires, parts, &mut walk, nets)?;
     put_clauses(library, wires, parts.clauses.again(), &mut walk, nets)?;
     Ok(length)

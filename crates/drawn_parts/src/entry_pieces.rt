@@ -35,9 +35,9 @@ where
     R: WiringMakings<'a, Shapes = S>,
     W: MadeWires<'a, I, R, S>,
     A: Allocator + Copy,
-    requires { IsReady (drawing walk.old nets.old) }
+    requires { IsReady library.now.layers walk.old nets.old }
     ensures ok { OnOk result (drawing walk.new nets.new ≡ put_pieces library.now.layers (entry_left W.pieces I.items R.rules S.shapes pieces.entry) (drawing walk.old nets.old)) }
-    ensures ready { OnOk result (IsReady (drawing walk.new nets.new)) }
+    ensures ready { OnOk result (IsReady library.now.layers walk.new nets.new) }
     ensures length { IfOk result (λ n. n ≡ capped (sum_by piece_length (entry_left W.pieces I.items R.rules S.shapes pieces.entry))) }
 {
     let mut length: u64 = 0;
@@ -56,9 +56,9 @@ pub(crate) fn put_net_wires<'a, 'l: 'a, 'r: 'a, 't: 'a, A: Allocator + Copy>(
     walk: &mut Walk,
     nets: &mut NetList<'_, A>,
 ) -> Result<u64, AllocError>
-    requires { IsReady (drawing walk.old nets.old) }
+    requires { IsReady library.now.layers walk.old nets.old }
     ensures ok { OnOk result (drawing walk.new nets.new ≡ put_pieces library.now.layers (net_pieces wires.now.library wires.now.design (scale wires.now.design) (net_view parts.now)) (drawing walk.old nets.old)) }
-    ensures ready { OnOk result (IsReady (drawing walk.new nets.new)) }
+    ensures ready { OnOk result (IsReady library.now.layers walk.new nets.new) }
     ensures length { IfOk result (λ n. n ≡ capped (sum_by piece_length (net_pieces wires.now.library wires.now.design (scale wires.now.design) (net_view parts.now)))) }
 {
     pieces_of_design();
@@ -78,9 +78,9 @@ pub(crate) fn put_special_wires<'a, 'l: 'a, 'r: 'a, 't: 'a, A: Allocator + Copy>
     walk: &mut Walk,
     nets: &mut NetList<'_, A>,
 ) -> Result<u64, AllocError>
-    requires { IsReady (drawing walk.old nets.old) }
+    requires { IsReady library.now.layers walk.old nets.old }
     ensures ok { OnOk result (drawing walk.new nets.new ≡ put_pieces library.now.layers (special_net_pieces wires.now.library wires.now.design (scale wires.now.design) (special_net_view parts.now)) (drawing walk.old nets.old)) }
-    ensures ready { OnOk result (IsReady (drawing walk.new nets.new)) }
+    ensures ready { OnOk result (IsReady library.now.layers walk.new nets.new) }
     ensures length { IfOk result (λ n. n ≡ capped (sum_by piece_length (special_net_pieces wires.now.library wires.now.design (scale wires.now.design) (special_net_view parts.now)))) }
 {
     pieces_of_design();

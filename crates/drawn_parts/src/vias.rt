@@ -46,9 +46,9 @@ fn put_via_shape<A: Allocator + Copy>(
 ) -> Result<(), AllocError>
     requires at { IsPointWithin 2147483647 at }
     requires near { IsBoxWithin shape_reach (rectangle_of shape.rect) }
-    requires ready { IsReady (drawing walk.old nets.old) }
+    requires ready { IsReady library.now.layers walk.old nets.old }
     ensures ok { OnOk result (drawing walk.new nets.new ≡ put_piece library.now.layers (shape_at (net_via (wire_via_view via.now)) at is_first (shape_view shape.entry)) (drawing walk.old nets.old)) }
-    ensures ready { OnOk result (IsReady (drawing walk.new nets.new)) }
+    ensures ready { OnOk result (IsReady library.now.layers walk.new nets.new) }
 {
     if is_first {
         walk.is_begun = false;
@@ -71,9 +71,9 @@ fn put_via<'a, 'l: 'a, 'r: 'a, 't: 'a, A: Allocator + Copy>(
     nets: &mut NetList<'_, A>,
 ) -> Result<(), AllocError>
     requires at { IsPointWithin 2147483647 at }
-    requires ready { IsReady (drawing walk.old nets.old) }
+    requires ready { IsReady library.now.layers walk.old nets.old }
     ensures ok { OnOk result (drawing walk.new nets.new ≡ put_pieces library.now.layers (one_via (via_shapes wires.now.library wires.now.design (scale wires.now.design) (wire_via_view via.now).name) (net_via (wire_via_view via.now)) at) (drawing walk.old nets.old)) }
-    ensures ready { OnOk result (IsReady (drawing walk.new nets.new)) }
+    ensures ready { OnOk result (IsReady library.now.layers walk.new nets.new) }
 {
     let mut left = wires.via_shapes(via.name.bytes);
     let mut is_first = true;
@@ -93,9 +93,9 @@ pub(crate) fn put_vias<'a, 'l: 'a, 'r: 'a, 't: 'a, A: Allocator + Copy>(
     walk: &mut Walk,
     nets: &mut NetList<'_, A>,
 ) -> Result<(), AllocError>
-    requires { IsReady (drawing walk.old nets.old) }
+    requires { IsReady library.now.layers walk.old nets.old }
     ensures ok { OnOk result (drawing walk.new nets.new ≡ put_pieces library.now.layers (vias_at wires.now.library wires.now.design (scale wires.now.design) (placed_via_view vias.now)) (drawing walk.old nets.old)) }
-    ensures ready { OnOk result (IsReady (drawing walk.new nets.new)) }
+    ensures ready { OnOk result (IsReady library.now.layers walk.new nets.new) }
 {
     let mut at = vias.first;
     put_via(library, wires, &vias.via, at.place(), walk, nets)?;

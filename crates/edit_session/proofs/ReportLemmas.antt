@@ -1,5 +1,5 @@
 -- Lines that are made by putting parts behind one another.
-use Rattle.std.proofs.Common.{◌≡◌, ℕ, List, [], ◌++◌, ap, ◌∙◌, append_assoc, append-nil, sym, arith}
+use Rattle.std.proofs.Common.{◌≡◌, ℕ, List, [], ◌++◌, ap, ◌∙◌, append-nil, sym, arith}
 use Rattle.line_laws.specs.Lines.{SameLines, times}
 use Rattle.line_laws.proofs.PairSums.{times-append}
 
@@ -7,12 +7,9 @@ abbrev Lines : Type 0
 Lines = List (List ℕ)
 
 module _ (old : Lines) where
-  pub three_parts : (l1 l2 l3 a b d : Lines) → l1 ≡ old ++ a → l2 ≡ l1 ++ b → l3 ≡ l2 ++ d → l3 ≡ ((old ++ a) ++ b) ++ d
-  three_parts l1 l2 l3 a b d h1 h2 h3 = h3 ∙ ap (λ (l : Lines). l ++ d) (h2 ∙ ap (λ (l : Lines). l ++ b) h1)
-
   -- three families of one statement
-  pub three_families : (a b d : Lines) → ((old ++ a) ++ b) ++ d ≡ old ++ (a ++ (b ++ (d ++ [])))
-  three_families a b d = append_assoc (old ++ a) b d ∙ append_assoc old a (b ++ d) ∙ ap (λ (l : Lines). old ++ (a ++ (b ++ l))) (sym (append-nil d))
+  pub three_families : (a b d : Lines) → old ++ (a ++ (b ++ d)) ≡ old ++ (a ++ (b ++ (d ++ [])))
+  three_families a b d = ap (λ (l : Lines). old ++ (a ++ (b ++ l))) (sym (append-nil d))
 
   -- two parts, and a third in whatever order
   pub parts_and_more : (l1 l2 l3 a b d all : Lines) → l1 ≡ old ++ a → l2 ≡ l1 ++ b → SameLines l3 (l2 ++ d) → SameLines (((old ++ a) ++ b) ++ d) all → SameLines l3 all

@@ -19,9 +19,8 @@ use design_model::diagnostic::DiagLines;
 use design_names::names::names_of;
 use design_text::text::DesignText;
 use entry_checks::known::Defined;
-use entry_checks::off_layers::off_layers_in;
-use entry_checks::unchecked::{unchecked_in_library, unchecked_in_statement};
-use entry_checks::unknown::unknown_in;
+use entry_checks::statement_lines::put_statement_lines;
+use entry_checks::unchecked::unchecked_in_library;
 use entry_references::reference::Reference;
 use line_laws::one::components_in_any_order;
 use line_laws::same::{maps_are_same, permutations_are_same};
@@ -48,9 +47,7 @@ fn put_statement<'t, A: Allocator + Copy>(
 ) -> Result<(), AllocError>
     ensures { OnOk result (lines.new ≡ lines.old ++ statement_lines defined.now.library.now defined.now.names.now (record_view statement.now)) }
 {
-    unknown_in(defined, statement, references, lines)?;
-    off_layers_in(defined.library, defined.names, statement, lines)?;
-    unchecked_in_statement(statement, lines)?;
+    put_statement_lines(defined, statement, references, lines)?;
     Ok(())
 }
 

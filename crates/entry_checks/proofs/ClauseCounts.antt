@@ -17,7 +17,7 @@ use Rattle.place_parts.specs.declared.pins.PinClause.{PinClause}
 use Rattle.via_parts.specs.ViaViews.{via_clauses_of}
 use Rattle.via_parts.specs.declared.vias.ViaClause.{ViaClause}
 use Rattle.entry_rules.specs.Unchecked.{is_blocked_polygon, is_polygon_of_pin, is_polygon_of_via}
-use Rattle.entry_checks.proofs.PartCounts.{few_passing_read}
+use Rattle.entry_references.proofs.PartCounts.{few_passing_read}
 
 some_pin_clause : (c : pins.PinClause) → 1 ≤ length (spell pin_clause c)
 unfolding pin_clause

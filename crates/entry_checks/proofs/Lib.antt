@@ -1,7 +1,6 @@
 pub mod ClauseCounts
 pub mod JoinLemmas
-pub mod PartCounts
-pub mod PathCounts
+pub mod OffLayerSteps
 pub mod ReportSteps
-pub mod TokenCounts
-pub mod WireCounts
+pub mod SeenSteps
+pub mod SpecialWireCounts

@@ -1,3 +1,4 @@
+pub mod FoundVias
 pub mod JoinedLayers
 pub mod OffLayerViews
 pub mod UncheckedViews

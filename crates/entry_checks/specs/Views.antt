@@ -1,7 +1,11 @@
 -- Look-ups of what is defined, and names that aren't, as the definitions see them.
-use Rattle.std.specs.Prelude.{ℕ, Bool, List, [], ◌∷◌, Option, Some, None, codes, if◌then◌else◌}
+use Rattle.std.specs.Prelude.{◌≡◌, ℕ, Bool, true, List, [], ◌∷◌, ◌++◌, Option, Some, None, codes, if◌then◌else◌, IfSome}
 use Rattle.std.specs.Option.{option_map, option_to_list}
+use Rattle.design_model.specs.declared.diagnostic.DiagKind.TheVariants.{Unknown as unknown_kind}
+use Rattle.design_model.specs.Lines.{line_text}
 use Rattle.entry_rules.specs.Unknown.{Known}
+use Rattle.entry_checks.specs.declared.known_names.KnownNames.{KnownNames}
+use Rattle.entry_checks.specs.declared.unknown.Seen.{Seen}
 use Rattle.entry_checks.specs.declared.unknown.Unknown as code
 use Rattle.entry_checks.specs.declared.unknown.Unknown.TheVariants as variants
 
@@ -16,3 +20,14 @@ unknown_words (variants.Pin owner pin) = codes "PIN" ∷ owner.now ∷ pin.now �
 
 abbrev pub words_of_all : Option code.Unknown → List (List (List ℕ))
 words_of_all found = option_to_list (option_map unknown_words found)
+
+-- `unknown w.. S o`
+abbrev pub unknown_text : List ℕ → List ℕ → List (List ℕ) → List ℕ
+unknown_text section owner words = line_text unknown_kind (words ++ section ∷ owner ∷ []) []
+
+-- the names that are kept are known
+abbrev pub AreKnown : (List ℕ → Bool) → KnownNames → Type 0
+AreKnown is_known names = IfSome names.last (λ name. is_known name.now ≡ true) × IfSome names.before (λ name. is_known name.now ≡ true)
+
+abbrev pub AreSeen : Known → Seen → Type 0
+AreSeen known seen = AreKnown known.layer seen.layers × AreKnown known.via seen.vias

@@ -1,32 +1,31 @@
 //! Vias in paths that don't join the layer of their wire to another.
 
-ghost use Rattle.std.specs.Prelude.{◌≡◌, ◌++◌, ◌∷◌, [], IfOk, OnOk, flat_map, map};
+ghost use Rattle.std.specs.Prelude.{◌≡◌, ◌++◌, ◌∷◌, [], IfOk, IfSome, OnOk, flat_map, map};
 ghost use Rattle.std.specs.List.{filter_map};
 ghost use Rattle.def_grammar.specs.Records.{entry as the_entry};
-ghost use Rattle.def_grammar.specs.Wiring.{WireVia as TheWireVia, SpecialVia as TheSpecialVia, special_via, wire_via, via_of_item};
+ghost use Rattle.def_grammar.specs.Wiring.{SpecialVia as TheSpecialVia, special_via, via_of_item};
 ghost use Rattle.wire_rules.specs.Paths.{layer_over, or_same};
-ghost use Rattle.wire_parts.specs.NetWireViews.{paths_left};
 ghost use Rattle.wire_parts.specs.PathViews.{items_of};
 ghost use Rattle.wire_parts.specs.SpecialWireViews.{special_paths_left};
 ghost use Rattle.def_reader.specs.EntryViews.{entry_view};
-ghost use Rattle.def_reader.specs.StatementViews.{record_view};
-ghost use Rattle.entry_rules.specs.OffLayer.{off_layer, off_layer_in, off_layer_in_special_wire, off_layer_in_wire, off_layer_lines_of, off_layer_vias};
+ghost use Rattle.entry_rules.specs.OffLayer.{off_layer, off_layer_in_special_wire, off_layer_lines_of, off_layer_vias};
+ghost use Rattle.entry_rules.specs.References.{entry_references};
 ghost use Rattle.entry_rules.specs.ViaLayers.{via_layers};
-ghost use Rattle.entry_checks.specs.OffLayerViews.{off_layer_text};
+ghost use Rattle.entry_references.specs.ReferenceViews.{reference_view, references_view};
+ghost use Rattle.entry_checks.specs.FoundVias.{AreFound};
+ghost use Rattle.entry_checks.specs.OffLayerViews.{layer_behind, off_layer_among, off_layer_at, off_layer_text};
 
 use crate::entry_name::name_or_dash;
-use crate::via_layers::via_on;
+use crate::found_via::{KeptVias, via_after};
 use cell_library::library::Library;
 use def_reader::entry::Entry;
-use def_reader::statement::Statement;
 use design_model::diagnostic::DiagKind;
 use design_names::names::Names;
+use entry_references::reference::Reference;
 use report_lines::Lines;
 use statement_reader::parts::Parts;
 use std::alloc::{AllocError, Allocator};
-use wire_parts::net_wires::NetPaths;
-use wire_parts::nets::NetEntry;
-use wire_parts::paths::{PathItem, SpecialVia, WireVia};
+use wire_parts::paths::{PathItem, SpecialVia};
 use wire_parts::special_wires::SpecialPaths;
 use wire_shapes::ViaOn;
 
@@ -37,94 +36,118 @@ struct Owner<'n> {
     name: &'n [u8],
 }
 
-/// Puts the line on a via, if it is known and doesn't join the layer to another; and gives the layer after it.
+/// Where paths are gone along: the present layer, and the vias that are kept.
+#[derive(Clone, Copy)]
+struct Place<'a> {
+    layer: &'a [u8],
+    kept: Option<KeptVias<'a>>,
+}
+
+/// Puts the line on a via, if it is known and doesn't join the layer to another; and gives the place after it.
 fn pass_via<'a, A: Allocator + Copy>(
     library: &'a Library<'_, A>,
     names: &'a Names<'_, '_, A>,
     owner: Owner<'_>,
-    via: &[u8],
-    layer: &'a [u8],
+    via: &'a [u8],
+    at: Place<'a>,
     lines: &mut Lines<A>,
-) -> Result<&'a [u8], AllocError>
-    ensures lines { OnOk result (lines.new ≡ lines.old ++ map (off_layer_text owner.entry) (off_layer layer.entry.now via.now (via_layers library.entry.now names.entry.now via.now))) }
-    ensures layer { IfOk result (λ l. l.now ≡ or_same layer.entry.now (layer_over layer.entry.now (via_layers library.entry.now names.entry.now via.now))) }
+) -> Result<Place<'a>, AllocError>
+    requires { IfSome at.kept (λ vias. AreFound library.now names.now vias) }
+    ensures lines { OnOk result (lines.new ≡ lines.old ++ map (off_layer_text owner.entry) (off_layer at.entry.layer.now via.entry.now (via_layers library.entry.now names.entry.now via.entry.now))) }
+    ensures layer { IfOk result (λ p. p.layer.now ≡ or_same at.entry.layer.now (layer_over at.entry.layer.now (via_layers library.entry.now names.entry.now via.entry.now))) }
+    ensures kept { IfOk result (λ p. IfSome p.kept (λ vias. AreFound library.entry.now names.entry.now vias)) }
 {
-    match via_on(library, names, via, layer) {
-        ViaOn::Unknown => Ok(layer),
-        ViaOn::Leads(other) => Ok(other),
+    let vias = via_after(library, names, at.kept, via);
+    let kept = Some(vias);
+    match vias.last.via_on(at.layer) {
+        ViaOn::Unknown => Ok(Place {
+            layer: at.layer,
+            kept,
+        }),
+        ViaOn::Leads(other) => Ok(Place { layer: other, kept }),
         ViaOn::Stays => {
             lines.put(DiagKind::ViaLayer, &[via, owner.section, owner.name], &[])?;
-            Ok(layer)
+            Ok(Place {
+                layer: at.layer,
+                kept,
+            })
         }
     }
 }
 
-/// Puts the lines on vias of a path of NETS, which begins on a layer.
-#[tactic(auto, unfolding(entry_rules::specs::OffLayer::off_layer_vias))]
-fn put_items<'a, 't, A: Allocator + Copy>(
+/// Puts the line on a reference of a net, if it is to such a via; and gives the place after it.
+fn pass_reference<'a, 't: 'a, A: Allocator + Copy>(
     library: &'a Library<'_, A>,
     names: &'a Names<'_, '_, A>,
     owner: Owner<'_>,
-    layer: &'a [u8],
-    items: Parts<'t, PathItem<'t, WireVia<'t>>>,
+    reference: Reference<'t>,
+    at: Place<'a>,
+    lines: &mut Lines<A>,
+) -> Result<Place<'a>, AllocError>
+    requires { IfSome at.kept (λ vias. AreFound library.now names.now vias) }
+    ensures lines { OnOk result (lines.new ≡ lines.old ++ map (off_layer_text owner.entry) (off_layer_at (via_layers library.entry.now names.entry.now) at.entry.layer.now (reference_view reference.entry))) }
+    ensures layer { IfOk result (λ p. p.layer.now ≡ layer_behind (via_layers library.entry.now names.entry.now) at.entry.layer.now (reference_view reference.entry)) }
+    ensures kept { IfOk result (λ p. IfSome p.kept (λ vias. AreFound library.entry.now names.entry.now vias)) }
+{
+    match reference {
+        Reference::Layer(layer) => Ok(Place {
+            layer,
+            kept: at.kept,
+        }),
+        Reference::Via(via) => pass_via(library, names, owner, via, at, lines),
+        Reference::Macro(_)
+        | Reference::Region(_)
+        | Reference::Site(_)
+        | Reference::Rule(_)
+        | Reference::Net(_)
+        | Reference::Terminal(_, _) => Ok(at),
+    }
+}
+
+/// Puts the lines on vias of a net of NETS, whose references these are: they name the layer of a wire before its vias, so the net
+/// isn't read again.
+#[tactic(auto, unfolding(crate::specs::OffLayerViews::off_layer_among))]
+fn put_net<'a, 't: 'a, A: Allocator + Copy>(
+    library: &'a Library<'_, A>,
+    names: &'a Names<'_, '_, A>,
+    owner: Owner<'_>,
+    references: &[Reference<'t>],
     lines: &mut Lines<A>,
 ) -> Result<(), AllocError>
-    ensures { OnOk result (lines.new ≡ lines.old ++ map (off_layer_text owner.entry) (off_layer_vias (via_layers library.entry.now names.entry.now) layer.entry.now (filter_map (via_of_item (λ (v : TheWireVia). v)) (items_of wire_via items.entry)))) }
+    ensures { OnOk result (lines.new ≡ lines.old ++ map (off_layer_text owner.entry) (off_layer_among (via_layers library.entry.now names.entry.now) [] (references_view references.now))) }
 {
-    let mut layer = layer;
-    let mut left = items;
-    while let Some(item) = left.next() {
-        if let PathItem::Via(via) = item {
-            layer = pass_via(library, names, owner, via.name.bytes, layer, lines)?;
-        }
+    let mut at = Place {
+        layer: b"",
+        kept: None,
+    };
+    for reference in references {
+        at = pass_reference(library, names, owner, *reference, at, lines)?;
     }
     Ok(())
 }
 
-/// Puts the lines on vias of a path of SPECIALNETS, which begins on a layer.
+/// Puts the lines on vias of a path of SPECIALNETS, and gives the place at its end.
 #[tactic(auto, unfolding(entry_rules::specs::OffLayer::off_layer_vias))]
-fn put_special_items<'a, 't, A: Allocator + Copy>(
+fn put_special_items<'a, 't: 'a, A: Allocator + Copy>(
     library: &'a Library<'_, A>,
     names: &'a Names<'_, '_, A>,
     owner: Owner<'_>,
-    layer: &'a [u8],
+    start: Place<'a>,
     items: Parts<'t, PathItem<'t, SpecialVia<'t>>>,
     lines: &mut Lines<A>,
-) -> Result<(), AllocError>
-    ensures { OnOk result (lines.new ≡ lines.old ++ map (off_layer_text owner.entry) (off_layer_vias (via_layers library.entry.now names.entry.now) layer.entry.now (filter_map (via_of_item (λ (v : TheSpecialVia). v.via)) (items_of special_via items.entry)))) }
+) -> Result<Place<'a>, AllocError>
+    requires { IfSome start.kept (λ vias. AreFound library.now names.now vias) }
+    ensures lines { OnOk result (lines.new ≡ lines.old ++ map (off_layer_text owner.entry) (off_layer_vias (via_layers library.entry.now names.entry.now) start.entry.layer.now (filter_map (via_of_item (λ (v : TheSpecialVia). v.via)) (items_of special_via items.entry)))) }
+    ensures kept { IfOk result (λ p. IfSome p.kept (λ vias. AreFound library.entry.now names.entry.now vias)) }
 {
-    let mut layer = layer;
+    let mut at = start;
     let mut left = items;
     while let Some(item) = left.next() {
         if let PathItem::Via(special) = item {
-            layer = pass_via(library, names, owner, special.via.name.bytes, layer, lines)?;
+            at = pass_via(library, names, owner, special.via.name.bytes, at, lines)?;
         }
     }
-    Ok(())
-}
-
-/// Puts the lines on vias of wires of NETS.
-fn put_wires<'a, 't: 'a, A: Allocator + Copy>(
-    library: &'a Library<'_, A>,
-    names: &'a Names<'_, '_, A>,
-    owner: Owner<'_>,
-    wires: NetPaths<'t>,
-    lines: &mut Lines<A>,
-) -> Result<(), AllocError>
-    ensures { OnOk result (lines.new ≡ lines.old ++ map (off_layer_text owner.entry) (flat_map (off_layer_in_wire (via_layers library.entry.now names.entry.now)) (paths_left wires.entry))) }
-{
-    let mut left = wires;
-    while let Some(wire) = left.next() {
-        put_items(
-            library,
-            names,
-            owner,
-            wire.layer.bytes,
-            wire.path.items,
-            lines,
-        )?;
-    }
-    Ok(())
+    Ok(at)
 }
 
 /// Puts the lines on vias of wires of SPECIALNETS.
@@ -137,27 +160,30 @@ fn put_special_wires<'a, 't: 'a, A: Allocator + Copy>(
 ) -> Result<(), AllocError>
     ensures { OnOk result (lines.new ≡ lines.old ++ map (off_layer_text owner.entry) (flat_map (off_layer_in_special_wire (via_layers library.entry.now names.entry.now)) (special_paths_left wires.entry))) }
 {
+    let mut kept = None;
     let mut left = wires;
     while let Some(wire) = left.next() {
-        put_special_items(
-            library,
-            names,
-            owner,
-            wire.layer.bytes,
-            wire.path.items,
-            lines,
-        )?;
+        let start = Place {
+            layer: wire.layer.bytes,
+            kept,
+        };
+        let end = put_special_items(library, names, owner, start, wire.path.items, lines)?;
+        kept = end.kept;
     }
     Ok(())
 }
 
-/// Puts the lines on vias of an entry.
-fn put_entry<'a, 't: 'a, A: Allocator + Copy>(
+/// Puts a line for each via in a path of an entry, of these references, that doesn't join the layer of its wire to another, in
+/// the order of the text.
+#[tactic(auto, using(crate::proofs::OffLayerSteps::off_layer_of_entry))]
+pub(crate) fn off_layers_in<'a, 't: 'a, A: Allocator + Copy>(
     library: &'a Library<'_, A>,
     names: &'a Names<'_, '_, A>,
     entry: &Entry<'t>,
+    references: &[Reference<'t>],
     lines: &mut Lines<A>,
 ) -> Result<(), AllocError>
+    requires { references_view references.now ≡ entry_references (entry_view entry.now) }
     ensures { OnOk result (lines.new ≡ lines.old ++ off_layer_lines_of (via_layers library.entry.now names.entry.now) (the_entry (entry_view entry.now))) }
 {
     let owner = Owner {
@@ -165,26 +191,8 @@ fn put_entry<'a, 't: 'a, A: Allocator + Copy>(
         name: name_or_dash(entry),
     };
     match entry {
-        Entry::Net(NetEntry::Net(parts)) => {
-            put_wires(library, names, owner, parts.paths(), lines)
-        }
+        Entry::Net(_) => put_net(library, names, owner, references, lines),
         Entry::SpecialNet(parts) => put_special_wires(library, names, owner, parts.paths(), lines),
-        _ => Ok(()),
-    }
-}
-
-/// Puts a line for each via in a path of a statement that doesn't join the layer of its wire to another, in the order of the
-/// text.
-pub fn off_layers_in<A: Allocator + Copy>(
-    library: &Library<'_, A>,
-    names: &Names<'_, '_, A>,
-    statement: &Statement<'_>,
-    lines: &mut Lines<A>,
-) -> Result<(), AllocError>
-    ensures { OnOk result (lines.new ≡ lines.old ++ off_layer_lines_of (via_layers library.now names.now) (record_view statement.now)) }
-{
-    match statement {
-        Statement::Entry(entry) => put_entry(&*library, &*names, entry, lines),
         _ => Ok(()),
     }
 }

@@ -3,24 +3,19 @@
 ghost use Rattle.std.specs.Prelude.{◌≡◌, ◌++◌, ◌<◌, ◌^◌, OnOk, flat_map};
 ghost use Rattle.cell_library.specs.MacroViews.{macros_view};
 ghost use Rattle.cell_library.specs.ViaViews.{vias_view};
-ghost use Rattle.def_reader.specs.StatementViews.{record_view};
-ghost use Rattle.entry_rules.specs.Unchecked.{unchecked_in_library, unchecked_line, unchecked_lines_of};
+ghost use Rattle.entry_rules.specs.Unchecked.{unchecked_in_library, unchecked_line};
 ghost use Rattle.entry_checks.specs.UncheckedViews.{unchecked_of_macro, unchecked_of_via};
 
-use crate::entry_name::name_or_dash;
-use crate::unchecked_entries::{unchecked_in, unchecked_in_die};
 use cell_library::library::Library;
 use cell_library::macro_definition::Macro;
 use cell_library::named::Named;
 use cell_library::via_definition::Via;
-use def_reader::floor::Floor;
-use def_reader::statement::Statement;
 use design_model::diagnostic::DiagKind;
 use report_lines::Lines;
 use std::alloc::{AllocError, Allocator};
 
 /// Puts the line on so many parts of an entry, or of a definition, of this kind, where there are some.
-fn put_unchecked<A: Allocator + Copy>(
+pub(crate) fn put_unchecked<A: Allocator + Copy>(
     section: &[u8],
     owner: &[u8],
     count: usize,
@@ -33,25 +28,6 @@ fn put_unchecked<A: Allocator + Copy>(
         return Ok(());
     }
     lines.put(DiagKind::Unchecked, &[section, owner], &[count as i64])
-}
-
-/// Puts the line on the parts of a statement, if it has some. A die of more than four sides counts as one part.
-pub fn unchecked_in_statement<A: Allocator + Copy>(
-    statement: &Statement<'_>,
-    lines: &mut Lines<A>,
-) -> Result<(), AllocError>
-    ensures { OnOk result (lines.new ≡ lines.old ++ unchecked_lines_of (record_view statement.now)) }
-{
-    match statement {
-        Statement::Entry(entry) => {
-            let section = entry.section().word();
-            put_unchecked(section, name_or_dash(entry), unchecked_in(entry), lines)
-        }
-        Statement::Floor(Floor::DieArea(parts)) => {
-            put_unchecked(b"DIEAREA", b"-", unchecked_in_die(parts), lines)
-        }
-        _ => Ok(()),
-    }
 }
 
 /// Puts the lines on macros.

@@ -1,23 +1,28 @@
 //! Parts of entries whose shape isn't checked (LEF/DEF 5.8 Language Reference, "DEF Syntax").
 
-ghost use Rattle.std.specs.Prelude.{◌≡◌, ◌<◌, ◌≤◌, ◌^◌, filter, length};
+ghost use Rattle.std.specs.Prelude.{◌≡◌, ◌<◌, ◌≤◌, ◌^◌, ◌++◌, filter, length, IfOk, OnOk};
 ghost use Rattle.def_grammar.specs.Records.{blockage};
 ghost use Rattle.place_parts.specs.BlockageViews.{blockage_entry_view, blockage_shape_view, blockage_shapes_of};
 ghost use Rattle.place_parts.specs.DieAreaViews.{die_area_view};
 ghost use Rattle.place_parts.specs.PinViews.{pin_clauses_of};
 ghost use Rattle.via_parts.specs.ViaViews.{via_clauses_of};
 ghost use Rattle.def_reader.specs.EntryViews.{entry_view};
+ghost use Rattle.entry_rules.specs.References.{entry_references};
+ghost use Rattle.entry_references.specs.ReferenceViews.{references_view};
 ghost use Rattle.entry_rules.specs.Unchecked.{is_blocked_polygon, is_more, is_polygon_of_pin, is_polygon_of_via, one_if, unchecked_in};
 
-use crate::token_count::few_tokens;
-use crate::unchecked_nets::in_net;
 use crate::unchecked_parts::{UncheckedParts, count_unchecked};
 use crate::unchecked_special_nets::in_special_net;
 use def_reader::entry::Entry;
+use entry_references::entries::push_references;
+use entry_references::nets::push_net;
+use entry_references::reference::Reference;
+use entry_references::token_count::few_tokens;
 use place_parts::blockages::{BlockageEntry, BlockageShape};
 use place_parts::die_area::DieAreaParts;
 use place_parts::pins::PinClause;
 use statement_reader::parts::Parts;
+use std::alloc::{AllocError, Allocator};
 use via_parts::vias::ViaClause;
 
 impl<'t> UncheckedParts for Parts<'t, PinClause<'t>> {
@@ -108,22 +113,43 @@ fn in_blockage(entry: &BlockageEntry<'_>) -> usize
     }
 }
 
-/// How many parts of an entry have no checked shape.
-pub(crate) fn unchecked_in(entry: &Entry<'_>) -> usize
-    ensures count { result ≡ unchecked_in (entry_view entry.now) }
-    ensures few { result < 2 ^ 63 }
+/// Adds what an entry names, and gives the count of its parts that have no checked shape.
+fn push_counted<'t, A: Allocator>(
+    entry: &Entry<'t>,
+    unchecked: usize,
+    references: &mut Vec<Reference<'t>, A>,
+) -> Result<usize, AllocError>
+    ensures references { OnOk result (references_view references.new.items ≡ references_view references.old.items ++ entry_references (entry_view entry.now)) }
+    ensures count { IfOk result (λ n. n ≡ unchecked) }
+{
+    push_references(entry, references)?;
+    Ok(unchecked)
+}
+
+/// Adds what an entry names, and gives how many of its parts have no checked shape.
+pub(crate) fn push_entry<'t, A: Allocator>(
+    entry: &Entry<'t>,
+    references: &mut Vec<Reference<'t>, A>,
+) -> Result<usize, AllocError>
+    ensures references { OnOk result (references_view references.new.items ≡ references_view references.old.items ++ entry_references (entry_view entry.now)) }
+    ensures count { IfOk result (λ n. n ≡ unchecked_in (entry_view entry.now)) }
+    ensures few { IfOk result (λ n. n < 2 ^ 63) }
 {
     match entry {
-        Entry::Pin(parts) => polygons_of_pin(&parts.clauses),
-        Entry::Blockage(blockage) => in_blockage(&blockage.parts()),
-        Entry::Via(parts) => polygons_of_via(&parts.clauses),
-        Entry::Net(net) => in_net(net),
-        Entry::SpecialNet(parts) => in_special_net(parts),
+        Entry::Net(net) => push_net(net, references),
+        Entry::SpecialNet(parts) => push_counted(entry, in_special_net(parts), references),
+        Entry::Pin(parts) => push_counted(entry, polygons_of_pin(&parts.clauses), references),
+        Entry::Blockage(blockage) => push_counted(
+            entry,
+            in_blockage(&blockage.parts()),
+            references,
+        ),
+        Entry::Via(parts) => push_counted(entry, polygons_of_via(&parts.clauses), references),
         Entry::Component(_)
         | Entry::Region(_)
         | Entry::Group(_)
         | Entry::Rule(_)
-        | Entry::Skipped(_, _) => 0,
+        | Entry::Skipped(_, _) => push_counted(entry, 0, references),
     }
 }
 

@@ -10,9 +10,9 @@ ghost use Rattle.def_grammar.specs.Records.{special_net};
 ghost use Rattle.entry_rules.specs.Unchecked.{is_listed, is_style, special_words, unchecked_in, unchecked_in_special, unchecked_in_special_wire};
 
 use crate::diagonals::special_diagonals;
-use crate::token_count::few_tokens;
 use crate::unchecked_parts::{UncheckedParts, count_unchecked};
 use def_parts::clauses::KeptClause;
+use entry_references::token_count::few_tokens;
 use lefdef_tokens::is_word;
 use statement_reader::parts::Parts;
 use wire_parts::special_nets::{SpecialClause, SpecialNetParts};
@@ -112,7 +112,7 @@ impl<'t> UncheckedParts for Parts<'t, SpecialClause<'t>> {
 }
 
 /// How many parts of an entry of SPECIALNETS aren't checked.
-#[tactic(auto, using(crate::proofs::WireCounts::few_in_special_clauses))]
+#[tactic(auto, using(crate::proofs::SpecialWireCounts::few_in_special_clauses))]
 pub(crate) fn in_special_net(parts: &SpecialNetParts<'_>) -> usize
     ensures count { result ≡ unchecked_in (special_net (special_net_view parts.now)) }
     ensures few { result < 2 ^ 63 }

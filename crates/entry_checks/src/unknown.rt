@@ -1,19 +1,13 @@
 //! Names that aren't defined.
 
-ghost use Rattle.std.specs.Prelude.{◌≡◌, ◌∷◌, ◌++◌, [], OnOk};
-ghost use Rattle.design_model.specs.declared.diagnostic.DiagKind.TheVariants.{Unknown as unknown_kind};
-ghost use Rattle.design_model.specs.Lines.{line_text};
-ghost use Rattle.def_reader.specs.StatementViews.{record_view};
-ghost use Rattle.entry_rules.specs.Unknown.{reference_lines, unknown_lines_of, unknown_of, unknown_terminal, unless};
+ghost use Rattle.std.specs.Prelude.{◌≡◌, ◌∷◌, ◌++◌, [], IfOk, OnOk, map, true};
+ghost use Rattle.entry_rules.specs.Unknown.{Known as TheKnown, reference_lines, unknown_of, unknown_terminal, unless};
 ghost use Rattle.entry_references.specs.ReferenceViews.{reference_view, references_view};
-ghost use Rattle.entry_checks.specs.Views.{unknown_words, words_of_all};
+ghost use Rattle.entry_checks.specs.Views.{AreSeen, unknown_text, unknown_words, words_of_all};
 
-use crate::entry_name::name_or_dash;
 use crate::known::Known;
-use def_reader::floor::Floor;
-use def_reader::statement::Statement;
+use crate::known_names::KnownNames;
 use design_model::diagnostic::DiagKind;
-use entry_references::entries::{push_references, push_row_references};
 use entry_references::reference::Reference;
 use lefdef_tokens::is_word;
 use report_lines::Lines;
@@ -26,6 +20,58 @@ enum Unknown<'n> {
     Name(&'n [u8], &'n [u8]),
     /// A pin, by its owner and its name.
     Pin(&'n [u8], &'n [u8]),
+}
+
+/// What was found to be known while the references of one statement are gone over. Layers and vias are named often.
+#[derive(Clone, Copy)]
+struct Seen<'n> {
+    layers: KnownNames<'n>,
+    vias: KnownNames<'n>,
+}
+
+impl<'n> Seen<'n> {
+    /// Nothing.
+    fn new() -> Seen<'n>
+        ensures { (known : TheKnown) → AreSeen known result }
+    {
+        let nothing = KnownNames {
+            last: None,
+            before: None,
+        };
+        Seen {
+            layers: nothing,
+            vias: nothing,
+        }
+    }
+
+    /// Whether a reference was seen, so that it is defined.
+    fn has(self, reference: Reference<'_>) -> bool
+        ensures { (known : TheKnown) → AreSeen known self.entry → result ≡ true → unknown_of known (reference_view reference.entry) ≡ [] }
+    {
+        match reference {
+            Reference::Layer(name) => self.layers.has(name),
+            Reference::Via(name) => self.vias.has(name),
+            _ => false,
+        }
+    }
+
+    /// The same with a reference that is defined.
+    #[tactic(auto, using(crate::proofs::SeenSteps::is_defined))]
+    fn with(self, reference: Reference<'n>) -> Seen<'n>
+        ensures { (known : TheKnown) → AreSeen known self.entry → unknown_of known (reference_view reference.entry) ≡ [] → AreSeen known result }
+    {
+        match reference {
+            Reference::Layer(name) => Seen {
+                layers: self.layers.with(name),
+                vias: self.vias,
+            },
+            Reference::Via(name) => Seen {
+                layers: self.layers,
+                vias: self.vias.with(name),
+            },
+            _ => self,
+        }
+    }
 }
 
 /// The name, where it isn't known.
@@ -72,7 +118,7 @@ fn put_unknown<A: Allocator + Copy>(
     entry: &[u8],
     lines: &mut Lines<A>,
 ) -> Result<(), AllocError>
-    ensures { OnOk result (lines.new ≡ lines.old ++ line_text unknown_kind (unknown_words unknown.entry ++ section.now ∷ entry.now ∷ []) [] ∷ []) }
+    ensures { OnOk result (lines.new ≡ lines.old ++ unknown_text section.now entry.now (unknown_words unknown.entry) ∷ []) }
 {
     match unknown {
         Unknown::Name(kind, name) => {
@@ -88,46 +134,44 @@ fn put_unknown<A: Allocator + Copy>(
     }
 }
 
-/// Puts a line for each of the references of an entry that isn't defined.
-fn put_references<K: Known, A: Allocator + Copy>(
+/// Puts the line on a reference, if it isn't defined; and gives what was seen with it. What was seen isn't looked up again.
+fn pass_reference<'n, K: Known, A: Allocator + Copy>(
     known: &K,
     section: &[u8],
     entry: &[u8],
-    references: &[Reference<'_>],
+    seen: Seen<'n>,
+    reference: Reference<'n>,
+    lines: &mut Lines<A>,
+) -> Result<Seen<'n>, AllocError>
+    requires { AreSeen (K.known known.now) seen }
+    ensures lines { OnOk result (lines.new ≡ lines.old ++ map (unknown_text section.now entry.now) (unknown_of (K.known known.now) (reference_view reference.entry))) }
+    ensures seen { IfOk result (λ s. AreSeen (K.known known.now) s) }
+{
+    if seen.has(reference) {
+        return Ok(seen);
+    }
+    match unknown_of(known, reference) {
+        Some(unknown) => {
+            put_unknown(unknown, section, entry, lines)?;
+            Ok(seen)
+        }
+        None => Ok(seen.with(reference)),
+    }
+}
+
+/// Puts a line for each of the references of an entry that isn't defined, in their order.
+pub(crate) fn put_references<'n, K: Known, A: Allocator + Copy>(
+    known: &K,
+    section: &[u8],
+    entry: &[u8],
+    references: &[Reference<'n>],
     lines: &mut Lines<A>,
 ) -> Result<(), AllocError>
     ensures { OnOk result (lines.new ≡ lines.old ++ reference_lines (K.known known.now) section.now entry.now (references_view references.now)) }
 {
+    let mut seen = Seen::new();
     for reference in references {
-        if let Some(unknown) = unknown_of(known, *reference) {
-            put_unknown(unknown, section, entry, lines)?;
-        }
+        seen = pass_reference(known, section, entry, seen, *reference, lines)?;
     }
     Ok(())
-}
-
-/// Puts the lines on the names in a statement that aren't defined, in the order of the text. The list of references is written
-/// over.
-pub fn unknown_in<'t, K: Known, A: Allocator + Copy>(
-    known: &K,
-    statement: &Statement<'t>,
-    references: &mut Vec<Reference<'t>, A>,
-    lines: &mut Lines<A>,
-) -> Result<(), AllocError>
-    ensures { OnOk result (lines.new ≡ lines.old ++ unknown_lines_of (K.known known.now) (record_view statement.now)) }
-{
-    references.clear();
-    match statement {
-        Statement::Entry(entry) => {
-            push_references(entry, references)?;
-            let section = entry.section().word();
-            put_references(known, section, name_or_dash(entry), references, lines)
-        }
-        Statement::Floor(Floor::Row(row)) => {
-            let row = row.parts();
-            push_row_references(&row, references)?;
-            put_references(known, b"ROWS", row.name.bytes, references, lines)
-        }
-        _ => Ok(()),
-    }
 }

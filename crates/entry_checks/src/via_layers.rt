@@ -4,14 +4,12 @@ ghost use Rattle.std.specs.Prelude.{◌≡◌, ◌∷◌, [], is_some, map, None
 ghost use Rattle.std.specs.List.{filter_map};
 ghost use Rattle.std.specs.Option.{option_map};
 ghost use Rattle.form_meanings.specs.Firsts.{first_of};
-ghost use Rattle.wire_rules.specs.Paths.{other_layer};
 ghost use Rattle.via_parts.specs.ViaViews.{via_clause_view, via_clauses_of, via_layers_view, via_view};
 ghost use Rattle.cell_library.specs.ShapeViews.{shapes_view};
 ghost use Rattle.cell_library.specs.ViaViews.{body_view};
 ghost use Rattle.lefdef_tokens.specs.Views.{word_view};
-ghost use Rattle.wire_shapes.specs.RuleViews.{via_on_view};
 ghost use Rattle.def_grammar.specs.DefVias.{layer_of_shape, layers_of_clause};
-ghost use Rattle.entry_rules.specs.ViaLayers.{body_layers, def_via_layers, layers_named, rule_of_via, via_layers};
+ghost use Rattle.entry_rules.specs.ViaLayers.{body_layers, def_via_layers, layers_named, rule_of_via};
 ghost use Rattle.entry_checks.specs.JoinedLayers.{Joins, JoinsThose, layer_of};
 
 use crate::joined_layers::JoinedLayers;
@@ -23,7 +21,6 @@ use design_names::names::Names;
 use statement_reader::parts::Parts;
 use std::alloc::Allocator;
 use via_parts::vias::{ViaClause, ViaLayers, ViaParts};
-use wire_shapes::ViaOn;
 
 /// Whether a rule of LEF generates a via with these clauses.
 fn is_generated<'t>(clauses: Parts<'t, ViaClause<'t>>) -> bool
@@ -157,19 +154,4 @@ pub fn joined_layers<'a, A: Allocator + Copy>(
     }
     let found = library.via(via)?;
     Some(joined_in_lef(library, found))
-}
-
-/// What a via does where a path is on a layer. It takes no memory.
-pub fn via_on<'a, A: Allocator + Copy>(
-    library: &'a Library<'_, A>,
-    names: &'a Names<'_, '_, A>,
-    via: &[u8],
-    layer: &[u8],
-) -> ViaOn<'a>
-    ensures { via_on_view result ≡ option_map (other_layer layer.now) (via_layers library.now names.now via.now) }
-{
-    match joined_layers(library, names, via) {
-        Some(joined) => joined.via_on(layer),
-        None => ViaOn::Unknown,
-    }
 }

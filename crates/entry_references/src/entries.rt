@@ -29,7 +29,10 @@ pub fn push_references<'t, A: Allocator>(
         Entry::Pin(parts) => push_pin(parts, found),
         Entry::Group(parts) => push_group(parts, found),
         Entry::Blockage(blockage) => push_blockage(&blockage.parts(), found),
-        Entry::Net(net) => push_net(net, found),
+        Entry::Net(net) => {
+            push_net(net, found)?;
+            Ok(())
+        }
         Entry::SpecialNet(parts) => push_special_net(parts, found),
         Entry::Via(parts) => push_via(parts, found),
         Entry::Rule(parts) => push_rule(parts, found),

@@ -7,7 +7,7 @@ use Rattle.shape_rules.specs.Classes.{distinct, numbers}
 use Rattle.connection_rules.specs.NetParts.{Part}
 use Rattle.connection_rules.specs.NetLines.{is_drawn}
 use Rattle.connection_rules.specs.PartClasses.{joins, part_labels, pin_marks, with_pins, without_pins}
-use Rattle.net_lists.specs.declared.parts.OwnedShape.{OwnedShape}
+use Rattle.net_lists.specs.declared.parts.NetShape.{NetShape}
 use Rattle.net_lists.specs.declared.parts.PartHead.{PartHead}
 use Rattle.net_lists.specs.Counts.{shape_count}
 use Rattle.net_lists.specs.PartCuts.{part_with, parts_of}
@@ -16,14 +16,14 @@ use Rattle.part_classes.proofs.CountLaws.{holding_few}
 use Rattle.part_classes.proofs.LabelLaws.{length_numbers, split}
 use Rattle.net_classes.proofs.JoinedLabels.{length_all_joined}
 
-pub length_parts : (hs : List PartHead) (ss : List OwnedShape) → length (parts_of hs ss) ≡ length hs
+pub length_parts : (hs : List PartHead) (ss : List NetShape) → length (parts_of hs ss) ≡ length hs
 length_parts hs ss = cut_length shape_count part_with hs ss
 
-pub heads_mark : (hs : List PartHead) (ss : List OwnedShape) → map (λ (h : PartHead). h.is_pin) hs ≡ pin_marks (parts_of hs ss)
+pub heads_mark : (hs : List PartHead) (ss : List NetShape) → map (λ (h : PartHead). h.is_pin) hs ≡ pin_marks (parts_of hs ss)
 heads_mark [] ss = refl
 heads_mark (h ∷ hs) ss = ap (λ (l : List Bool). h.is_pin ∷ l) (heads_mark hs (drop h.shapes ss))
 
-pub heads_tell : (hs : List PartHead) (ss : List OwnedShape) → list_any (λ (h : PartHead). not h.is_pin) hs ≡ is_drawn (parts_of hs ss)
+pub heads_tell : (hs : List PartHead) (ss : List NetShape) → list_any (λ (h : PartHead). not h.is_pin) hs ≡ is_drawn (parts_of hs ss)
 heads_tell [] ss = refl
 heads_tell (h ∷ hs) ss = ap (λ (t : Bool). not h.is_pin || t) (heads_tell hs (drop h.shapes ss))
 

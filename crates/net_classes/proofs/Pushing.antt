@@ -2,7 +2,7 @@
 use Rattle.std.proofs.Common.{◌≡◌, ◌+◌, ◌<◌, ℕ, suc, List, [], ◌∷◌, ◌++◌, map, take, length, get_or, sym, ap, ◌∙◌, arith}
 use Rattle.std.proofs.lemmas.List.{take_more, length-take-le, map-append}
 use Rattle.lef_grammar.specs.Measures.{Shape}
-use Rattle.net_lists.specs.declared.parts.OwnedShape.{OwnedShape}
+use Rattle.net_lists.specs.declared.parts.NetShape.{NetShape}
 use Rattle.net_lists.specs.PartCuts.{shape_view}
 use Rattle.shape_pairs.specs.declared.pairs.Numbered.{Numbered}
 use Rattle.net_classes.specs.declared.part_shapes.PartShape.{PartShape}
@@ -33,9 +33,9 @@ next_numbered ss k s items new done h found pushed =
     ∙ ap (λ (t : PartShape). numbered_from 0 (take k ss) ++ record { rect = t.rect; id = k } ∷ []) found
     ∙ sym (numbered_more ss k s h)
 
-pub with_part_more : (n : ℕ) (ss : List OwnedShape) (k : ℕ) (s : OwnedShape) → k < length ss
+pub with_part_more : (n : ℕ) (ss : List NetShape) (k : ℕ) (s : NetShape) → k < length ss
     → with_part n (map shape_view (take (k + 1) ss)) ≡ with_part n (map shape_view (take k ss)) ++ record { part = n; shape = shape_view (get_or ss k s) } ∷ []
 with_part_more n ss k s h =
-    ap (λ (l : List OwnedShape). with_part n (map shape_view l)) (take_more ss k s h)
+    ap (λ (l : List NetShape). with_part n (map shape_view l)) (take_more ss k s h)
     ∙ ap (with_part n) (map-append shape_view (take k ss) (get_or ss k s ∷ []))
     ∙ map-append (λ (t : Shape). record { part = n; shape = t }) (map shape_view (take k ss)) (shape_view (get_or ss k s) ∷ [])

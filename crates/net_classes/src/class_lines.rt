@@ -49,8 +49,8 @@ fn put_lines_of_net<A: Allocator + Copy>(
     } else {
         DiagKind::Unrouted
     };
-    put_count(kind, net.name, 1, counts.holding, lines)?;
-    put_count(DiagKind::Floating, net.name, 0, counts.bare, lines)?;
+    put_count(kind, net.head.name, 1, counts.holding, lines)?;
+    put_count(DiagKind::Floating, net.head.name, 0, counts.bare, lines)?;
     Ok(())
 }
 

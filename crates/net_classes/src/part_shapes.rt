@@ -7,7 +7,7 @@ ghost use Rattle.net_classes.specs.PartShapes.{numbered_from, of_part, shapes_fr
 
 use design_model::geometry::Rect;
 use design_model::identifier::LayerId;
-use net_lists::{NetView, OwnedShape};
+use net_lists::{NetShape, NetView};
 use shape_pairs::Numbered;
 use std::alloc::{AllocError, Allocator};
 
@@ -22,7 +22,7 @@ pub(crate) struct PartShape {
 /// Puts the shapes of a part behind others.
 fn push_shapes<A: Allocator>(
     part: usize,
-    shapes: &[OwnedShape],
+    shapes: &[NetShape],
     found: &mut Vec<PartShape, A>,
 ) -> Result<(), AllocError>
     ensures { OnOk result (map of_part found.new.items ≡ map of_part found.old.items ++ with_part part (map shape_view shapes.now)) }

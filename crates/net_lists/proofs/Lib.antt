@@ -1,5 +1,5 @@
 pub mod BuildingLemmas
 pub mod CutLemmas
 pub mod GrowLemmas
-pub mod LookUpLemmas
+pub mod ShapeLemmas
 pub mod NextLemmas

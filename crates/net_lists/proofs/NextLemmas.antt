@@ -6,7 +6,7 @@ use Rattle.net_lists.specs.Counts.{part_count, shape_count}
 use Rattle.net_lists.specs.NetViews.{nets_of, net_with}
 use Rattle.net_lists.specs.PartCuts.{cut, part_with, parts_of}
 use Rattle.net_lists.specs.declared.parts.NetHead.{NetHead}
-use Rattle.net_lists.specs.declared.parts.OwnedShape.{OwnedShape}
+use Rattle.net_lists.specs.declared.parts.NetShape.{NetShape}
 use Rattle.net_lists.specs.declared.parts.PartHead.{PartHead}
 use Rattle.net_lists.proofs.CutLemmas.{cut_dropped, cut_taken}
 
@@ -14,10 +14,10 @@ pub some_left : (n : ℕ) → false ≡ (n == 0) → 0 < n
 some_left zero h = cc
 some_left (suc n) h = omega arith
 
-abbrev pub first_of : NetHead → List PartHead → List OwnedShape → Net
+abbrev pub first_of : NetHead → List PartHead → List NetShape → Net
 first_of h ps ss = net_with h (parts_of ps ss)
 
-pub first_net : (hs : List NetHead) (d : NetHead) (ps qs rs : List PartHead) (ss ts us : List OwnedShape) → 0 < length hs
+pub first_net : (hs : List NetHead) (d : NetHead) (ps qs rs : List PartHead) (ss ts us : List NetShape) → 0 < length hs
     → qs ≡ take (get_or hs 0 d).parts ps → rs ≡ drop (get_or hs 0 d).parts ps
     → ts ≡ take (sum_by shape_count qs) ss → us ≡ drop (sum_by shape_count qs) ss
     → nets_of hs ps ss ≡ first_of (get_or hs 0 d) qs ts ∷ nets_of (take (length hs - 1) (drop 1 hs)) rs us

@@ -1,6 +1,6 @@
 pub mod Building
 pub mod Counts
+pub mod Heads
 pub mod Laws
 pub mod NetViews
-pub mod OwnedShapes
 pub mod PartCuts

@@ -1,16 +1,13 @@
 -- Flat lists as nets.
-use Rattle.std.specs.Prelude.{◌≡◌, List, [], ◌∷◌, map, length, sum_by, Option, MatchOption}
+use Rattle.std.specs.Prelude.{◌≡◌, List, [], ◌∷◌, length, sum_by, Option, MatchOption}
 use Rattle.connection_rules.specs.NetParts.{Net, Part}
 use Rattle.net_lists.specs.declared.net_view.NetView.{NetView}
 use Rattle.net_lists.specs.declared.parts.NetHead.{NetHead}
-use Rattle.net_lists.specs.declared.parts.OwnedShape.{OwnedShape}
+use Rattle.net_lists.specs.declared.parts.NetShape.{NetShape}
 use Rattle.net_lists.specs.declared.parts.PartHead.{PartHead}
 use Rattle.net_lists.specs.Counts.{part_count, shape_count}
-use Rattle.net_lists.specs.PartCuts.{cut, parts_of, shape_view}
-use Rattle.net_lists.specs.OwnedShapes.{Head, Owned, owned_shapes}
-
-abbrev pub owned_view : OwnedShape → Owned
-owned_view s = record { net = s.net; is_drawn = s.is_drawn; shape = shape_view s }
+use Rattle.net_lists.specs.Heads.{Head}
+use Rattle.net_lists.specs.PartCuts.{cut, parts_of}
 
 abbrev pub head_view : NetHead → Head
 head_view h = record { name = h.name.now; is_power = h.is_power; parts = h.parts }
@@ -18,21 +15,16 @@ head_view h = record { name = h.name.now; is_power = h.is_power; parts = h.parts
 abbrev pub net_with : NetHead → List Part → Net
 net_with h ps = record { name = h.name.now; is_power = h.is_power; parts = ps }
 
-abbrev pub nets_of : List NetHead → List PartHead → List OwnedShape → List Net
+abbrev pub nets_of : List NetHead → List PartHead → List NetShape → List Net
 nets_of hs ps ss = cut part_count net_with hs (parts_of ps ss)
 
 abbrev pub net_view : NetView → Net
-net_view v = record { name = v.name.now; is_power = v.is_power; parts = parts_of v.parts.now v.shapes.now }
+net_view v = net_with v.head.now (parts_of v.parts.now v.shapes.now)
 
 -- what is counted is what there is
-pub record AddUp (hs : List NetHead) (ps : List PartHead) (ss : List OwnedShape) : Type 0 where
+pub record AddUp (hs : List NetHead) (ps : List PartHead) (ss : List NetShape) : Type 0 where
   pub parts : sum_by part_count hs ≡ length ps
   pub shapes : sum_by shape_count ps ≡ length ss
-
--- and each shape has its net's place, and is drawn where its part isn't a pin
-pub record HoldTogether (hs : List NetHead) (ps : List PartHead) (ss : List OwnedShape) : Type 0 where
-  pub sums : AddUp hs ps ss
-  pub owned : map owned_view ss ≡ owned_shapes (nets_of hs ps ss)
 
 -- a call gave the first net that was left, or none was left
 abbrev pub GivesNet : List Net → Option NetView → List Net → Type 0

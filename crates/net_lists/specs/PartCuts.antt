@@ -4,7 +4,7 @@ use Rattle.design_model.specs.Views.{rectangle_of}
 use Rattle.lef_grammar.specs.Measures.{Shape}
 use Rattle.connection_rules.specs.NetParts.{Part}
 use Rattle.net_lists.specs.declared.part_views.PartView.{PartView}
-use Rattle.net_lists.specs.declared.parts.OwnedShape.{OwnedShape}
+use Rattle.net_lists.specs.declared.parts.NetShape.{NetShape}
 use Rattle.net_lists.specs.declared.parts.PartHead.{PartHead}
 use Rattle.net_lists.specs.Counts.{shape_count}
 
@@ -13,13 +13,13 @@ abbrev pub cut : {H X Y : Type 0} → (H → ℕ) → (H → List X → Y) → L
 cut count make [] xs = []
 cut count make (h ∷ hs) xs = make h (take (count h) xs) ∷ cut count make hs (drop (count h) xs)
 
-abbrev pub shape_view : OwnedShape → Shape
+abbrev pub shape_view : NetShape → Shape
 shape_view s = record { layer = s.layer.0; box = rectangle_of s.rect }
 
-abbrev pub part_with : PartHead → List OwnedShape → Part
+abbrev pub part_with : PartHead → List NetShape → Part
 part_with p ss = record { is_pin = p.is_pin; shapes = map shape_view ss }
 
-abbrev pub parts_of : List PartHead → List OwnedShape → List Part
+abbrev pub parts_of : List PartHead → List NetShape → List Part
 parts_of ps ss = cut shape_count part_with ps ss
 
 abbrev pub part_view : PartView → Part

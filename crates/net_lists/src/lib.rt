@@ -5,10 +5,10 @@
 //! says what each call adds, and the laws `building_a_net`, `building_steps` and `growing_nets` say that a net that is put in part
 //! by part and shape by shape stands whole behind the others. A loop keeps `with_parts` or `with_shapes` of what it has left.
 //!
-//! `heads` lends each net's name, `shapes` all shapes with the number of their net (`specs/OwnedShapes`), and `nets` the nets one
-//! after the other, each with its parts and its shapes as slices (`specs/NetViews`), and `part_views` the parts of one.
+//! `heads` lends each net's name (`specs/Heads`), `shapes` all shapes, and `nets` the nets one after the other, each with its
+//! head, its parts and its shapes (`specs/NetViews`), and `part_views` the parts of one, which say whether a shape is a pin's.
 //!
-//! Names are borrowed from the text; a part takes 16 bytes and a shape 56. The one error is `AllocError`, which leaves the list
+//! Names are borrowed from the text; a part takes 8 bytes and a shape 40. The one error is `AllocError`, which leaves the list
 //! as it was.
 #![tactic(auto)]
 
@@ -24,4 +24,4 @@ pub use net_list::NetList;
 pub use net_view::NetView;
 pub use nets::Nets;
 pub use part_views::{PartView, PartViews};
-pub use parts::{NetHead, OwnedShape, PartHead};
+pub use parts::{NetHead, NetShape, PartHead};

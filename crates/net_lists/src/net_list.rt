@@ -1,15 +1,15 @@
 //! The nets of a design.
 
-ghost use Rattle.std.specs.Prelude.{◌≡◌, ◌<◌, ◌++◌, ◌∷◌, [], OnOk, OnErr, Some, length, map, flat_map};
-ghost use Rattle.std.specs.List.{All};
+ghost use Rattle.std.specs.Prelude.{◌≡◌, ◌<◌, ◌++◌, ◌∷◌, [], OnOk, OnErr, length, map, flat_map};
 ghost use Rattle.design_model.specs.Views.{rectangle_of};
 ghost use Rattle.connection_rules.specs.NetLines.{shapes_of_net};
 ghost use Rattle.net_lists.specs.Building.{bare_net, last_parts, with_part, with_shape};
-ghost use Rattle.net_lists.specs.NetViews.{head_view, owned_view};
-ghost use Rattle.net_lists.specs.OwnedShapes.{head_of, looked_up, owned_shapes};
+ghost use Rattle.net_lists.specs.Heads.{head_of};
+ghost use Rattle.net_lists.specs.NetViews.{head_view};
+ghost use Rattle.net_lists.specs.PartCuts.{shape_view};
 
 use crate::nets::Nets;
-use crate::parts::{NetHead, OwnedShape, PartHead};
+use crate::parts::{NetHead, NetShape, PartHead};
 use design_model::geometry::Rect;
 use design_model::identifier::LayerId;
 use std::alloc::{AllocError, Allocator, Global};
@@ -20,19 +20,19 @@ use std::marker::Model;
 pub struct NetList<'t, A: Allocator = Global> {
     nets: Vec<NetHead<'t>, A>,
     parts: Vec<PartHead, A>,
-    shapes: Vec<OwnedShape, A>,
+    shapes: Vec<NetShape, A>,
 }
 
 impl<'t, A: Allocator> Model for NetList<'t, A> {
     ghost use Rattle.std.specs.Prelude.{List};
     ghost use Rattle.connection_rules.specs.NetParts.{Net};
-    ghost use Rattle.net_lists.specs.NetViews.{nets_of, HoldTogether};
+    ghost use Rattle.net_lists.specs.NetViews.{nets_of, AddUp};
 
     ghost Value = { List Net };
 
     ghost view = { λ l. nets_of l.nets.items l.parts.items l.shapes.items };
 
-    ghost invariant = { λ l. HoldTogether l.nets.items l.parts.items l.shapes.items };
+    ghost invariant = { λ l. AddUp l.nets.items l.parts.items l.shapes.items };
 }
 
 impl<'t, A: Allocator + Copy> NetList<'t, A> {
@@ -75,7 +75,8 @@ impl<'t, A: Allocator + Copy> NetList<'t, A> {
         Ok(())
     }
 
-    /// Puts a shape behind those of the last net's last part. A refused growth leaves the list as it was.
+    /// Puts a shape behind those of the last net's last part. A refused growth leaves the list as it was, and a part
+    /// of 2^32 - 1 shapes doesn't grow.
     pub fn push_shape(&mut self, layer: LayerId, rect: Rect) -> Result<(), AllocError>
         requires { 0 < length (last_parts self.old) }
         ensures ok { OnOk result (self.new ≡ with_shape (record { layer = layer.0; box = rectangle_of rect }) self.old) }
@@ -83,16 +84,10 @@ impl<'t, A: Allocator + Copy> NetList<'t, A> {
         ensures part { OnOk result (0 < length (last_parts self.new)) }
         ensures err { OnErr result (self.new ≡ self.old) }
     {
-        let net = self.nets.len() - 1;
         let last = self.parts.len() - 1;
-        let is_drawn = !self.parts[last].is_pin;
-        self.shapes.push(OwnedShape {
-            layer,
-            rect,
-            net,
-            is_drawn,
-        })?;
-        self.parts[last].shapes += 1;
+        let part = self.parts[last].with_one_more()?;
+        self.shapes.push(NetShape { layer, rect })?;
+        self.parts[last] = part;
         Ok(())
     }
 
@@ -111,11 +106,9 @@ impl<'t, A: Allocator + Copy> NetList<'t, A> {
         self.nets.as_slice()
     }
 
-    /// All shapes, net by net and part by part, each with its net's place among the heads.
-    pub fn shapes(&self) -> &[OwnedShape]
-        ensures owned { map owned_view result.now ≡ owned_shapes self.now }
-        ensures known { All (λ s. s.net < length self.now) result.now }
-        ensures told { map (λ s. looked_up (map head_of self.now) (owned_view s)) result.now ≡ map Some (flat_map shapes_of_net self.now) }
+    /// All shapes, net by net and part by part.
+    pub fn shapes(&self) -> &[NetShape]
+        ensures { map shape_view result.now ≡ map (λ s. s.shape) (flat_map shapes_of_net self.now) }
     {
         self.shapes.as_slice()
     }

@@ -5,7 +5,7 @@ ghost use Rattle.net_lists.specs.Counts.{part_count, shape_count};
 ghost use Rattle.net_lists.specs.NetViews.{nets_of};
 
 use crate::net_view::NetView;
-use crate::parts::{NetHead, OwnedShape, PartHead};
+use crate::parts::{NetHead, NetShape, PartHead};
 use std::marker::Model;
 
 /// The nets that are left of a list. It takes no memory.
@@ -13,7 +13,7 @@ use std::marker::Model;
 pub struct Nets<'n, 't: 'n> {
     heads: &'n [NetHead<'t>],
     parts: &'n [PartHead],
-    shapes: &'n [OwnedShape],
+    shapes: &'n [NetShape],
 }
 
 impl<'n, 't> Model for Nets<'n, 't> {
@@ -35,7 +35,7 @@ fn shapes_of(parts: &[PartHead]) -> usize
 {
     let mut count = 0;
     for part in parts {
-        count += part.shapes;
+        count += part.shapes as usize;
     }
     count
 }
@@ -45,7 +45,7 @@ impl<'n, 't> Nets<'n, 't> {
     pub(crate) fn new(
         heads: &'n [NetHead<'t>],
         parts: &'n [PartHead],
-        shapes: &'n [OwnedShape],
+        shapes: &'n [NetShape],
     ) -> Nets<'n, 't>
         requires parts { sum_by part_count heads.now ≡ length parts.now }
         requires shapes { sum_by shape_count parts.now ≡ length shapes.now }
@@ -73,15 +73,14 @@ impl<'n, 't> Iterator for Nets<'n, 't> {
         if self.heads.is_empty() {
             return None;
         }
-        let head = self.heads[0];
+        let head = &self.heads[0];
         let (parts, other_parts) = self.parts.split_at(head.parts);
         let (shapes, other_shapes) = self.shapes.split_at(shapes_of(parts));
         self.heads = &self.heads[1..];
         self.parts = other_parts;
         self.shapes = other_shapes;
         Some(NetView {
-            name: head.name,
-            is_power: head.is_power,
+            head,
             parts,
             shapes,
         })

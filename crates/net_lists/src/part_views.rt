@@ -4,21 +4,21 @@ ghost use Rattle.std.specs.Prelude.{◌≡◌};
 ghost use Rattle.net_lists.specs.NetViews.{net_view};
 
 use crate::net_view::NetView;
-use crate::parts::{OwnedShape, PartHead};
+use crate::parts::{NetShape, PartHead};
 use std::marker::Model;
 
 /// A part of a net, with its shapes.
 #[derive(Clone, Copy)]
 pub struct PartView<'n> {
     pub is_pin: bool,
-    pub shapes: &'n [OwnedShape],
+    pub shapes: &'n [NetShape],
 }
 
 /// The parts that are left of a net. It takes no memory.
 #[derive(Drop)]
 pub struct PartViews<'n> {
     parts: &'n [PartHead],
-    shapes: &'n [OwnedShape],
+    shapes: &'n [NetShape],
 }
 
 impl<'n> Model for PartViews<'n> {
@@ -58,7 +58,7 @@ impl<'n> Iterator for PartViews<'n> {
 
     fn next(&mut self) -> Option<PartView<'n>> {
         let (part, parts) = self.parts.split_first()?;
-        let (shapes, other_shapes) = self.shapes.split_at(part.shapes);
+        let (shapes, other_shapes) = self.shapes.split_at(part.shapes as usize);
         self.parts = parts;
         self.shapes = other_shapes;
         Some(PartView {

@@ -7,7 +7,7 @@ use Rattle.shape_rules.specs.Classes.{bare, holding, numbers}
 use Rattle.connection_rules.specs.NetParts.{Part}
 use Rattle.connection_rules.specs.PartClasses.{part_labels, pin_marks}
 use Rattle.net_lists.specs.PartCuts.{parts_of}
-use Rattle.net_lists.specs.declared.parts.OwnedShape.{OwnedShape}
+use Rattle.net_lists.specs.declared.parts.NetShape.{NetShape}
 use Rattle.net_lists.specs.declared.parts.PartHead.{PartHead}
 use Rattle.part_classes.specs.Laws.{OrderIsOpen}
 use Rattle.part_classes.proofs.LabelLaws.{length_numbers}
@@ -24,16 +24,16 @@ alike law ps qs marks same =
     let labels = labels_same law ps qs size same in
     record { classes = ap₂ holding marks labels; floating = ap₂ bare marks labels }
 
-marks_cut : (ps : List PartHead) (ss : List OwnedShape) → pin_marks (parts_of ps ss) ≡ map (λ p. p.is_pin) ps
+marks_cut : (ps : List PartHead) (ss : List NetShape) → pin_marks (parts_of ps ss) ≡ map (λ p. p.is_pin) ps
 marks_cut [] ss = refl
 marks_cut (p ∷ ps) ss = ap (λ ms. p.is_pin ∷ ms) (marks_cut ps (drop p.shapes ss))
 
-length_cut : (ps : List PartHead) (ss : List OwnedShape) → length (parts_of ps ss) ≡ length ps
+length_cut : (ps : List PartHead) (ss : List NetShape) → length (parts_of ps ss) ≡ length ps
 length_cut [] ss = refl
 length_cut (p ∷ ps) ss = ap suc (length_cut ps (drop p.shapes ss))
 
 -- the labels after the joins that are found in a set, and the marks of the pins
-module _ (first : ℕ) (ps : List PartHead) (ss : List OwnedShape) (entries : List (ShapeId × Stored)) (alone after : List ℕ) (marks : List Bool)
+module _ (first : ℕ) (ps : List PartHead) (ss : List NetShape) (entries : List (ShapeId × Stored)) (alone after : List ℕ) (marks : List Bool)
     (begun : alone ≡ numbers 0 (length ps)) (marked : marks ≡ map (λ p. p.is_pin) ps)
     (made : JoinedBy alone (flat_map (joins_of first (length alone) entries) (shapes_from 0 (parts_of ps ss))) after) where
   pub as_many : length marks ≡ length after

@@ -11,7 +11,7 @@ use Rattle.shape_rules.specs.Meeting.{shared}
 use Rattle.std.specs.Str.{bytes_eq}
 use Rattle.line_laws.specs.Lines.{SameLines, SameThings, times}
 use Rattle.line_laws.proofs.PairSums.{times-append, times-flat_map}
-use Rattle.net_lists.specs.OwnedShapes.{Head}
+use Rattle.net_lists.specs.Heads.{Head}
 use Rattle.shape_index.specs.declared.shape.Shape.{Shape as Stored}
 use Rattle.net_queries.specs.Held.{shape_of}
 use Rattle.net_queries.specs.OwnedShapes.{Adds, lines_of, net_shape_of, net_shapes_of, owned_by, owner_at}

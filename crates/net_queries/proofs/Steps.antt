@@ -10,7 +10,7 @@ use Rattle.shape_rules.specs.Classes.{joined}
 use Rattle.line_laws.specs.Lines.{SameThings}
 use Rattle.net_lists.specs.Counts.{shape_count}
 use Rattle.net_lists.specs.PartCuts.{parts_of, shape_view}
-use Rattle.net_lists.specs.declared.parts.OwnedShape.{OwnedShape}
+use Rattle.net_lists.specs.declared.parts.NetShape.{NetShape}
 use Rattle.net_lists.specs.declared.parts.PartHead.{PartHead}
 use Rattle.shape_index.specs.declared.shape.Shape.{Shape as Stored}
 use Rattle.net_queries.specs.Held.{is_among, shapes_from}
@@ -53,10 +53,10 @@ each_push : {X Y : Type 0} (f : X → List Y) (xs : List X) (x : X) → flat_map
 each_push f xs x = ap (λ ys. flat_map f xs ++ ys) (sym (append-nil (f x))) ∙ sym (each_append f xs (x ∷ []))
 
 module _ (first : ℕ) (entries : List (ShapeId × Stored)) where
-  abbrev own_shape : ℕ → OwnedShape → ℕ × Shape
+  abbrev own_shape : ℕ → NetShape → ℕ × Shape
   own_shape part s = (part, shape_view s)
 
-  pub next_shape : (part : ℕ) (own : List OwnedShape) (i : ℕ) (s : OwnedShape) (a b c : List ℕ) → i < length own → s ≡ get_or own i s
+  pub next_shape : (part : ℕ) (own : List NetShape) (i : ℕ) (s : NetShape) (a b c : List ℕ) → i < length own → s ≡ get_or own i s
       → JoinedBy a (flat_map (joins_of first (length a) entries) (map (own_shape part) (take i own))) b → JoinedBy b (joins_of first (length b) entries (part, shape_view s)) c
       → JoinedBy a (flat_map (joins_of first (length a) entries) (map (own_shape part) (take (i + 1) own))) c
   next_shape part own i s a b c h is j k =
@@ -70,11 +70,11 @@ module _ (first : ℕ) (entries : List (ShapeId × Stored)) where
       ∙ ap (λ xs. flat_map f (map (own_shape part) xs)) (sym more))
       (joined_on a b c (flat_map f (map (own_shape part) (take i own))) (f (part, shape_view s)) j here)
 
-  numbered_twice : (part : ℕ) (own : List OwnedShape) → map (λ s. (part, s)) (map shape_view own) ≡ map (own_shape part) own
+  numbered_twice : (part : ℕ) (own : List NetShape) → map (λ s. (part, s)) (map shape_view own) ≡ map (own_shape part) own
   numbered_twice part [] = refl
   numbered_twice part (s ∷ ss) = ap (λ (us : List (ℕ × Shape)). own_shape part s ∷ us) (numbered_twice part ss)
 
-  pub next_part : (n : ℕ) (ps : List PartHead) (i : ℕ) (d : PartHead) (left own later : List OwnedShape) (a b c : List ℕ) → i < length ps
+  pub next_part : (n : ℕ) (ps : List PartHead) (i : ℕ) (d : PartHead) (left own later : List NetShape) (a b c : List ℕ) → i < length ps
       → own ≡ take (get_or ps i d).shapes left → later ≡ drop (get_or ps i d).shapes left → length a ≡ n → JoinedBy a (flat_map (joins_of first (length a) entries) (map (own_shape i) own)) b
       → JoinedBy b (flat_map (joins_of first n entries) (shapes_from (i + 1) (parts_of (drop (i + 1) ps) later))) c
       → JoinedBy a (flat_map (joins_of first n entries) (shapes_from i (parts_of (drop i ps) left))) c
@@ -94,7 +94,7 @@ module _ (first : ℕ) (entries : List (ShapeId × Stored)) where
       (joined_on a b c (flat_map f (map (own_shape i) own)) (flat_map f behind) here next)
 
 -- what the parts count that are left
-pub counted_on : (ps : List PartHead) (i : ℕ) (d : PartHead) (left later : List OwnedShape) → i < length ps → later ≡ drop (get_or ps i d).shapes left
+pub counted_on : (ps : List PartHead) (i : ℕ) (d : PartHead) (left later : List NetShape) → i < length ps → later ≡ drop (get_or ps i d).shapes left
     → sum_by shape_count (drop i ps) ≡ length left → sum_by shape_count (drop (i + 1) ps) ≡ length later
 counted_on ps i d left later below back whole =
     let s = sum_by-drop_more shape_count ps i d below in
@@ -102,7 +102,7 @@ counted_on ps i d left later below back whole =
     let l = length-drop (get_or ps i d).shapes left in
     omega (arith, s, b, l, whole)
 
-pub tested_on : (most : OwnedShape → ℕ) (left own later : List OwnedShape) (k before now last : ℕ) → own ≡ take k left → later ≡ drop k left → now ≤ before + sum_by most own
+pub tested_on : (most : NetShape → ℕ) (left own later : List NetShape) (k before now last : ℕ) → own ≡ take k left → later ≡ drop k left → now ≤ before + sum_by most own
     → before + sum_by most left ≤ last → now + sum_by most later ≤ last
 tested_on most left own later k before now last front back few all =
     let s = sum_by-take-drop most left k in
@@ -110,16 +110,16 @@ tested_on most left own later k before now last front back few all =
     let b = ap (λ xs. sum_by most xs) back in
     omega (arith, s, a, b, few, all)
 
-pub tested_more : (most : OwnedShape → ℕ) (own : List OwnedShape) (i : ℕ) (s : OwnedShape) (before now next : ℕ) → i < length own → s ≡ get_or own i s → next ≤ now + most s
+pub tested_more : (most : NetShape → ℕ) (own : List NetShape) (i : ℕ) (s : NetShape) (before now next : ℕ) → i < length own → s ≡ get_or own i s → next ≤ now + most s
     → now ≤ before + sum_by most (take i own) → next ≤ before + sum_by most (take (i + 1) own)
 tested_more most own i s before now next below is few all =
     let m = sum_by_more most own i s below in
     let e = ap most is in
     omega (arith, m, e, few, all)
 
-pub tested_all : (most : OwnedShape → ℕ) (own : List OwnedShape) (i before now : ℕ) → now ≤ before + sum_by most (take i own) → now ≤ before + sum_by most own
+pub tested_all : (most : NetShape → ℕ) (own : List NetShape) (i before now : ℕ) → now ≤ before + sum_by most (take i own) → now ≤ before + sum_by most own
 tested_all most own i before now few = let l = sum_by-take-le most own i in omega (arith, l, few)
 
 -- no part is left
-pub nothing_left : (f : ℕ × Shape → List (ℕ × ℕ)) (n : ℕ) (ls : List ℕ) (i : ℕ) (ps : List PartHead) (left : List OwnedShape) → length ps ≤ i → JoinedBy ls (flat_map f (shapes_from n (parts_of (drop i ps) left))) ls
+pub nothing_left : (f : ℕ × Shape → List (ℕ × ℕ)) (n : ℕ) (ls : List ℕ) (i : ℕ) (ps : List PartHead) (left : List NetShape) → length ps ≤ i → JoinedBy ls (flat_map f (shapes_from n (parts_of (drop i ps) left))) ls
 nothing_left f n ls i ps left past = subst (λ qs. JoinedBy ls (flat_map f (shapes_from n (parts_of qs left))) ls) (sym (drop_all i ps past)) (joined_none ls)

@@ -4,7 +4,7 @@ use Rattle.std.specs.List.{filter_map}
 use Rattle.std.specs.Option.{option_map, option_map_or}
 use Rattle.design_model.specs.declared.identifier.ShapeId.{ShapeId}
 use Rattle.connection_rules.specs.NetLines.{NetShape}
-use Rattle.net_lists.specs.OwnedShapes.{Head}
+use Rattle.net_lists.specs.Heads.{Head}
 use Rattle.shape_index.specs.declared.shape.Shape.{Shape as Stored}
 use Rattle.net_queries.specs.declared.owner.PartOwner.{PartOwner}
 use Rattle.net_queries.specs.Held.{shape_of}

@@ -7,7 +7,7 @@ ghost use Rattle.net_lists.specs.PartCuts.{shape_view};
 ghost use Rattle.net_queries.specs.Held.{is_among, shapes_from};
 ghost use Rattle.net_queries.specs.Joining.{JoinedBy, joins_of};
 
-use net_lists::{NetView, OwnedShape};
+use net_lists::{NetShape, NetView};
 use part_classes::Classes;
 use shape_index::ShapeSet;
 use std::alloc::Allocator;
@@ -41,7 +41,7 @@ fn join_touched<A: Allocator, S: ShapeSet>(
     joining: Joining<A>,
     first: usize,
     part: usize,
-    own: &OwnedShape,
+    own: &NetShape,
     shapes: &S,
 ) -> Joining<A>
     requires { part < length joining.classes }
@@ -65,7 +65,7 @@ fn join_part<A: Allocator, S: ShapeSet>(
     joining: Joining<A>,
     first: usize,
     part: usize,
-    own: &[OwnedShape],
+    own: &[NetShape],
     shapes: &S,
 ) -> Joining<A>
     requires { part < length joining.classes }
@@ -93,7 +93,7 @@ pub(crate) fn join_parts<A: Allocator, S: ShapeSet>(
     let mut joining = joining;
     let mut left = net.shapes;
     for (part, head) in net.parts.iter().enumerate() {
-        let (own, later) = left.split_at(head.shapes);
+        let (own, later) = left.split_at(head.shapes as usize);
         joining = join_part(joining, first, part, own, shapes);
         left = later;
     }

@@ -9,7 +9,7 @@ ghost use Rattle.net_touches.specs.ShapeViews.{shape_view};
 ghost use Rattle.net_queries.specs.OwnedShapes.{Adds, lines_of, net_shapes_of};
 
 use crate::owner::Owners;
-use net_lists::OwnedShape;
+use net_lists::NetShape;
 use net_touches::{Barrier, ShapeOfNet, put_routeblock, put_short};
 use report_lines::{Checked, Lines};
 use shape_index::{Shape, ShapeSet};
@@ -28,15 +28,14 @@ fn put_held<A: Allocator + Copy>(
     let Some((owner, head)) = owners.of_part(held.net) else {
         return Ok(());
     };
-    let other = OwnedShape {
+    let other = NetShape {
         layer: held.layer,
         rect: held.rect,
-        net: owner.net,
-        is_drawn: !owner.is_pin,
     };
     let other = ShapeOfNet {
         shape: &other,
         head: &head,
+        is_drawn: !owner.is_pin,
     };
     put_short(shape, &other, names, lines)
 }

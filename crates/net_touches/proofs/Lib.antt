@@ -1,4 +1,5 @@
 pub mod BoolLemmas
+pub mod LayerLemmas
 pub mod LineLemmas
 pub mod PairLemmas
 pub mod MeetingLemmas

@@ -1,5 +1,5 @@
 -- The lines of pairs: of two kinds of things, and by a test.
-use Rattle.std.proofs.Common.{◌≡◌, ◌+◌, ℕ, Bool, true, false, not, List, [], ◌∷◌, ◌++◌, map, filter, refl, ap, ap₂, ◌∙◌, arith, Result, Ok, Err, IfOk}
+use Rattle.std.proofs.Common.{◌≡◌, ◌+◌, ℕ, Bool, true, false, not, List, [], ◌∷◌, ◌++◌, map, filter, refl, ap, ap₂, ◌∙◌, arith}
 use Rattle.std.specs.List.{flat_map}
 use Rattle.std.proofs.lemmas.Grind.{flat_map-append}
 use Rattle.design_model.specs.Families.{cross_lines, pair_lines}
@@ -106,8 +106,3 @@ module _ (name_of : ℕ → List ℕ) where
         let more = times-append q old (pair_lines (short_of name_of) ss ++ cross_lines (routeblock_of name_of) ss bs) in
         omega (arith, e, r, whole, parts, more);
   }
-
-  pub all_lines_if : {E : Type 0} (r : Result TheLines E) (old : TheLines) (xs : List Thing) (ss : List NetShape) (bs : List Barrier) → xs ≡ all_things ss bs → IfOk r (λ l. SameLines l (old ++ pair_lines two xs))
-      → IfOk r (λ l. SameLines l (old ++ (pair_lines (short_of name_of) ss ++ cross_lines (routeblock_of name_of) ss bs)))
-  all_lines_if (Ok l) old xs ss bs all h = all_lines old l ss bs (rw all at h)
-  all_lines_if (Err e) old xs ss bs all h = tt

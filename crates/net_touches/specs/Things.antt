@@ -1,5 +1,5 @@
 -- Shapes of nets and barriers as things of one kind.
-use Rattle.std.specs.Prelude.{◌≡◌, ℕ, Bool, ◌==◌, List, [], ◌++◌, map, Option, Some, None, slice_get, Result, IfOk, Ok}
+use Rattle.std.specs.Prelude.{◌≡◌, ℕ, Bool, ◌==◌, List, [], ◌++◌, filter, map, Option, Some, None, slice_get, Result, IfOk, Ok}
 use Rattle.design_model.specs.Geometry.{Rectangle}
 use Rattle.connection_rules.specs.NetLines.{Barrier, NetShape, routeblock_of, short_of}
 
@@ -17,6 +17,13 @@ box_of (barrier b) = b.box
 
 abbrev pub is_on : ℕ → Thing → Bool
 is_on layer x = layer_of x == layer
+
+-- of shapes those on a layer
+abbrev pub shapes_on : ℕ → List NetShape → List Thing
+shapes_on layer ss = filter (is_on layer) (map shape_of_net ss)
+
+abbrev pub barriers_on : ℕ → List Barrier → List Thing
+barriers_on layer bs = filter (is_on layer) (map barrier bs)
 
 -- shapes, and barriers behind them
 abbrev pub all_things : List NetShape → List Barrier → List Thing

@@ -7,16 +7,18 @@
 //! `put_routeblock` that of a shape and a barrier.
 //!
 //! Things of two layers have no lines, so layers are gone over one by one, each with a grid of its own. Nothing is lent. Each shape and
-//! each barrier takes 24 bytes, each of one layer at a time at most 88 more, and what `for_meeting_pairs` of `shape_pairs` takes for
-//! these. The one error is `AllocError`.
+//! each barrier of one layer at a time takes 64 bytes, and what `for_meeting_pairs` of `shape_pairs` takes for these. The one error is
+//! `AllocError`.
 #![tactic(auto)]
 
 mod barrier;
 mod laws;
 mod layer;
+mod layers;
 mod line;
 mod shape;
 mod thing;
+mod things_on;
 mod touching;
 
 pub use barrier::Barrier;

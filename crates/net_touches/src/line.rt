@@ -78,7 +78,7 @@ pub fn put_short<A: Allocator + Copy>(
 fn is_barred(shape: &ShapeOfNet<'_, '_>, barrier: &Barrier) -> bool
     ensures { (name_of : ℕ → List ℕ) → result ≡ is_barred name_of (shape_view shape.now) (barrier_view barrier.now) }
 {
-    shape.shape.is_drawn
+    shape.is_drawn
         && shape.shape.layer == barrier.layer
         && overlaps(&shape.shape.rect, &barrier.rect)
         && !(shape.head.is_power && barrier.spares_power)

@@ -9,28 +9,10 @@ use Rattle.lef_grammar.specs.Library.{Library}
 use Rattle.lef_grammar.specs.Measures.{Shape}
 use Rattle.connection_rules.specs.NetLines.{NetShape, net_shapes}
 use Rattle.design_rules.specs.Boxes.{Boxed, boxes, scale}
-use Rattle.net_lists.specs.NetViews.{owned_view}
-use Rattle.net_lists.specs.OwnedShapes.{Head, Owned, looked_up, net_shape}
-use Rattle.net_lists.specs.PartCuts.{shape_view}
-use Rattle.net_lists.specs.declared.parts.OwnedShape.{OwnedShape}
 use Rattle.measure_rules.specs.Density.{area_on, cell_density, common_area, density, place_density}
 use Rattle.measure_rules.specs.GridCells.{cell_among, cell_at, columns, rows}
 use Rattle.cell_sums.specs.Tables.{CellTable, sums}
 use Rattle.reports.specs.Densities.{HoldsDensities, sum_in}
-
-looked : (o : Option Head) (s : Owned) (y : NetShape) → option_map (net_shape s) o ≡ Some y → s.shape ≡ y.shape
-looked None s y e = absurd (cc)
-looked (Some h) s y e = let is : net_shape s h ≡ y = cc in ap (λ (n : NetShape). n.shape) is
-
--- what is told of shapes leaves them as they are
-pub shapes_are : (hs : List Head) (ss : List OwnedShape) (ys : List NetShape) → map (λ s. looked_up hs (owned_view s)) ss ≡ map Some ys → map shape_view ss ≡ map (λ (y : NetShape). y.shape) ys
-shapes_are hs [] [] e = refl
-shapes_are hs [] (y ∷ ys) e = absurd (cc)
-shapes_are hs (s ∷ ss) [] e = absurd (cc)
-shapes_are hs (s ∷ ss) (y ∷ ys) e =
-    let here : looked_up hs (owned_view s) ≡ Some y = cc in
-    let behind : map (λ s. looked_up hs (owned_view s)) ss ≡ map Some ys = cc in
-    ap₂ (λ (a : Shape) (later : List Shape). a ∷ later) (looked _ (owned_view s) y here) (shapes_are hs ss ys behind)
 
 -- the sums of a table are the densities of its shapes
 module _ (xs ys : List ℤ) (shapes : List Shape) (t : CellTable) (held : HoldsDensities xs ys shapes t) (layer i j : ℕ) where

@@ -7,37 +7,22 @@ use Rattle.design_model.specs.declared.geometry.Rect.{Rect}
 use Rattle.design_model.specs.Views.{rectangle_of}
 use Rattle.lef_grammar.specs.Measures.{Shape}
 use Rattle.form_meanings.specs.Firsts.{with_all, with_first}
-use Rattle.connection_rules.specs.NetParts.{Net, Part}
-use Rattle.net_lists.specs.Counts.{shape_count}
+use Rattle.connection_rules.specs.NetParts.{Net}
 use Rattle.net_lists.specs.NetViews.{net_view}
-use Rattle.net_lists.specs.PartCuts.{parts_of, shape_view}
+use Rattle.net_lists.specs.PartCuts.{shape_view}
 use Rattle.net_lists.specs.declared.net_view.NetView.{NetView}
-use Rattle.net_lists.specs.declared.parts.OwnedShape.{OwnedShape}
-use Rattle.net_lists.specs.declared.parts.PartHead.{PartHead}
-use Rattle.net_lists.proofs.CutLemmas.{others_counted}
+use Rattle.net_lists.specs.declared.parts.NetShape.{NetShape}
+use Rattle.net_lists.proofs.ShapeLemmas.{shapes_in_parts}
 use Rattle.measure_rules.specs.NetBoxes.{box_round, rectangles_of}
 use Rattle.reports.specs.MeasuredNets.{MeasuredNet, measured, name_of, shape_box}
 
-abbrev shapes_in : Part → List Shape
-shapes_in p = p.shapes
-
--- the shapes of all parts are those that were cut
-cut_whole : (ps : List PartHead) (ss : List OwnedShape) → sum_by shape_count ps ≡ length ss → flat_map shapes_in (parts_of ps ss) ≡ map shape_view ss
-cut_whole [] ss counted = ap (map shape_view) (sym (nil_from_length ss (sym counted)))
-cut_whole (p ∷ ps) ss counted =
-    let front = take p.shapes ss in
-    let back = drop p.shapes ss in
-    ap (λ xs. map shape_view front ++ xs) (cut_whole ps back (others_counted shape_count p ps ss counted))
-    ∙ sym (map-append shape_view front back)
-    ∙ ap (map shape_view) (take-append-drop p.shapes ss)
-
-boxes_seen : (ss : List OwnedShape) → map (λ (s : Shape). s.box) (map shape_view ss) ≡ map shape_box ss
+boxes_seen : (ss : List NetShape) → map (λ (s : Shape). s.box) (map shape_view ss) ≡ map shape_box ss
 boxes_seen [] = refl
 boxes_seen (s ∷ ss) = ap (λ rs. shape_box s ∷ rs) (boxes_seen ss)
 
 -- the rectangles of a net are those of its shapes
 rectangles_are : (v : NetView) → rectangles_of (net_view v) ≡ map shape_box v.shapes.now
-rectangles_are v = ap (map (λ (s : Shape). s.box)) (cut_whole v.parts.now v.shapes.now v.whole) ∙ boxes_seen v.shapes.now
+rectangles_are v = ap (map (λ (s : Shape). s.box)) (shapes_in_parts v.parts.now v.shapes.now v.whole) ∙ boxes_seen v.shapes.now
 
 with_next : (before after : List MeasuredNet) (n : MeasuredNet) (ns all : List MeasuredNet) → after ≡ with_first name_of before n → with_all name_of before (n ∷ ns) ≡ all → with_all name_of after ns ≡ all
 unfolding with_all
@@ -46,13 +31,13 @@ with_next before after n ns all put going = ap (λ ms. with_all name_of ms ns) p
 -- the next net is put into a table
 module _ (table after all : List MeasuredNet) (v : NetView) (n : ℕ) (bounds : Option Rect)
     (boxed : option_map rectangle_of bounds ≡ box_round (map shape_box v.shapes.now))
-    (put : after ≡ with_first name_of table (record { name = v.name.now; net_length = n; net_box = option_map rectangle_of bounds })) where
+    (put : after ≡ with_first name_of table (record { name = v.head.now.name.now; net_length = n; net_box = option_map rectangle_of bounds })) where
   measured_next : (ns : List Net) (ls : List ℕ) (d : ℕ) → length ls ≡ length (net_view v ∷ ns) → n ≡ get_or ls 0 d
       → with_all name_of table (measured (net_view v ∷ ns) ls) ≡ all → with_all name_of after (measured ns (drop 1 ls)) ≡ all
   measured_next ns [] d same is going = absurd (omega arith)
   measured_next ns (l ∷ ls) d same is going =
-      let whole : record { name = v.name.now; net_length = n; net_box = option_map rectangle_of bounds } ≡ record { name = v.name.now; net_length = l; net_box = box_round (rectangles_of (net_view v)) } =
-      ap₂ (λ k b. record { name = v.name.now; net_length = k; net_box = b }) is (boxed ∙ ap box_round (sym (rectangles_are v))) in
+      let whole : record { name = v.head.now.name.now; net_length = n; net_box = option_map rectangle_of bounds } ≡ record { name = v.head.now.name.now; net_length = l; net_box = box_round (rectangles_of (net_view v)) } =
+      ap₂ (λ k b. record { name = v.head.now.name.now; net_length = k; net_box = b }) is (boxed ∙ ap box_round (sym (rectangles_are v))) in
       with_next table after _ (measured ns ls) all (put ∙ ap (with_first name_of table) whole) going
 
   pub put_next : (left ns : List Net) (ls : List ℕ) (d : ℕ) → left ≡ net_view v ∷ ns → length ls ≡ length left → n ≡ get_or ls 0 d

@@ -5,7 +5,7 @@ use Rattle.design_model.specs.Geometry.{Rectangle}
 use Rattle.design_model.specs.Views.{rectangle_of}
 use Rattle.form_meanings.specs.Firsts.{with_all}
 use Rattle.connection_rules.specs.NetParts.{Net}
-use Rattle.net_lists.specs.declared.parts.OwnedShape.{OwnedShape}
+use Rattle.net_lists.specs.declared.parts.NetShape.{NetShape}
 use Rattle.measure_rules.specs.NetBoxes.{box_round, rectangles_of}
 use Rattle.reports.specs.declared.net_table.Measures.{Measures}
 
@@ -35,5 +35,5 @@ abbrev pub entry_view : List ℕ × Measures → MeasuredNet
 entry_view e = measures_view e.0 e.1
 
 -- the rectangle of a shape
-abbrev pub shape_box : OwnedShape → Rectangle
+abbrev pub shape_box : NetShape → Rectangle
 shape_box s = rectangle_of s.rect

@@ -10,7 +10,7 @@ ghost use Rattle.reports.specs.Densities.{HoldsDensities, place_shape};
 use cell_sums::{CellSums, GridLines};
 use design_grid::{columns_of, rows_of};
 use design_names::names::Names;
-use net_lists::OwnedShape;
+use net_lists::NetShape;
 use place_checks::placed_box::PlacedBox;
 use std::alloc::{AllocError, Allocator};
 use std::hash::RandomState;
@@ -21,7 +21,7 @@ fn shape_densities<A: Allocator + Copy>(
     hash_builder: RandomState,
     columns: GridLines<A>,
     rows: GridLines<A>,
-    shapes: &[OwnedShape],
+    shapes: &[NetShape],
 ) -> Result<CellSums<A>, AllocError>
     ensures { IfOk result (HoldsDensities columns rows (map shape_view shapes.now)) }
 {
@@ -53,7 +53,7 @@ fn box_densities<A: Allocator + Copy>(
 pub(crate) fn cells_of<A: Allocator + Copy>(
     alloc: A,
     names: &Names<'_, '_, A>,
-    shapes: &[OwnedShape],
+    shapes: &[NetShape],
 ) -> Result<CellSums<A>, AllocError>
     requires across { All (IsWithin 2147483647) (flat_map lines_along_x names.now) }
     requires upward { All (IsWithin 2147483647) (flat_map lines_along_y names.now) }

@@ -8,7 +8,7 @@ ghost use Rattle.reports.specs.MeasuredNets.{shape_box};
 
 use design_model::geometry::Rect;
 use measure_laws::boxes::boxes_grow;
-use net_lists::OwnedShape;
+use net_lists::NetShape;
 
 /// The least rectangle round two.
 fn around(a: Rect, b: Rect) -> Rect
@@ -33,7 +33,7 @@ fn around_all(rect: Rect, others: Option<Rect>) -> Rect
 }
 
 /// The least rectangle round all shapes, if there is one.
-pub(crate) fn box_round(shapes: &[OwnedShape]) -> Option<Rect>
+pub(crate) fn box_round(shapes: &[NetShape]) -> Option<Rect>
     ensures { option_map rectangle_of result ≡ box_round (map shape_box shapes.now) }
 {
     boxes_grow();

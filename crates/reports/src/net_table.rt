@@ -84,7 +84,7 @@ pub(crate) fn table_of<A: Allocator + Copy>(
             length: lengths_left[0],
             bounds: box_round(net.shapes),
         };
-        table.add(alloc, net.name, measures)?;
+        table.add(alloc, net.head.name, measures)?;
         lengths_left = &lengths_left[1..];
     }
     Ok(table)

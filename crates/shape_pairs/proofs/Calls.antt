@@ -1,5 +1,5 @@
 -- Calls over the parts of a list, and over what a test leaves of one.
-use Rattle.std.proofs.Common.{◌≡◌, Bool, true, false, List, [], ◌∷◌, ◌++◌, map, filter, refl, sym, ap, subst}
+use Rattle.std.proofs.Common.{◌≡◌, Bool, true, false, List, [], ◌∷◌, ◌++◌, filter, refl, sym, ap, subst}
 use Rattle.std.specs.List.{FoldsTo}
 use Rattle.shape_pairs.specs.Pairs.{one_if}
 
@@ -12,16 +12,7 @@ pub folds_append : {B A : Type 0} (R : B → A → B → Type 0) (a b c : B) (xs
 folds_append R a b c [] ys f g = subst (λ q. FoldsTo R q ys c) (sym f) g
 folds_append R a b c (x ∷ xs) ys f g = (f.0, f.1, folds_append R f.0 b c xs ys f.2 g)
 
--- what a test leaves of a list, and what a function gives of it
-pub tested : {A B : Type 0} (p : A → Bool) (f : A → B) (x : A) (xs : List A) → map f (filter p (x ∷ xs)) ≡ one_if (p x) (f x) ++ map f (filter p xs)
-tested p f x xs = split (p x) (λ t. rw t refl) (λ t. rw t refl)
-
-pub tested_append : {A B : Type 0} (p : A → Bool) (f : A → B) (xs ys : List A) → map f (filter p (xs ++ ys)) ≡ map f (filter p xs) ++ map f (filter p ys)
-tested_append p f [] ys = refl
-tested_append p f (x ∷ xs) ys =
-    let r = tested_append p f xs ys in
-    split (p x) (λ t. rw t (ap (λ zs. f x ∷ zs) r)) (λ t. rw t r)
-
+-- what a test leaves of a list
 pub filter_append : {A : Type 0} (p : A → Bool) (xs ys : List A) → filter p (xs ++ ys) ≡ filter p xs ++ filter p ys
 filter_append p [] ys = refl
 filter_append p (x ∷ xs) ys =

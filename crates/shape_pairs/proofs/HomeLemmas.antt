@@ -15,7 +15,7 @@ use Rattle.shape_rules.specs.Meeting.{meets}
 use Rattle.line_laws.proofs.PairSums.{sum_by-same}
 use Rattle.shape_pairs.specs.declared.grid.Grid.{Grid}
 use Rattle.shape_pairs.specs.Steps.{past, clamped, step_at}
-use Rattle.shape_pairs.specs.Grids.{between, bin_at, column_at, row_at, covered, home}
+use Rattle.shape_pairs.specs.Grids.{between, bin_at, bin_count, column_at, row_at, covered, home}
 use Rattle.shape_pairs.proofs.Calls.{split}
 use Rattle.shape_pairs.proofs.PairSums.{sum_of_flat_map}
 use Rattle.shape_pairs.proofs.BinSums.{Once}
@@ -46,7 +46,7 @@ elsewhere h m a (suc n) f =
     let r = elsewhere h m (suc a) n (λ k low high. f k (omega (arith, low)) (omega (arith, high))) in
     omega (arith, e, r, sum_by-cons (λ b. cond (h == b) m 0) a (numbers (suc a) n))
 
-among : (h a n : ℕ) → a ≤ h → h < a + n → Once h (numbers a n)
+pub among : (h a n : ℕ) → a ≤ h → h < a + n → Once h (numbers a n)
 unfolding numbers
 among h a zero low high m = absurd (omega (arith, low, high))
 among h a (suc n) low high m =
@@ -137,6 +137,18 @@ share a b e =
     }
 
 module _ (grid : Grid) where
+  pub column_below : (x : ℤ) → column_at grid x < grid.columns
+  column_below x = few grid.columns (past grid.left x / 2 ^ grid.log_side) grid.has_columns
+
+  pub row_below : (y : ℤ) → row_at grid y < grid.rows
+  row_below y = few grid.rows (past grid.bottom y / 2 ^ grid.log_side) grid.has_rows
+
+  pub bin_below : (x y : ℤ) → bin_at grid (column_at grid x) (row_at grid y) < bin_count grid
+  bin_below x y =
+      let l : suc (row_at grid y) ≤ grid.rows = row_below y in
+      let m : suc (row_at grid y) * grid.columns ≤ grid.rows * grid.columns = mul-le-mul_right grid.columns l in
+      omega (arith, m, column_below x)
+
   -- a rectangle covers the bin of each of its points, once
   point_once : (r : Rectangle) (x y : ℤ) → le_z r.x1 x ≡ true → le_z x r.x2 ≡ true → le_z r.y1 y ≡ true → le_z y r.y2 ≡ true
       → Once (bin_at grid (column_at grid x) (row_at grid y)) (covered grid r)
@@ -145,7 +157,7 @@ module _ (grid : Grid) where
       once_in_rows grid.columns (row_at grid r.y1) (row_at grid r.y2) (column_at grid r.x1) (column_at grid r.x2) (row_at grid y) (column_at grid x)
       (rises grid.bottom (2 ^ grid.log_side) grid.rows r.y1 y s low) (rises grid.bottom (2 ^ grid.log_side) grid.rows y r.y2 s high)
       (rises grid.left (2 ^ grid.log_side) grid.columns r.x1 x s left) (rises grid.left (2 ^ grid.log_side) grid.columns x r.x2 s right)
-      (few grid.columns (past grid.left r.x2 / 2 ^ grid.log_side) grid.has_columns)
+      (column_below r.x2)
 
   pub first_once : (a b : Rect) → meets (rectangle_of a) (rectangle_of b) ≡ true → Once (home grid (rectangle_of a) (rectangle_of b)) (covered grid (rectangle_of a))
   first_once a b e = let s = share a b e in point_once (rectangle_of a) (int_max a.x1 b.x1) (int_max a.y1 b.y1) s.left.0 s.right.0 s.low.0 s.high.0

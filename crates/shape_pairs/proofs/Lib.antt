@@ -1,11 +1,13 @@
 pub mod Calls
 pub mod DirectLemmas
-pub mod OrderLemmas
 pub mod PairLemmas
 pub mod PushLemmas
 pub mod RunLemmas
 pub mod PairSums
 pub mod BinSums
 pub mod HomeLemmas
+pub mod CoverLemmas
+pub mod SlotLemmas
 pub mod MeetingSums
+pub mod BinnedLemmas
 pub mod Leading

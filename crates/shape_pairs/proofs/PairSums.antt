@@ -1,14 +1,12 @@
 -- Sums over pairs of a list, and of all things with all.
 use Rattle.std.proofs.Common.{◌≡◌, ◌≤◌, ◌+◌, ℕ, zero, suc, Bool, cond, List, [], ◌∷◌, map, filter, drop, length, get_or, refl, sym, ap, ◌∙◌, arith, sum_by}
-use Rattle.std.specs.List.{All, AllPairs, flat_map}
+use Rattle.std.specs.List.{flat_map}
 use Rattle.std.proofs.lemmas.List.{drop_more}
 use Rattle.std.proofs.lemmas.List.Sums.{sum_by-cons, sum_by-append}
 use Rattle.shape_rules.specs.Classes.{numbers}
 use Rattle.shape_rules.specs.Meeting.{pairs_of}
-use Rattle.line_laws.specs.Lines.{SameThings}
 use Rattle.line_laws.proofs.PairSums.{sum_by-same, sum_by-plus}
 use Rattle.shape_pairs.proofs.Calls.{split}
-use Rattle.shape_pairs.proofs.OrderLemmas.{all_first, all_later, pairs_first, pairs_later}
 
 pub nothing : {A : Type 0} (f : A → ℕ) → ((x : A) → f x ≡ 0) → (xs : List A) → sum_by f xs ≡ 0
 nothing f h [] = refl
@@ -38,13 +36,6 @@ sum_of_filter w p (x ∷ xs) =
     let f : sum_by w (filter p (x ∷ xs)) ≡ sum_by w (filter p xs) = ap (λ (b : Bool). sum_by w (cond b (x ∷ filter p xs) (filter p xs))) t in
     omega (arith, r, c, e, f))
 
-sum_within : {A : Type 0} (f g : A → ℕ) (xs : List A) → All (λ x. f x ≡ g x) xs → sum_by f xs ≡ sum_by g xs
-sum_within f g [] h = refl
-sum_within f g (x ∷ xs) h =
-    let r = sum_within f g xs (all_later (λ x. f x ≡ g x) x xs h) in
-    let e = all_first (λ x. f x ≡ g x) x xs h in
-    omega (arith, r, e, sum_by-cons f x xs, sum_by-cons g x xs)
-
 -- sums of sums, in either order
 pub sums_turn : {A B : Type 0} (h : A → B → ℕ) (xs : List A) (ys : List B) → sum_by (λ x. sum_by (h x) ys) xs ≡ sum_by (λ y. sum_by (λ x. h x y) xs) ys
 sums_turn h [] ys = sym (nothing (λ y. 0) (λ y. refl) ys)
@@ -60,10 +51,6 @@ module _ {A : Type 0} (w : A → A → ℕ) where
   pair_sum [] = 0
   pair_sum (x ∷ xs) = sum_by (w x) xs + pair_sum xs
 
-  -- weights of each thing with each
-  abbrev pub all_sum : List A → ℕ
-  all_sum xs = sum_by (λ x. sum_by (w x) xs) xs
-
   pub over_pairs : (xs : List A) → sum_by (λ (p : A × A). w p.0 p.1) (pairs_of xs) ≡ pair_sum xs
   over_pairs [] = refl
   over_pairs (x ∷ xs) =
@@ -71,55 +58,9 @@ module _ {A : Type 0} (w : A → A → ℕ) where
       let m = sum_of_map {B = A × A} (λ (p : A × A). w p.0 p.1) (λ y. (x, y)) xs in
       omega (arith, r, m, sum_by-append (λ (p : A × A). w p.0 p.1) (map {B = A × A} (λ y. (x, y)) xs) (pairs_of xs))
 
-  all-cons : (x : A) (xs ys : List A) → sum_by (λ y. sum_by (w y) (x ∷ xs)) ys ≡ sum_by (λ y. w y x) ys + sum_by (λ y. sum_by (w y) xs) ys
-  all-cons x xs ys =
-      sum_by-same (λ y. sum_by (w y) (x ∷ xs)) (λ y. w y x + sum_by (w y) xs) (λ y. sum_by-cons (w y) x xs) ys
-      ∙ sum_by-plus (λ y. w y x) (λ y. sum_by (w y) xs) ys
-
-  -- twice the pairs, and each thing with itself, are all
-  pub pairs_twice : ((x y : A) → w x y ≡ w y x) → (xs : List A) → (pair_sum xs + pair_sum xs) + sum_by (λ x. w x x) xs ≡ all_sum xs
-  pairs_twice s [] = refl
-  pairs_twice s (x ∷ xs) =
-      let r = pairs_twice s xs in
-      let e : sum_by (λ y. w y x) xs ≡ sum_by (w x) xs = sum_by-same (λ y. w y x) (w x) (λ y. s y x) xs in
-      omega (arith, r, e, sum_by-cons (λ y. w y y) x xs, sum_by-cons (λ y. sum_by (w y) (x ∷ xs)) x xs, sum_by-cons (w x) x xs, all-cons x xs xs)
-
-  pub all_same : (xs ys : List A) → SameThings xs ys → all_sum xs ≡ all_sum ys
-  all_same xs ys s = sum_by-same (λ x. sum_by (w x) xs) (λ x. sum_by (w x) ys) (λ x. s.sums (w x)) xs ∙ s.sums (λ x. sum_by (w x) ys)
-
--- two weights that are the same where the one thing doesn't stand after the other
-pub pairs_in_order : {A : Type 0} (v w : A → A → ℕ) (R : A → A → Type 0) → ((x y : A) → R x y → v x y ≡ w x y) → (xs : List A) → AllPairs R xs → pair_sum v xs ≡ pair_sum w xs
-pairs_in_order v w R h [] o = refl
-pairs_in_order v w R h (x ∷ xs) o =
-    let r = pairs_in_order v w R h xs (pairs_later R x xs o) in
-    let first = pairs_first R x xs o in
-    let s = sum_within (v x) (w x) xs (λ k d low. h x (get_or xs k d) (first k d low)) in
-    omega (arith, r, s)
-
 pub pairs_same : {A : Type 0} (v w : A → A → ℕ) → ((x y : A) → v x y ≡ w x y) → (xs : List A) → pair_sum v xs ≡ pair_sum w xs
 pairs_same v w h [] = refl
 pairs_same v w h (x ∷ xs) = let r = pairs_same v w h xs in let s = sum_by-same (v x) (w x) (h x) xs in omega (arith, r, s)
-
-pub pairs_of_map : {A B : Type 0} (w : B → B → ℕ) (f : A → B) (xs : List A) → pair_sum w (map f xs) ≡ pair_sum (λ x y. w (f x) (f y)) xs
-pairs_of_map w f [] = refl
-pairs_of_map w f (x ∷ xs) = let r = pairs_of_map w f xs in let s = sum_of_map (w (f x)) f xs in omega (arith, r, s)
-
--- numbers rise
-sum_of_numbers : (f g : ℕ → ℕ) (a n : ℕ) → ((k : ℕ) → a ≤ k → f k ≡ g k) → sum_by f (numbers a n) ≡ sum_by g (numbers a n)
-unfolding numbers
-sum_of_numbers f g a zero h = refl
-sum_of_numbers f g a (suc n) h =
-    let r = sum_of_numbers f g (suc a) n (λ k low. h k (omega (arith, low))) in
-    let e = h a (omega arith) in
-    omega (arith, r, e, sum_by-cons f a (numbers (suc a) n), sum_by-cons g a (numbers (suc a) n))
-
-pub pairs_of_numbers : (v w : ℕ → ℕ → ℕ) → ((x y : ℕ) → x ≤ y → v x y ≡ w x y) → (a n : ℕ) → pair_sum v (numbers a n) ≡ pair_sum w (numbers a n)
-unfolding numbers
-pairs_of_numbers v w h a zero = refl
-pairs_of_numbers v w h a (suc n) =
-    let r = pairs_of_numbers v w h (suc a) n in
-    let s = sum_of_numbers (v a) (w a) (suc a) n (λ k low. h a k (omega (arith, low))) in
-    omega (arith, r, s)
 
 -- a list is what stands at its places
 pub at_places : {A : Type 0} (xs : List A) (d : A) (a n : ℕ) → a + n ≡ length xs → map (λ k. get_or xs k d) (numbers a n) ≡ drop a xs

@@ -1,76 +1,93 @@
--- The pairs that are told along a list of entries.
-use Rattle.std.proofs.Common.{◌≡◌, ◌<◌, ◌≤◌, ℕ, Bool, true, false, List, [], ◌∷◌, ◌++◌, map, length, refl, sym, ap, subst, ◌∙◌, arith, ◌&&◌}
-use Rattle.std.specs.Prelude.{◌==◌}
-use Rattle.std.specs.List.{All}
-use Rattle.shape_rules.specs.Meeting.{pairs_of}
-use Rattle.shape_pairs.specs.declared.entries.Entry.{Entry}
+-- The pairs that are told along the places of a bin, and bin by bin.
+use Rattle.std.proofs.Common.{◌≡◌, ◌<◌, ◌≤◌, ◌+◌, ℕ, zero, suc, Bool, List, [], ◌∷◌, map, filter, cond, length, refl, sym, ap, subst, ◌∙◌, arith}
+use Rattle.std.specs.List.{All, flat_map}
+use Rattle.shape_rules.specs.Classes.{numbers}
 use Rattle.shape_pairs.specs.declared.grid.Grid.{Grid}
 use Rattle.shape_pairs.specs.declared.pairs.Numbered.{Numbered}
 use Rattle.shape_pairs.specs.Pairs.{CallsLead, one_if}
-use Rattle.shape_pairs.specs.Entries.{NotAfter, AreInOrder, item_at, items_at, is_told, meet_at_home, told}
-use Rattle.shape_pairs.proofs.Calls.{folds_append, tested, tested_append}
-use Rattle.shape_pairs.proofs.OrderLemmas.{all_first, all_later, all_with, pairs_first, order_later, order_past}
+use Rattle.shape_pairs.specs.Grids.{bin_count}
+use Rattle.shape_pairs.specs.Entries.{bin_places, covers, item_at, meet_at_home, pairs_at_home}
+use Rattle.shape_pairs.proofs.Calls.{folds_append, split}
+use Rattle.shape_pairs.proofs.MeetingSums.{told_in}
+use Rattle.shape_pairs.proofs.PairSums.{at_places}
+use Rattle.shape_pairs.proofs.PushLemmas.{up_to, more, none}
+use Rattle.shape_pairs.proofs.DirectLemmas.{pairs_with, next_one, next_list}
 
--- an entry with each of others
-abbrev pub each_with : Entry → List Entry → List (Entry × Entry)
-each_with e es = map (λ other. (e, other)) es
+module _ {X : Type 0} (P : X → Type 0) (x : X) (xs ys : List X) (is : ys ≡ x ∷ xs) where
+  pub all_later : All P ys → All P xs
+  all_later h = let k : All P (x ∷ xs) = subst (λ ys. All P ys) is h in λ i d low. k (suc i) d (omega (arith, low))
 
-of_one_bin : (e n : Entry) (home : Bool) → n.bin ≡ e.bin → ((e.bin == n.bin) && home) ≡ home
-of_one_bin e n home same = let t : (e.bin == n.bin) ≡ true = grind (arith, same) in rw t refl
+module _ (grid : Grid) (items : List Numbered) (other : Numbered) (bin : ℕ) where
+  -- the pairs of one with the rectangles at some places
+  abbrev pub with_places : Numbered → List ℕ → List (Numbered × Numbered)
+  with_places first places = pairs_with (meet_at_home grid bin) first (map (item_at grid items other) places)
 
-of_two_bins : (e n : Entry) (home : Bool) → e.bin < n.bin → ((e.bin == n.bin) && home) ≡ false
-of_two_bins e n home less = let t : (e.bin == n.bin) ≡ false = grind (arith, less) in rw t refl
-
-module _ (grid : Grid) (items : List Numbered) (other : Numbered) where
-  -- an entry of a later bin has no pair with one, nor have those behind it
-  none_of_later : (e : Entry) (bin : ℕ) (es : List Entry) → e.bin < bin → All (λ n. bin ≤ n.bin) es → told grid items other (each_with e es) ≡ []
-  none_of_later e bin [] less h = refl
-  none_of_later e bin (n ∷ es) less h =
-      let first : bin ≤ n.bin = all_first (λ n. bin ≤ n.bin) n es h in
-      let t : is_told grid items other (e, n) ≡ false = of_two_bins e n _ (omega (arith, first, less)) in
-      tested (is_told grid items other) (items_at grid items other) (e, n) (each_with e es)
-      ∙ ap (λ (b : Bool). one_if b (items_at grid items other (e, n)) ++ told grid items other (each_with e es)) t
-      ∙ none_of_later e bin es less (all_later (λ n. bin ≤ n.bin) n es h)
-
-  run_is_over : (e n : Entry) (es : List Entry) → AreInOrder items (e ∷ n ∷ es) → ¬ (n.bin ≡ e.bin) → told grid items other (each_with e (n ∷ es)) ≡ []
-  run_is_over e n es o differ =
-      let first = all_first (NotAfter e) n es (pairs_first NotAfter e (n ∷ es) o.rise) in
-      let below = pairs_first NotAfter n es (order_later items e (n ∷ es) o).rise in
-      let less : e.bin < n.bin = let b = first.bins in omega (arith, b, differ) in
-      none_of_later e n.bin (n ∷ es) less (all_with (λ m. n.bin ≤ m.bin) n es (omega arith) (λ k d low. (below k d low).bins))
+  abbrev pub within_places : List ℕ → List (Numbered × Numbered)
+  within_places places = pairs_at_home grid bin (map (item_at grid items other) places)
 
   module _ {B : Type 0} (call : B → ℕ → ℕ → B → Type 0) where
-    pub run_ends : (a : B) (e : Entry) (rest : List Entry) (n : Entry) (es : List Entry) → rest ≡ n ∷ es → AreInOrder items (e ∷ rest) → ¬ (n.bin ≡ e.bin)
-        → CallsLead call a (told grid items other (each_with e rest)) a
-    run_ends a e rest n es is o differ =
-        let none = ap (λ es. told grid items other (each_with e es)) is ∙ run_is_over e n es (subst (λ es. AreInOrder items (e ∷ es)) is o) differ in
-        subst (λ ps. CallsLead call a ps a) (sym none) refl
+    pub places_end : (a : B) (first : Numbered) (rest : List ℕ) → length rest ≡ 0 → CallsLead call a (with_places first rest) a
+    places_end a first [] e = refl
+    places_end a first (place ∷ places) e = absurd (omega (arith, e))
 
-    pub next_entry : (a b last : B) (e : Entry) (rest : List Entry) (n : Entry) (es : List Entry) (x y : Numbered) → rest ≡ n ∷ es → n.bin ≡ e.bin
-        → x ≡ item_at grid items other e.place → y ≡ item_at grid items other n.place
-        → CallsLead call a (one_if (meet_at_home grid e.bin x y) (x, y)) b
-        → CallsLead call b (told grid items other (each_with e es)) last → CallsLead call a (told grid items other (each_with e rest)) last
-    next_entry a b last e rest n es x y is same is_x is_y f g =
-        let there = items_at grid items other (e, n) in
-        let k : CallsLead call a (one_if (meet_at_home grid e.bin there.0 there.1) (there.0, there.1)) b =
-        subst (λ y. CallsLead call a (one_if (meet_at_home grid e.bin there.0 y) (there.0, y)) b) is_y
-        (subst (λ x. CallsLead call a (one_if (meet_at_home grid e.bin x y) (x, y)) b) is_x f) in
-        let t : is_told grid items other (e, n) ≡ meet_at_home grid e.bin there.0 there.1 = of_one_bin e n _ same in
-        subst (λ ps. CallsLead call a ps last) (sym (ap (λ es. told grid items other (each_with e es)) is ∙ tested (is_told grid items other) (items_at grid items other) (e, n) (each_with e es)))
-        (folds_append (λ a p b. call a p.0.id p.1.id b) a b last (one_if (is_told grid items other (e, n)) there) (told grid items other (each_with e es))
-        (subst (λ (t : Bool). CallsLead call a (one_if t there) b) (sym t) k) g)
+    pub next_place : (a b last : B) (first second : Numbered) (rest : List ℕ) (place : ℕ) (places : List ℕ) → rest ≡ place ∷ places → second ≡ item_at grid items other place
+        → CallsLead call a (one_if (meet_at_home grid bin (first, second)) (first, second)) b
+        → CallsLead call b (with_places first places) last → CallsLead call a (with_places first rest) last
+    next_place a b last first second rest place places is is_second f g =
+        subst (λ places. CallsLead call a (with_places first places) last) (sym is)
+        (next_one (meet_at_home grid bin) call a b last first (item_at grid items other place) (map (item_at grid items other) places)
+        (subst (λ y. CallsLead call a (one_if (meet_at_home grid bin (first, y)) (first, y)) b) is_second f) g)
 
-    pub next_run : (a b last : B) (rest : List Entry) (e : Entry) (es : List Entry) → rest ≡ e ∷ es → CallsLead call a (told grid items other (each_with e es)) b
-        → CallsLead call b (told grid items other (pairs_of es)) last → CallsLead call a (told grid items other (pairs_of rest)) last
-    next_run a b last rest e es is f g =
-        subst (λ ps. CallsLead call a ps last)
-        (sym (ap (λ es. told grid items other (pairs_of es)) is ∙ tested_append (is_told grid items other) (items_at grid items other) (each_with e es) (pairs_of es)))
-        (folds_append (λ a p b. call a p.0.id p.1.id b) a b last (told grid items other (each_with e es)) (told grid items other (pairs_of es)) f g)
+    pub next_first : (a b last : B) (first : Numbered) (rest : List ℕ) (place : ℕ) (places : List ℕ) → rest ≡ place ∷ places → first ≡ item_at grid items other place
+        → CallsLead call a (with_places first places) b → CallsLead call b (within_places places) last → CallsLead call a (within_places rest) last
+    next_first a b last first rest place places is is_first f g =
+        next_list (meet_at_home grid bin) call a b last (map (item_at grid items other) rest) (item_at grid items other place) (map (item_at grid items other) places)
+        (ap (λ (places : List ℕ). map (item_at grid items other) places) is)
+        (subst (λ x. CallsLead call a (with_places x places) b) is_first f) g
 
-pub second_placed : (items : List Numbered) (e : Entry) (rest : List Entry) (n : Entry) (es : List Entry) → rest ≡ n ∷ es → AreInOrder items (e ∷ rest) → n.place < length items
-second_placed items e rest n es is o =
-    let p = (order_later items e rest o).placed in
-    all_first (λ e. e.place < length items) n es (subst (λ es. All (λ e. e.place < length items) es) is p)
+all_with : (P : ℕ → Type 0) (x : ℕ) (xs : List ℕ) → P x → All P xs → All P (x ∷ xs)
+all_with P x xs p h zero d low = p
+all_with P x xs p h (suc k) d low = h k d (omega (arith, low))
 
-pub without_second : (items : List Numbered) (e : Entry) (rest : List Entry) (n : Entry) (es : List Entry) → rest ≡ n ∷ es → AreInOrder items (e ∷ rest) → AreInOrder items (e ∷ es)
-without_second items e rest n es is o = order_past items e n es (subst (λ es. AreInOrder items (e ∷ es)) is o)
+-- what a test leaves of numbers below another
+few_numbers : (test : ℕ → Bool) (a n high : ℕ) → a + n ≤ high → All (λ k. k < high) (filter test (numbers a n))
+unfolding numbers
+few_numbers test a zero high h = λ k d low. absurd (omega (arith, low))
+few_numbers test a (suc n) high h =
+    let r = few_numbers test (suc a) n high (omega (arith, h)) in
+    let here : a < high = omega (arith, h) in
+    split (test a)
+    (λ t. subst (λ (b : Bool). All (λ k. k < high) (cond b (a ∷ filter test (numbers (suc a) n)) (filter test (numbers (suc a) n)))) (sym t)
+    (all_with (λ k. k < high) a (filter test (numbers (suc a) n)) here r))
+    (λ t. subst (λ (b : Bool). All (λ k. k < high) (cond b (a ∷ filter test (numbers (suc a) n)) (filter test (numbers (suc a) n)))) (sym t) r)
+
+filter_mapped : {A B : Type 0} (test : B → Bool) (f : A → B) (xs : List A) → map f (filter (λ x. test (f x)) xs) ≡ filter test (map f xs)
+filter_mapped test f [] = refl
+filter_mapped test f (x ∷ xs) =
+    let r = filter_mapped test f xs in
+    split (test (f x)) (λ t. rw t (ap (λ ys. f x ∷ ys) r)) (λ t. rw t r)
+
+module _ (grid : Grid) (items : List Numbered) (other : Numbered) where
+  pub placed_in : (bin : ℕ) (places : List ℕ) → places ≡ bin_places grid items other bin → All (λ place. place < length items) places
+  placed_in bin places is = subst (λ places. All (λ place. place < length items) places) (sym is) (few_numbers (λ place. covers grid bin (item_at grid items other place)) 0 (length items) (length items) (omega arith))
+
+  -- the rectangles at the places of a bin are those that cover it
+  items_in : (bin : ℕ) (places : List ℕ) → places ≡ bin_places grid items other bin → map (item_at grid items other) places ≡ filter (covers grid bin) items
+  items_in bin places is =
+      ap (λ (places : List ℕ). map (item_at grid items other) places) is
+      ∙ filter_mapped (covers grid bin) (item_at grid items other) (numbers 0 (length items))
+      ∙ ap (λ (xs : List Numbered). filter (covers grid bin) xs) (at_places items other 0 (length items) (omega arith))
+
+  module _ {B : Type 0} (call : B → ℕ → ℕ → B → Type 0) where
+    pub next_bin : (a b last : B) (bin : ℕ) → bin < bin_count grid → (places : List ℕ) → places ≡ bin_places grid items other bin
+        → CallsLead call a (pairs_at_home grid bin (map (item_at grid items other) places)) b
+        → CallsLead call b (flat_map (told_in grid items) (up_to (bin + 1) (bin_count grid))) last
+        → CallsLead call a (flat_map (told_in grid items) (up_to bin (bin_count grid))) last
+    next_bin a b last bin low places is f g =
+        subst (λ bins. CallsLead call a (flat_map (told_in grid items) bins) last) (sym (more bin (bin_count grid) low))
+        (folds_append (λ a p b. call a p.0.id p.1.id b) a b last (told_in grid items bin) (flat_map (told_in grid items) (up_to (bin + 1) (bin_count grid)))
+        (subst (λ xs. CallsLead call a (pairs_at_home grid bin xs) b) (items_in bin places is) f) g)
+
+module _ (grid : Grid) (items : List Numbered) {B : Type 0} (call : B → ℕ → ℕ → B → Type 0) where
+  pub bins_end : (a : B) (bin : ℕ) → bin_count grid ≤ bin → CallsLead call a (flat_map (told_in grid items) (up_to bin (bin_count grid))) a
+  bins_end a bin high = subst (λ bins. CallsLead call a (flat_map (told_in grid items) bins) a) (sym (none bin (bin_count grid) high)) refl

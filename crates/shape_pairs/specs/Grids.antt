@@ -21,6 +21,9 @@ module _ (grid : Grid) where
   abbrev pub bin_at : ℕ → ℕ → ℕ
   bin_at column row = row * grid.columns + column
 
+  abbrev pub bin_count : ℕ
+  bin_count = grid.rows * grid.columns
+
   -- the bins of one row that a rectangle covers
   abbrev pub row_bins : Rectangle → ℕ → List ℕ
   row_bins r row = between (bin_at (column_at r.x1) row) (bin_at (column_at r.x2) row)

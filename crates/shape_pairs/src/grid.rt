@@ -86,7 +86,7 @@ fn step_at(from: i64, log_size: u32, count: usize, x: i64) -> usize
 }
 
 impl Grid {
-    ghost use Rattle.shape_pairs.specs.Grids.{bin_at, column_at, home, row_at};
+    ghost use Rattle.shape_pairs.specs.Grids.{bin_at, bin_count, column_at, home, row_at};
 
     /// A grid over rectangles. Any grid is right. This one has at most as many bins as there are rectangles, and they cover at
     /// most four each on the average, where there are 64 of them and coordinates lie within plus or minus 2^61.
@@ -147,6 +147,13 @@ impl Grid {
             .saturating_mul(rows.saturating_add(1))
     }
 
+    /// How many bins there are.
+    pub(crate) fn bin_count(&self) -> usize
+        ensures { result ≡ bin_count self.now }
+    {
+        self.rows * self.columns
+    }
+
     /// The column of a number.
     pub(crate) fn column_at(&self, x: i64) -> usize
         ensures column { result ≡ column_at self.now x }
@@ -168,7 +175,7 @@ impl Grid {
         requires column { column < self.now.columns }
         requires row { row < self.now.rows }
         ensures bin { result ≡ bin_at self.now column row }
-        ensures within { result < 2 ^ 63 }
+        ensures within { result < bin_count self.now }
     {
         row * self.columns + column
     }

@@ -10,13 +10,15 @@
 //! order, and `pairs_of_mapped` that the pairs of what a function gives are those of the things. `proofs/PairLemmas` has them
 //! for any types.
 //!
-//! Rectangles are copied, and nothing is lent. Up to 64 rectangles take no memory. For more a list of entries is made, four for
-//! each rectangle at most while coordinates lie within plus or minus 2^61; want of memory for it is an `AllocError`. The bins are
-//! of one size, so that rectangles which crowd into few bins are compared pair by pair.
+//! Rectangles are copied, and nothing is lent. Up to 64 rectangles take no memory. For more their places are kept by the bins
+//! that they cover, in two lists of 8 bytes an entry: one has an entry for each bin, of which there are at most as many as
+//! rectangles, the other one for each bin that a rectangle covers, four for each rectangle at most on the average while
+//! coordinates lie within plus or minus 2^61. That is 40 bytes for each rectangle at most; want of memory is an `AllocError`. The
+//! bins are of one size, so that rectangles which crowd into few bins are compared pair by pair.
 #![tactic(auto)]
 
+mod bins;
 mod direct;
-mod entries;
 mod grid;
 mod laws;
 mod pairs;

@@ -3,10 +3,10 @@
 ghost use Rattle.std.specs.Prelude.{IfOk};
 ghost use Rattle.shape_pairs.specs.Pairs.{LeadsOverMeetingPairs};
 
+use crate::bins::Bins;
 use crate::direct::for_pairs_directly;
-use crate::entries::entries_in_order;
 use crate::grid::Grid;
-use crate::runs::for_pairs_in_runs;
+use crate::runs::for_pairs_in_bins;
 use design_model::geometry::Rect;
 use std::alloc::{AllocError, Allocator};
 
@@ -21,7 +21,7 @@ pub struct Numbered {
 }
 
 /// Folds `f` over the pairs of rectangles that meet, bin by bin of a grid.
-fn for_pairs_by_bins<B: Drop, A: Allocator, F: Fn(B, usize, usize) -> B>(
+fn for_pairs_by_bins<B: Drop, A: Allocator + Copy, F: Fn(B, usize, usize) -> B>(
     alloc: A,
     items: &[Numbered],
     acc: B,
@@ -31,8 +31,8 @@ fn for_pairs_by_bins<B: Drop, A: Allocator, F: Fn(B, usize, usize) -> B>(
     ensures { IfOk result (LeadsOverMeetingPairs (F.post f.now) items.now acc) }
 {
     let grid = Grid::over(items);
-    let entries = entries_in_order(alloc, &grid, items)?;
-    Ok(for_pairs_in_runs(&grid, items, &entries, acc, f))
+    let bins = Bins::of(alloc, &grid, items)?;
+    Ok(for_pairs_in_bins(&grid, items, &bins, acc, f))
 }
 
 /// Folds `f` over the pairs of rectangles that meet, each pair once, in an order that is left open. Within a pair the rectangle

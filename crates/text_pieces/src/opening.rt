@@ -1,6 +1,6 @@
 //! Opening a text: its statements are read once, each into a piece of its own.
 
-ghost use Rattle.std.specs.Prelude.{◌≡◌, ◌≤◌, length, map, option_map};
+ghost use Rattle.std.specs.Prelude.{◌≡◌, ◌≤◌, [], length, map, option_map};
 ghost use Rattle.text_pieces.specs.Opening.{EndsLast, NextPiece, ReadsChunk};
 ghost use Rattle.text_pieces.specs.Tables.{kept};
 
@@ -21,6 +21,12 @@ use std::alloc::{Allocator, Global};
 /// goes over as many numbers as lengths.
 pub(crate) const CHUNK: usize = 1000;
 
+/// How many bytes a text has at least that is opened with room for its pieces, so that they aren't moved as they come.
+const LARGE: usize = 1048576;
+
+/// How many bytes a piece of such a text is taken to have.
+const PIECE: usize = 200;
+
 /// A chunk that was read, the mode and the position after its last statement, and whether no statement is left there.
 #[derive(Drop)]
 pub(crate) struct Part<A: Allocator = Global> {
@@ -28,6 +34,17 @@ pub(crate) struct Part<A: Allocator = Global> {
     pub(crate) mode: Mode,
     pub(crate) pos: usize,
     pub(crate) is_last: bool,
+}
+
+/// No pieces, with room for about those of a text where it is large and there is memory for it.
+pub(crate) fn room_for<A: Allocator + Copy>(alloc: A, text: &[u8]) -> Slab<Piece<A>, A>
+    ensures { result.slots ≡ [] }
+{
+    let mut pieces = Slab::new(alloc);
+    if text.len() >= LARGE {
+        let _ = pieces.reserve_exact(text.len() / PIECE);
+    }
+    pieces
 }
 
 /// The next statement from a position on, which is a piece up to its last byte.

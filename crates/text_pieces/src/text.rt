@@ -23,7 +23,7 @@ use crate::behind::Behind;
 use crate::bytes::Block;
 use crate::chunks::exchange;
 use crate::lists::place_new;
-use crate::opening::read_chunk;
+use crate::opening::{read_chunk, room_for};
 use crate::prepared::{PrepareError, PreparedText, TextCut};
 use crate::stretch::{Stretch, append_part, first_mode, spliced, tail_after, touched};
 use crate::table::PieceTable;
@@ -38,7 +38,6 @@ use design_model::mode::Mode;
 use lefdef_tokens::{token_at, tokens_move};
 use piece_laws::pieces::{pieces_are_read, tails_are_found, tails_may_end, texts_are_read};
 use rereading::reread::reread;
-use slab::Slab;
 use std::alloc::{AllocError, Allocator, Global};
 use std::marker::Model;
 
@@ -87,7 +86,7 @@ fn read_all<A: Allocator + Copy, T: Told>(
     tails_may_end();
     texts_are_read();
     let text = block.as_slice();
-    let mut pieces = Slab::new(alloc);
+    let mut pieces = room_for(alloc, text);
     let mut chunks = Vec::new(alloc);
     let mut mode = Mode::Top;
     let mut pos = 0;

@@ -1,8 +1,11 @@
 use Rattle.connection_rules.specs.NetParts.{wired_net}
 use Rattle.design_rules.specs.Boxes.{scale}
 use Rattle.wire_parts.specs.NetViews.{net_view}
-use Rattle.drawn_parts.proofs.EntryLemmas.{put_apart}
+use Rattle.drawn_parts.proofs.EntryLemmas.{none_begun, put_apart}
 use Rattle.drawn_parts.proofs.entries.put_net.Goals as goal
+
+pub put_net_wires-requires : goal.put_net_wires-requires
+put_net_wires-requires g c = none_begun c.args.library.now.layers c.new.result c.args.nets.now c.requires (c.new.ensures c.args.library.now.layers)
 
 pub returns-clause-ok : goal.returns-clause-ok
 returns-clause-ok g c =

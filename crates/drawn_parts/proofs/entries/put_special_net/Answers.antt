@@ -3,9 +3,12 @@ use Rattle.net_rules.specs.WirePieces.{special_net_pieces}
 use Rattle.connection_rules.specs.NetParts.{clause_pieces, wired_special}
 use Rattle.design_rules.specs.Boxes.{scale}
 use Rattle.wire_parts.specs.SpecialNetViews.{special_net_view}
-use Rattle.drawn_parts.proofs.EntryLemmas.{put_apart, put_twice}
+use Rattle.drawn_parts.proofs.EntryLemmas.{none_begun, put_apart, put_twice}
 use Rattle.drawn_parts.proofs.LengthLemmas.{wires_have_all}
 use Rattle.drawn_parts.proofs.entries.put_special_net.Goals as goal
+
+pub put_special_wires-requires : goal.put_special_wires-requires
+put_special_wires-requires g c = none_begun c.args.library.now.layers c.new.result c.args.nets.now c.requires (c.new.ensures c.args.library.now.layers)
 
 pub returns-clause-ok : goal.returns-clause-ok
 returns-clause-ok g c =

@@ -8,7 +8,7 @@ use Rattle.drawn_parts.proofs.entry_pieces.put_pieces.Given as goal
 
 abbrev pub invariant-loop-piece : goal.invariant-loop-piece
 invariant-loop-piece g l = record {
-  ready : IsReady (drawing l.walk l.nets);
+  ready : IsReady l.library.layers l.walk l.nets;
   so_far :
       put_pieces l.library.layers (entry_left g.W.MadeWires.pieces g.I.PathItems.items g.R.WiringMakings.rules g.S.LayerShapes.shapes l.piece-iterator) (drawing l.walk l.nets)
       ≡ put_pieces l.library.layers (entry_left g.W.MadeWires.pieces g.I.PathItems.items g.R.WiringMakings.rules g.S.LayerShapes.shapes l.initial.piece-iterator) (drawing l.initial.walk l.initial.nets);

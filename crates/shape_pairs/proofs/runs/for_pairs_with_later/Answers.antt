@@ -1,20 +1,20 @@
-use Rattle.std.proofs.Common.{rules}
-use Rattle.shape_pairs.proofs.RunLemmas.{run_ends, next_entry, second_placed, without_second}
+use Rattle.std.proofs.Common.{◌≡◌, ◌<◌, ℕ, ◌∷◌, length, rules}
+use Rattle.shape_pairs.proofs.RunLemmas.{all_later, next_place, places_end}
 use Rattle.shape_pairs.proofs.runs.for_pairs_with_later.Goals as goal
 
-pub returns-then-next-entry : goal.returns-then-next-entry
-returns-then-next-entry g c = λ other. c.loop-next.invariant.rest other _
-    (run_ends c.args.grid.now c.args.items.now other _ c.loop-next.acc c.args.entry c.loop-next.rest.now c.in-Some.next.now c.in-Some.others.now (search rules) c.loop-next.invariant.order c.if-next-entry.true)
+pub loop-place-preserved : goal.loop-place-preserved
+loop-place-preserved g c =
+    let is : c.loop-place.rest.now ≡ c.in-Some.place.now ∷ c.in-Some.others.now = search rules in
+    record {
+      callable = c.loop-place.invariant.callable;
+      placed = all_later (λ (place : ℕ). place < length c.args.items.now) c.in-Some.place.now c.in-Some.others.now c.loop-place.rest.now is c.loop-place.invariant.placed;
+      rest = λ other last k. c.loop-place.invariant.rest other last
+          (next_place c.args.grid.now c.args.items.now other c.args.bin _ c.loop-place.acc c.tell_if-acc.result last c.args.first.now c.item_at-second.result.now
+          c.loop-place.rest.now c.in-Some.place.now c.in-Some.others.now is (c.item_at-second.ensures other) (rw c.meet_at_home.ensures at c.tell_if-acc.ensures) k);
+    }
 
-pub item_at-other-requires : goal.item_at-other-requires
-item_at-other-requires g c = second_placed c.args.items.now c.args.entry c.loop-next.rest.now c.in-Some.next.now c.in-Some.others.now (search rules) c.loop-next.invariant.order
-
-pub loop-next-preserved : goal.loop-next-preserved
-loop-next-preserved g c = record {
-  callable = c.loop-next.invariant.callable;
-  order = without_second c.args.items.now c.args.entry c.loop-next.rest.now c.in-Some.next.now c.in-Some.others.now (search rules) c.loop-next.invariant.order;
-  rest = λ other last k. c.loop-next.invariant.rest other last
-      (next_entry c.args.grid.now c.args.items.now other _ c.loop-next.acc c.tell_if-acc.result last c.args.entry c.loop-next.rest.now c.in-Some.next.now c.in-Some.others.now
-      c.item_at-item.result.now c.item_at-other.result.now (search rules) c.if-next-entry.false (c.item_at-item.ensures other) (c.item_at-other.ensures other)
-      (rw c.meet_at_home.ensures at c.tell_if-acc.ensures) k);
-}
+pub returns : goal.returns
+returns g c = λ other.
+    let none : length c.loop-place.rest.now ≡ 0 = search rules in
+    c.loop-place.invariant.rest other c.loop-place.acc
+    (places_end c.args.grid.now c.args.items.now other c.args.bin _ c.loop-place.acc c.args.first.now c.loop-place.rest.now none)

@@ -9,7 +9,7 @@ use Rattle.text_pieces.proofs.Telling.{all_told, failed, told_start}
 use Rattle.text_pieces.proofs.text.read_all.Goals as goal
 
 pub chunks-init : goal.chunks-init
-chunks-init g c = (omega arith, rw (c.new-chunks.ensures.items, c.new-pieces.ensures.empty) (told_start g.T.Told.says c.args.told.now c.args.block.now))
+chunks-init g c = (omega arith, rw (c.new-chunks.ensures.items, c.room_for-pieces.ensures) (told_start g.T.Told.says c.args.told.now c.args.block.now))
 
 pub chunks-preserved : goal.chunks-preserved
 chunks-preserved g c =

@@ -1,4 +1,4 @@
-use Rattle.std.proofs.Common.{◌≡◌, ◌++◌, ◌∷◌, [], Some, false, true, not, map, is_some, sym, ap, ◌∙◌}
+use Rattle.std.proofs.Common.{◌≡◌, ◌++◌, ◌∷◌, [], Some, false, map, is_some, sym, ap, ◌∙◌}
 use Rattle.std.specs.Option.{option_map}
 use Rattle.design_tables.specs.Changes.{or_else_listed}
 use Rattle.design_tables.specs.Listings.{found, has_name, listed, unlisted, with_marks}
@@ -49,17 +49,3 @@ returns-clause-put g c = λ n.
     ∙ listed_both n c.args.self.now ((name, left) ∷ [])
     ∙ ap (or_else_listed (found n c.args.self.now)) (listed_one n name left)
     ∙ listed_new c.args.self.now n name c.args.mark absent
-
-pub returns-in-Some-clause-fresh : goal.returns-in-Some-clause-fresh
-returns-in-Some-clause-fresh g c =
-    let name = c.args.name.now in
-    let there : has_name name c.args.self.now ≡ true =
-    ap (has_name name) (sym c.self.view_is) ∙ has_is name c.self.inside.names.entries ∙ ap is_some (looked_up _ _ c.in-Some.listing c.in-Some.is c.get_mut.ensures.value) in
-    sym (ap not there)
-
-pub returns-clause-fresh : goal.returns-clause-fresh
-returns-clause-fresh g c =
-    let name = c.args.name.now in
-    let absent : has_name name c.args.self.now ≡ false =
-    ap (has_name name) (sym c.self.view_is) ∙ has_is name c.self.inside.names.entries ∙ ap is_some (looked_none _ _ c.in-None.is c.get_mut.ensures.value) in
-    sym (ap not absent)

@@ -1,0 +1,2 @@
+mod DesignLemmas
+pub mod FamilyLemmas

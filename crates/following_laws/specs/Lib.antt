@@ -1,0 +1,3 @@
+pub mod DesignLaws
+pub mod FamilyLaws
+pub mod Following
