@@ -286,6 +286,11 @@ class Designs:
     def blockages(self):
         return [self.blockage() for _ in range(self.rng.randint(0, 4))]
 
+    def special_names(self):
+        """Returns the names of SPECIALNETS, each once: now and then that of a net in the place of its own."""
+        names = {it: self.one(self.nets, it) if self.chance(0.1) else it for it in self.special}
+        return [name if list(names.values()).count(name) == 1 else it for it, name in names.items()]
+
     def text(self):
         """Returns the text of a design."""
         vias = ["D1 + RECT met1 ( -100 -100 ) ( 100 100 ) + RECT via1 ( -50 -50 ) ( 50 50 ) + RECT met2 ( -100 -100 ) ( 100 100 )",
@@ -300,7 +305,7 @@ class Designs:
             self.section("PINS", [self.pin(it) for it in self.pins]),
             self.section("BLOCKAGES", self.blockages()),
             self.section("GROUPS", groups),
-            self.section("SPECIALNETS", [self.net(self.one(self.nets, it) if self.chance(0.1) else it, True) for it in self.special]),
+            self.section("SPECIALNETS", [self.net(it, True) for it in self.special_names()]),
             self.section("NETS", [self.net(it) for it in self.nets]),
         ]
         rows = [f"ROW row{k} {self.one(SITES)} {self.rng.choice([0, 46, 460])} {2720 * k} {self.rng.choice(['N', 'FS'])} DO {self.rng.randint(1, 30)} BY 1 STEP 460 0 ;" for k in range(self.rng.randint(0, 4))]
