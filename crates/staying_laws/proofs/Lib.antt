@@ -1,0 +1,5 @@
+mod MappedLists
+mod MovedComponents
+mod NetEdits
+mod PlacedComponents
+mod ReportParts

@@ -1,0 +1,34 @@
+//! Laws of the parts of a report: which of them an edit leaves as they are.
+//!
+//! Each law is an empty function that ensures it; call it to use it. A report has the lines on headers, single statements and the
+//! library (`lines_on_statements` of `specs/Staying`), those on components (`lines_on_places`), and those on nets. An edit of a net
+//! leaves the second part, an edit that places or unplaces a component the first, line by line in the same order.
+#![tactic(auto)]
+
+ghost use Rattle.staying_laws.specs.Staying.{NetEditsKeepPlaces, PartsAreAll, PlacingKeepsStatements, UnplacingKeepsStatements};
+
+use agreement_laws::same_outline_same_counts;
+
+/// The parts of a report are all its lines.
+pub fn parts_are_all()
+    ensures { PartsAreAll }
+{}
+
+/// An edit of a net leaves the lines on components.
+pub fn net_edits_keep_places()
+    ensures { NetEditsKeepPlaces }
+{}
+
+/// Placing a component leaves the lines on headers, on single statements and on the library.
+pub fn placing_keeps_statements()
+    ensures { PlacingKeepsStatements }
+{
+    same_outline_same_counts();
+}
+
+/// Unplacing a component leaves the lines on headers, on single statements and on the library.
+pub fn unplacing_keeps_statements()
+    ensures { UnplacingKeepsStatements }
+{
+    same_outline_same_counts();
+}
