@@ -1,1 +1,2 @@
 pub mod AgreementRows
+pub mod PartRows

@@ -1,5 +1,6 @@
-//! Worked rows of the definitions of `agreement_laws`: what the lines on a statement depend on, by computing.
+//! Worked rows of the definitions of `agreement_laws` and `staying_laws`: what the lines on a statement depend on, and the parts of a
+//! report, by computing.
 //!
 //! A crate of proofs, with no code. `proofs/AgreementRows` has what entries of small DEF texts show others, what their outline is, the vias that are named
-//! in wires, and what a row refers to.
+//! in wires, and what a row refers to. `proofs/PartRows` has the lines on statements and on places of a small design, and what edits leave of them.
 #![tactic(auto)]
