@@ -1,23 +1,19 @@
 -- Unchecked parts of special nets are no more than their words.
-use Rattle.std.proofs.Common.{◌≤◌, ℕ, List, [], ◌∷◌, ◌++◌, length, map, sum, codes, arith, length-append, Option, Some, None}
+use Rattle.std.proofs.Common.{◌≤◌, List, [], ◌∷◌, ◌++◌, length, map, sum, arith, length-append}
 use Rattle.std.specs.List.{list_any}
 use Rattle.form_meanings.specs.Meaning.{spell_all}
 use Rattle.form_meanings.specs.Words.{is_plus}
-use Rattle.statement_model.specs.Form.{spell, opt_on}
+use Rattle.statement_model.specs.Form.{spell}
 use Rattle.def_grammar.specs.Clauses.{mask}
-use Rattle.def_grammar.specs.Parts.{int, is_some}
-use Rattle.def_grammar.specs.Nets.{NetClause, net_subnet, net_use, net_rule, net_wiring, net_kept, net_clause, net_listed}
 use Rattle.def_grammar.specs.SpecialNets.{SpecialClause, special_subnet, special_use, special_shape_word, special_mask, special_rectangle, special_vias, special_polygon, special_has_wiring, special_kept, special_clause, special_listed, special_shape}
 use Rattle.def_grammar.specs.Wiring as forms
 use Rattle.def_grammar.specs.Wiring.{Path, WireVia, SpecialVia, Wire, SpecialWire, Wiring, SpecialWiring, WireMark, wire_shape, wire_style, wire_mask}
 use Rattle.lefdef_tokens.specs.Views.{rest_of}
 use Rattle.statement_reader.specs.declared.parts.Parts.{Parts}
-use Rattle.wire_parts.specs.NetViews.{net_clauses_of}
 use Rattle.wire_parts.specs.SpecialNetViews.{special_clauses_of}
-use Rattle.wire_parts.specs.declared.nets.NetClause as code_nets
 use Rattle.wire_parts.specs.declared.special_nets.SpecialClause as code_special_nets
-use Rattle.entry_rules.specs.Unchecked.{diagonals_of, is_listed, is_style, net_words, one_if, special_words, unchecked_in_clause, unchecked_in_special, unchecked_in_special_wire, unchecked_in_wire}
-use Rattle.entry_rules.specs.WireItems.{net_via, special_via}
+use Rattle.entry_rules.specs.Unchecked.{diagonals_of, is_listed, is_style, one_if, special_words, unchecked_in_special, unchecked_in_special_wire}
+use Rattle.entry_rules.specs.WireItems.{special_via}
 use Rattle.entry_references.proofs.PartCounts.{few_read, few_spelled, sum_cons}
 use Rattle.entry_references.proofs.PathCounts.{few_in_path, one_at_most}
 

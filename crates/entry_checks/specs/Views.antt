@@ -1,5 +1,6 @@
 -- Look-ups of what is defined, and names that aren't, as the definitions see them.
 use Rattle.std.specs.Prelude.{◌≡◌, ℕ, Bool, true, List, [], ◌∷◌, ◌++◌, Option, Some, None, codes, if◌then◌else◌, IfSome}
+use Rattle.std.specs.List.{All}
 use Rattle.std.specs.Option.{option_map, option_to_list}
 use Rattle.design_model.specs.declared.diagnostic.DiagKind.TheVariants.{Unknown as unknown_kind}
 use Rattle.design_model.specs.Lines.{line_text}
@@ -27,7 +28,8 @@ unknown_text section owner words = line_text unknown_kind (words ++ section ∷ 
 
 -- the names that are kept are known
 abbrev pub AreKnown : (List ℕ → Bool) → KnownNames → Type 0
-AreKnown is_known names = IfSome names.last (λ name. is_known name.now ≡ true) × IfSome names.before (λ name. is_known name.now ≡ true)
+AreKnown is_known names = All (λ o. IfSome o (λ name. is_known name.now ≡ true)) names.slots
 
-abbrev pub AreSeen : Known → Seen → Type 0
-AreSeen known seen = AreKnown known.layer seen.layers × AreKnown known.via seen.vias
+pub record AreSeen (known : Known) (seen : Seen) : Type 0 where
+  pub layers : AreKnown known.layer seen.layers
+  pub vias : AreKnown known.via seen.vias

@@ -1,15 +1,15 @@
 //! Names that were looked up and are known, kept since the next one mostly is among them.
 
-ghost use Rattle.std.specs.Prelude.{◌≡◌, ℕ, Bool, List, true, IfSome};
+ghost use Rattle.std.specs.Prelude.{◌≡◌, ℕ, Bool, IfSome, List, true};
 ghost use Rattle.entry_checks.specs.Views.{AreKnown};
 
+use crate::name_slot::{SLOTS, slot_of};
 use lefdef_tokens::is_word;
 
-/// Names of one kind: the last that was found known, and the one before it.
-#[derive(Clone, Copy)]
+/// Names of one kind that were found known: of those in one slot, the last.
+#[derive(Drop)]
 pub(crate) struct KnownNames<'n> {
-    pub(crate) last: Option<&'n [u8]>,
-    pub(crate) before: Option<&'n [u8]>,
+    slots: [Option<&'n [u8]>; SLOTS],
 }
 
 /// Whether there is a name, and it is this one.
@@ -23,20 +23,26 @@ fn is_name(kept: Option<&[u8]>, name: &[u8]) -> bool
 }
 
 impl<'n> KnownNames<'n> {
-    /// Whether this is one of them.
-    pub(crate) fn has(self, name: &[u8]) -> bool
-        ensures { (is_known : List ℕ → Bool) → AreKnown is_known self.entry → result ≡ true → is_known name.now ≡ true }
-    {
-        is_name(self.last, name) || is_name(self.before, name)
-    }
-
-    /// The same with one more that is known.
-    pub(crate) fn with(self, name: &'n [u8]) -> KnownNames<'n>
-        ensures { (is_known : List ℕ → Bool) → AreKnown is_known self.entry → is_known name.entry.now ≡ true → AreKnown is_known result }
+    /// No names.
+    pub(crate) fn new() -> KnownNames<'n>
+        ensures { (is_known : List ℕ → Bool) → AreKnown is_known result }
     {
         KnownNames {
-            last: Some(name),
-            before: self.last,
+            slots: [None; SLOTS],
         }
+    }
+
+    /// Whether this is one of them.
+    pub(crate) fn has(&self, name: &[u8]) -> bool
+        ensures { (is_known : List ℕ → Bool) → AreKnown is_known self.now → result ≡ true → is_known name.now ≡ true }
+    {
+        is_name(self.slots[slot_of(name)], name)
+    }
+
+    /// Keeps one more that is known.
+    pub(crate) fn put(&mut self, name: &'n [u8])
+        ensures { (is_known : List ℕ → Bool) → AreKnown is_known self.old → is_known name.entry.now ≡ true → AreKnown is_known self.new }
+    {
+        self.slots[slot_of(name)] = Some(name);
     }
 }

@@ -1,9 +1,10 @@
 //! Checks of the statements of a design, one at a time: what they name, which vias of their paths don't join layers, and which
 //! of their parts aren't checked.
 //!
-//! Begin with `statement_lines::put_statement_lines`, which puts the lines on a statement behind others (`report_lines::Lines`): one
-//! for each name that isn't defined, one for each via in a path that doesn't join the layer of its wire to another, and one where
-//! it has parts whose shape isn't checked. A net is gone over once for its names and its vias. `unchecked::unchecked_in_library` has the
+//! Begin with `statement_lines::StatementChecks`, which is made once of a library and the entries of a design. Its `put` puts the lines
+//! on a statement behind others (`report_lines::Lines`): one for each name that isn't defined, one for each via in a path that doesn't
+//! join the layer of its wire to another, and one where it has parts whose shape isn't checked. A net is gone over once for its names
+//! and its vias; layers and vias that were looked up are kept from one statement to the next. `unchecked::unchecked_in_library` has the
 //! lines on macros and vias of a library. What is defined comes as a `known::Defined`, a library and the entries of a design, by the
 //! trait `known::Known`. `via_layers::joined_layers` has the layers that a via joins; it takes no memory. What they say is defined in
 //! `entry_rules/specs`: `Unknown`, `OffLayer`, `ViaLayers` and `Unchecked`. No text is read here: statements and names come from
@@ -18,6 +19,7 @@ mod found_via;
 pub mod joined_layers;
 pub mod known;
 mod known_names;
+mod name_slot;
 mod off_layers;
 pub mod statement_lines;
 pub mod unchecked;

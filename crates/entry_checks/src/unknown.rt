@@ -1,6 +1,6 @@
 //! Names that aren't defined.
 
-ghost use Rattle.std.specs.Prelude.{◌≡◌, ◌∷◌, ◌++◌, [], IfOk, OnOk, map, true};
+ghost use Rattle.std.specs.Prelude.{◌≡◌, ◌∷◌, ◌++◌, [], OnOk, map, true};
 ghost use Rattle.entry_rules.specs.Unknown.{Known as TheKnown, reference_lines, unknown_of, unknown_terminal, unless};
 ghost use Rattle.entry_references.specs.ReferenceViews.{reference_view, references_view};
 ghost use Rattle.entry_checks.specs.Views.{AreSeen, unknown_text, unknown_words, words_of_all};
@@ -22,31 +22,27 @@ enum Unknown<'n> {
     Pin(&'n [u8], &'n [u8]),
 }
 
-/// What was found to be known while the references of one statement are gone over. Layers and vias are named often.
-#[derive(Clone, Copy)]
-struct Seen<'n> {
+/// What was found to be known. Layers and vias are named often.
+#[derive(Drop)]
+pub(crate) struct Seen<'n> {
     layers: KnownNames<'n>,
     vias: KnownNames<'n>,
 }
 
 impl<'n> Seen<'n> {
     /// Nothing.
-    fn new() -> Seen<'n>
+    pub(crate) fn new() -> Seen<'n>
         ensures { (known : TheKnown) → AreSeen known result }
     {
-        let nothing = KnownNames {
-            last: None,
-            before: None,
-        };
         Seen {
-            layers: nothing,
-            vias: nothing,
+            layers: KnownNames::new(),
+            vias: KnownNames::new(),
         }
     }
 
     /// Whether a reference was seen, so that it is defined.
-    fn has(self, reference: Reference<'_>) -> bool
-        ensures { (known : TheKnown) → AreSeen known self.entry → result ≡ true → unknown_of known (reference_view reference.entry) ≡ [] }
+    fn has(&self, reference: Reference<'_>) -> bool
+        ensures { (known : TheKnown) → AreSeen known self.now → result ≡ true → unknown_of known (reference_view reference.entry) ≡ [] }
     {
         match reference {
             Reference::Layer(name) => self.layers.has(name),
@@ -55,21 +51,15 @@ impl<'n> Seen<'n> {
         }
     }
 
-    /// The same with a reference that is defined.
+    /// Keeps a reference that is defined.
     #[tactic(auto, using(crate::proofs::SeenSteps::is_defined))]
-    fn with(self, reference: Reference<'n>) -> Seen<'n>
-        ensures { (known : TheKnown) → AreSeen known self.entry → unknown_of known (reference_view reference.entry) ≡ [] → AreSeen known result }
+    fn put(&mut self, reference: Reference<'n>)
+        ensures { (known : TheKnown) → AreSeen known self.old → unknown_of known (reference_view reference.entry) ≡ [] → AreSeen known self.new }
     {
         match reference {
-            Reference::Layer(name) => Seen {
-                layers: self.layers.with(name),
-                vias: self.vias,
-            },
-            Reference::Via(name) => Seen {
-                layers: self.layers,
-                vias: self.vias.with(name),
-            },
-            _ => self,
+            Reference::Layer(name) => self.layers.put(name),
+            Reference::Via(name) => self.vias.put(name),
+            _ => {}
         }
     }
 }
@@ -134,28 +124,28 @@ fn put_unknown<A: Allocator + Copy>(
     }
 }
 
-/// Puts the line on a reference, if it isn't defined; and gives what was seen with it. What was seen isn't looked up again.
+/// Puts the line on a reference, if it isn't defined. What was seen isn't looked up again.
 fn pass_reference<'n, K: Known, A: Allocator + Copy>(
     known: &K,
     section: &[u8],
     entry: &[u8],
-    seen: Seen<'n>,
+    seen: &mut Seen<'n>,
     reference: Reference<'n>,
     lines: &mut Lines<A>,
-) -> Result<Seen<'n>, AllocError>
-    requires { AreSeen (K.known known.now) seen }
+) -> Result<(), AllocError>
+    requires { AreSeen (K.known known.now) seen.old }
     ensures lines { OnOk result (lines.new ≡ lines.old ++ map (unknown_text section.now entry.now) (unknown_of (K.known known.now) (reference_view reference.entry))) }
-    ensures seen { IfOk result (λ s. AreSeen (K.known known.now) s) }
+    ensures seen { AreSeen (K.known known.now) seen.new }
 {
     if seen.has(reference) {
-        return Ok(seen);
+        return Ok(());
     }
     match unknown_of(known, reference) {
-        Some(unknown) => {
-            put_unknown(unknown, section, entry, lines)?;
-            Ok(seen)
+        Some(unknown) => put_unknown(unknown, section, entry, lines),
+        None => {
+            seen.put(reference);
+            Ok(())
         }
-        None => Ok(seen.with(reference)),
     }
 }
 
@@ -164,14 +154,16 @@ pub(crate) fn put_references<'n, K: Known, A: Allocator + Copy>(
     known: &K,
     section: &[u8],
     entry: &[u8],
+    seen: &mut Seen<'n>,
     references: &[Reference<'n>],
     lines: &mut Lines<A>,
 ) -> Result<(), AllocError>
-    ensures { OnOk result (lines.new ≡ lines.old ++ reference_lines (K.known known.now) section.now entry.now (references_view references.now)) }
+    requires { AreSeen (K.known known.now) seen.old }
+    ensures lines { OnOk result (lines.new ≡ lines.old ++ reference_lines (K.known known.now) section.now entry.now (references_view references.now)) }
+    ensures seen { AreSeen (K.known known.now) seen.new }
 {
-    let mut seen = Seen::new();
     for reference in references {
-        seen = pass_reference(known, section, entry, seen, *reference, lines)?;
+        pass_reference(known, section, entry, seen, *reference, lines)?;
     }
     Ok(())
 }

@@ -1,4 +1,4 @@
-use Rattle.std.proofs.Common.{◌≡◌, ◌++◌, map, IfSome}
+use Rattle.std.proofs.Common.{◌≡◌, ◌++◌, map}
 use Rattle.std.specs.List.{filter_map}
 use Rattle.def_grammar.specs.Wiring.{SpecialVia, special_via, via_of_item}
 use Rattle.wire_parts.specs.PathViews.{items_of}
@@ -11,9 +11,9 @@ use Rattle.entry_checks.proofs.off_layers.put_special_items.Given as goal
 abbrev pub invariant-loop-item : goal.invariant-loop-item
 invariant-loop-item g l = record {
   put :
-      l.lines ++ map (off_layer_text l.owner) (off_layer_vias (via_layers l.library l.names) l.at.layer.now (filter_map (via_of_item (λ (v : SpecialVia). v.via)) (items_of special_via l.left)))
-      ≡ l.initial.lines ++ map (off_layer_text l.owner) (off_layer_vias (via_layers l.library l.names) l.fn.start.layer.now (filter_map (via_of_item (λ (v : SpecialVia). v.via)) (items_of special_via l.fn.items)));
-  kept : IfSome l.at.kept (λ vias. AreFound l.library l.names vias);
+      l.lines ++ map (off_layer_text l.owner) (off_layer_vias (via_layers l.library l.names) l.layer (filter_map (via_of_item (λ (v : SpecialVia). v.via)) (items_of special_via l.left)))
+      ≡ l.initial.lines ++ map (off_layer_text l.owner) (off_layer_vias (via_layers l.library l.names) l.fn.start (filter_map (via_of_item (λ (v : SpecialVia). v.via)) (items_of special_via l.fn.items)));
+  found : AreFound l.library l.names l.vias;
 }
 
 abbrev pub decreases-loop-item : goal.decreases-loop-item

@@ -1,4 +1,4 @@
-use Rattle.std.proofs.Common.{◌≡◌, ◌++◌, flat_map, length, map, IfSome}
+use Rattle.std.proofs.Common.{◌≡◌, ◌++◌, flat_map, length, map}
 use Rattle.wire_parts.specs.SpecialWireViews.{special_paths_left}
 use Rattle.entry_rules.specs.OffLayer.{off_layer_in_special_wire}
 use Rattle.entry_rules.specs.ViaLayers.{via_layers}
@@ -11,7 +11,7 @@ invariant-loop-wire g l = record {
   put :
       l.lines ++ map (off_layer_text l.owner) (flat_map (off_layer_in_special_wire (via_layers l.library l.names)) (special_paths_left l.left))
       ≡ l.initial.lines ++ map (off_layer_text l.owner) (flat_map (off_layer_in_special_wire (via_layers l.library l.names)) (special_paths_left l.fn.wires));
-  kept : IfSome l.kept (λ vias. AreFound l.library l.names vias);
+  found : AreFound l.library l.names l.vias;
 }
 
 abbrev pub decreases-loop-wire : goal.decreases-loop-wire

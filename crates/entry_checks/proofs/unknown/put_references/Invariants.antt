@@ -9,5 +9,5 @@ invariant-loop-reference g l = record {
   put :
       l.lines ++ reference_lines (g.K.Known.known l.known) l.section l.entry (references_view (drop l.reference-index l.references))
       ≡ l.fn.lines ++ reference_lines (g.K.Known.known l.known) l.section l.entry (references_view l.references);
-  seen : AreSeen (g.K.Known.known l.known) (record { layers = l.seen.0; vias = l.seen.1.0 });
+  seen : AreSeen (g.K.Known.known l.known) l.seen;
 }
