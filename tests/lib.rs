@@ -1,6 +1,6 @@
 //! Tests that are run and not proved: of sessions and of runs of scripts, of libraries and LEF texts, of names, of tokens, of pins, of
-//! texts that are read again, kept in pieces or asked for their statements, of the pieces of wires, rectangles that meet, sets of shapes, and sums of areas by the cells of a grid,
-//! and of a design whose names were made to collide.
+//! texts that are read again, kept in pieces or asked for their statements, of the pieces of wires, rectangles that meet, sets of
+//! shapes, sums of areas by the cells of a grid, and lines that are kept, and of a design whose names were made to collide.
 //! They try what no case folder can hold and what no program calls.
 #![tactic(auto)]
 
@@ -13,6 +13,7 @@ mod edits_in_a_heap;
 mod entry_names;
 mod grid_sums;
 mod heaps;
+mod kept_lines;
 mod lef_events;
 mod library_macros;
 mod meeting_pairs;

@@ -1,0 +1,3 @@
+mod OrderLemmas
+mod PlaceLemmas
+mod TurnLemmas

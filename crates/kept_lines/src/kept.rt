@@ -1,0 +1,139 @@
+//! Lines in the order of their bytes, which others take the place of.
+
+ghost use Rattle.std.specs.Prelude.{◌≡◌, ◌+◌, ◌++◌, ◌∷◌, [], ◌≤◌, ◌<◌, IfOk, List, OnOk, length, ℕ};
+ghost use Rattle.std.specs.List.{prefix_len};
+ghost use Rattle.design_model.specs.Lines.{IsOfItsKind};
+ghost use Rattle.design_model.specs.Order.{put_in_order, sorted_by_bytes, texts};
+ghost use Rattle.report_lines.specs.Kinds.{HaveTheirKinds};
+ghost use Rattle.line_laws.specs.Lines.{SameLines, times};
+ghost use Rattle.kept_lines.specs.Kept.{is_below};
+
+use design_model::diagnostic::{DiagLine, DiagLines};
+use design_model::sequence::{Bytes, Sequence};
+use report_lines::Lines;
+use std::alloc::{AllocError, Allocator, Global};
+use std::marker::Model;
+
+/// Lines of a report in the order of their bytes, repeats kept.
+#[derive(Drop)]
+pub struct KeptLines<A: Allocator = Global> {
+    lines: Vec<DiagLine<A>, A>,
+}
+
+impl<A: Allocator> Model for KeptLines<A> {
+    ghost use Rattle.std.specs.Prelude.{vec_capacity};
+    ghost use Rattle.design_model.specs.Order.{texts};
+    ghost use Rattle.kept_lines.specs.Kept.{AreInOrder, Kept};
+
+    ghost Value = { Kept };
+
+    ghost view = { λ k. record { lines = texts k.lines.items; room = vec_capacity k.lines } };
+
+    ghost invariant = { λ k. AreInOrder k.lines.items };
+}
+
+/// A copy of a line.
+fn copy_of<A: Allocator + Copy>(line: &DiagLine<A>, alloc: A) -> Result<DiagLine<A>, AllocError>
+    ensures { IfOk result (λ l. l ≡ line.now) }
+{
+    Ok(DiagLine {
+        kind: line.kind,
+        text: Bytes::from_slice(alloc, line.text.as_slice())?,
+    })
+}
+
+impl<A: Allocator + Copy> KeptLines<A> {
+    /// Keeps the lines of a report. It takes no memory.
+    pub fn of(lines: Lines<A>) -> KeptLines<A>
+        ensures { result.lines ≡ sorted_by_bytes lines }
+    {
+        KeptLines {
+            lines: lines.into_sorted().into_vec(),
+        }
+    }
+
+    /// How many lines there are.
+    pub fn len(&self) -> usize
+        ensures { result ≡ length self.now.lines }
+    {
+        self.lines.len()
+    }
+
+    /// A copy of the lines, in their order. It takes one allocation for the list and at most one for each line.
+    pub fn copied(&self, alloc: A) -> Result<DiagLines<A>, AllocError>
+        ensures lines { IfOk result (λ l. texts l ≡ self.now.lines) }
+        ensures kinds { IfOk result (λ l. HaveTheirKinds l) }
+        ensures in_order { sorted_by_bytes self.now.lines ≡ self.now.lines }
+    {
+        let mut copies = Vec::with_capacity(alloc, self.lines.len())?;
+        for line in &self.lines {
+            copies.push(copy_of(line, alloc)?)?;
+        }
+        Ok(Sequence::from_vec(copies))
+    }
+
+    /// Makes room for so many more lines.
+    pub fn reserve(&mut self, count: usize) -> Result<(), AllocError>
+        ensures room { OnOk result (length self.new.lines + count ≤ self.new.room) }
+        ensures lines { self.new.lines ≡ self.old.lines }
+        ensures kept { self.old.room ≤ self.new.room }
+    {
+        self.lines.reserve(count)
+    }
+
+    /// How many lines are below these bytes, which is where a line of them stands or would stand.
+    fn place(&self, line: &[u8]) -> usize
+        ensures { result ≡ prefix_len (is_below line.now) self.now.lines }
+    {
+        self.lines
+            .partition_point(|l| l.text.as_slice().cmp(line).is_lt())
+    }
+
+    /// Puts a line in its place.
+    fn put(&mut self, line: DiagLine<A>)
+        requires room { length self.old.lines < self.old.room }
+        requires kind { IsOfItsKind line }
+        ensures lines { self.new.lines ≡ put_in_order line.text self.old.lines }
+        ensures room { self.new.room ≡ self.old.room }
+    {
+        let place = self.place(line.text.as_slice());
+        self.lines.insert(place, line).unwrap();
+    }
+
+    /// Takes out one line of these bytes.
+    fn take(&mut self, line: &[u8])
+        requires { 0 < times line.now self.old.lines }
+        ensures taken { SameLines self.old.lines (line.now ∷ self.new.lines) }
+        ensures len { length self.new.lines + 1 ≡ length self.old.lines }
+        ensures room { self.new.room ≡ self.old.room }
+    {
+        let place = self.place(line);
+        drop(self.lines.remove(place));
+    }
+
+    /// Takes lines out, each as often as it stands in `out`. It takes no memory. Each line that goes moves those above it.
+    pub fn take_all(&mut self, out: &[DiagLine<A>])
+        requires { (q : List ℕ) → times q (texts out.now) ≤ times q self.old.lines }
+        ensures taken { SameLines self.old.lines (texts out.now ++ self.new.lines) }
+        ensures len { length self.new.lines + length out.now ≡ length self.old.lines }
+        ensures room { self.new.room ≡ self.old.room }
+    {
+        for line in out {
+            self.take(line.text.as_slice());
+        }
+    }
+
+    /// Puts lines in, each in its place, and leaves `put` empty. It takes no memory. Each line that comes moves those above it, so
+    /// that for many lines among many a merge would be quicker.
+    pub fn put_all(&mut self, put: &mut Vec<DiagLine<A>, A>)
+        requires room { length self.old.lines + length put.old.items ≤ self.old.room }
+        requires kinds { HaveTheirKinds put.old.items }
+        ensures lines { SameLines self.new.lines (texts put.old.items ++ self.old.lines) }
+        ensures room { self.new.room ≡ self.old.room }
+        ensures none_left { put.new.items ≡ [] }
+    {
+        while let Some(line) = put.pop() {
+            self.put(line);
+        }
+    }
+}
