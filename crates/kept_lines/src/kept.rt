@@ -59,6 +59,22 @@ impl<A: Allocator + Copy> KeptLines<A> {
         self.lines.len()
     }
 
+    /// Puts copies of the lines behind others, in their order. It takes at most one allocation for each line, and those of the list.
+    pub fn copy_to(
+        &self,
+        alloc: A,
+        lines: &mut Vec<DiagLine<A>, A>,
+    ) -> Result<(), AllocError>
+        requires { HaveTheirKinds lines.old.items }
+        ensures lines { OnOk result (texts lines.new.items ≡ texts lines.old.items ++ self.now.lines) }
+        ensures kinds { OnOk result (HaveTheirKinds lines.new.items) }
+    {
+        for line in &self.lines {
+            lines.push(copy_of(line, alloc)?)?;
+        }
+        Ok(())
+    }
+
     /// A copy of the lines, in their order. It takes one allocation for the list and at most one for each line.
     pub fn copied(&self, alloc: A) -> Result<DiagLines<A>, AllocError>
         ensures lines { IfOk result (λ l. texts l ≡ self.now.lines) }
@@ -66,9 +82,7 @@ impl<A: Allocator + Copy> KeptLines<A> {
         ensures in_order { sorted_by_bytes self.now.lines ≡ self.now.lines }
     {
         let mut copies = Vec::with_capacity(alloc, self.lines.len())?;
-        for line in &self.lines {
-            copies.push(copy_of(line, alloc)?)?;
-        }
+        self.copy_to(alloc, &mut copies)?;
         Ok(Sequence::from_vec(copies))
     }
 
