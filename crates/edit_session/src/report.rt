@@ -16,12 +16,10 @@ ghost use Rattle.edit_session.specs.Sessions.{AreDiagnostics};
 use cell_library::library::Library;
 use def_reader::statement::Statement;
 use design_model::diagnostic::DiagLines;
-use design_names::names::names_of;
+use design_names::names::{Names, names_of};
 use design_text::text::DesignText;
-use entry_checks::known::Defined;
-use entry_checks::statement_lines::put_statement_lines;
+use entry_checks::statement_lines::StatementChecks;
 use entry_checks::unchecked::unchecked_in_library;
-use entry_references::reference::Reference;
 use line_laws::one::components_in_any_order;
 use line_laws::same::{maps_are_same, permutations_are_same};
 use line_laws::scales::scales_are_good;
@@ -38,31 +36,32 @@ use place_checks::sweep::sort_boxes;
 use report_lines::Lines;
 use std::alloc::{AllocError, Allocator};
 
-/// Puts the lines on one statement by itself behind others. The list of references is one that may be written over.
+/// Puts the lines on one statement by itself behind others.
 fn put_statement<'t, A: Allocator + Copy>(
-    defined: &Defined<'_, '_, '_, 't, A>,
+    checks: &mut StatementChecks<'_, '_, '_, 't, A>,
     statement: &Statement<'t>,
-    references: &mut Vec<Reference<'t>, A>,
     lines: &mut Lines<A>,
 ) -> Result<(), AllocError>
-    ensures { OnOk result (lines.new ≡ lines.old ++ statement_lines defined.now.library.now defined.now.names.now (record_view statement.now)) }
+    ensures lines { OnOk result (lines.new ≡ lines.old ++ statement_lines checks.old.library checks.old.design (record_view statement.now)) }
+    ensures same { checks.new ≡ checks.old }
 {
-    put_statement_lines(defined, statement, references, lines)?;
+    checks.put(statement, lines)?;
     Ok(())
 }
 
 /// Puts the lines on each of these statements by itself behind others, in one walk over them.
 fn put_each<'t, A: Allocator + Copy>(
     alloc: A,
-    defined: &Defined<'_, '_, '_, 't, A>,
+    library: &Library<'_, A>,
+    names: &Names<'_, 't, A>,
     records: &[Statement<'t>],
     lines: &mut Lines<A>,
 ) -> Result<(), AllocError>
-    ensures { OnOk result (lines.new ≡ lines.old ++ flat_map (statement_lines defined.now.library.now defined.now.names.now) (map record_view records.now)) }
+    ensures { OnOk result (lines.new ≡ lines.old ++ flat_map (statement_lines library.now names.now) (map record_view records.now)) }
 {
-    let mut references = Vec::new(alloc);
+    let mut checks = StatementChecks::new(alloc, library, names);
     for statement in records {
-        put_statement(defined, statement, &mut references, lines)?;
+        put_statement(&mut checks, statement, lines)?;
     }
     Ok(())
 }
@@ -80,11 +79,7 @@ fn put_named<'l, 't, A: Allocator + Copy>(
     ensures nets { IfOk result (IsDrawingOf library.now (map record_view records.entry.now)) }
 {
     let names = names_of(alloc, library.hash_builder(), records)?;
-    let defined = Defined {
-        library,
-        names: &names,
-    };
-    put_each(alloc, &defined, records, lines)?;
+    put_each(alloc, library, &names, records, lines)?;
     NetDrawing::new(alloc, library, &names)
 }
 

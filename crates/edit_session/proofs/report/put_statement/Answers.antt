@@ -7,9 +7,9 @@ use Rattle.entry_rules.specs.ViaLayers.{via_layers}
 use Rattle.edit_session.proofs.ReportLemmas.{three_families}
 use Rattle.edit_session.proofs.report.put_statement.Goals as goal
 
-pub returns : goal.returns
-returns g c =
-    let library = c.args.defined.now.library.now in
-    let design = c.args.defined.now.names.now in
+pub returns-clause-lines : goal.returns-clause-lines
+returns-clause-lines g c =
+    let library = c.args.checks.now.library in
+    let design = c.args.checks.now.design in
     let r = record_view c.args.statement.now in
-    c.in_ok-put_statement_lines.ensures ∙ three_families c.args.lines.now (unknown_lines_of (known_by library design) r) (off_layer_lines_of (via_layers library design) r) (unchecked_lines_of r)
+    c.in_ok-put.ensures.lines ∙ three_families c.args.lines.now (unknown_lines_of (known_by library design) r) (off_layer_lines_of (via_layers library design) r) (unchecked_lines_of r)
