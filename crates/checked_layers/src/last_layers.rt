@@ -1,34 +1,36 @@
 //! Layers that were looked up last.
 
-ghost use Rattle.std.specs.Prelude.{◌≡◌, ◌<◌, true, List, IfSome};
+ghost use Rattle.std.specs.Prelude.{◌≡◌, ◌<◌, true, IfSome};
 ghost use Rattle.std.specs.Option.{option_map};
-ghost use Rattle.lef_grammar.specs.Definitions.{Layer};
 ghost use Rattle.checked_layers.specs.CheckedLayers.{checked_place};
-ghost use Rattle.checked_layers.specs.LastLayers.{AreFound, IsFound};
+ghost use Rattle.checked_layers.specs.LastLayers.{IsFound};
 
 use crate::by_name::checked_layer;
 use cell_library::library::Library;
 use design_model::identifier::LayerId;
-use std::alloc::Allocator;
+use std::alloc::{Allocator, Global};
 use std::marker::Model;
 
 /// How many slots there are for layers.
 const SLOTS: usize = 16;
 
-/// Layers of TYPE ROUTING or CUT of one library that were looked up last, in slots by their names. One that is looked up again is
-/// known by its name, without a hash.
+/// A library, and those of its layers of TYPE ROUTING or CUT that were looked up last, in slots by their names. One that is looked
+/// up again is known by its name, without a hash.
 #[derive(Drop)]
-pub struct LastLayers {
+pub struct LastLayers<'a, 'l, A: Allocator = Global> {
+    library: &'a Library<'l, A>,
     slots: [Option<LayerId>; SLOTS],
 }
 
-impl Model for LastLayers {
-    ghost use Rattle.std.specs.Prelude.{List, Option};
-    ghost use Rattle.design_model.specs.declared.identifier.LayerId.{LayerId};
+impl<'a, 'l, A: Allocator> Model for LastLayers<'a, 'l, A> {
+    ghost use Rattle.lef_grammar.specs.Library.{Library as TheLibrary};
+    ghost use Rattle.checked_layers.specs.LastLayers.{AreFound};
 
-    ghost Value = { List (Option LayerId) };
+    ghost Value = { TheLibrary };
 
-    ghost view = { λ l. l.slots };
+    ghost view = { λ l. l.library.now };
+
+    ghost invariant = { λ l. AreFound l.library.now.layers l.slots };
 }
 
 /// The slot of a name. Names of consecutive layers mostly have different ones.
@@ -59,32 +61,28 @@ fn is_named<A: Allocator + Copy>(
     }
 }
 
-impl LastLayers {
-    /// No layers, of any library.
-    pub fn new() -> LastLayers
-        ensures { (layers : List Layer) → AreFound layers result }
+impl<'a, 'l, A: Allocator + Copy> LastLayers<'a, 'l, A> {
+    /// No layers of a library yet.
+    pub fn new(library: &'a Library<'l, A>) -> LastLayers<'a, 'l, A>
+        ensures { result ≡ library.entry.now }
     {
         LastLayers {
+            library,
             slots: [None; SLOTS],
         }
     }
 
     /// The layer of a name, where it is of TYPE ROUTING or CUT: what `checked_layer` gives.
-    pub fn layer_of<A: Allocator + Copy>(
-        &mut self,
-        library: &Library<'_, A>,
-        name: &[u8],
-    ) -> Option<LayerId>
-        requires { AreFound library.now.layers self.old }
-        ensures value { option_map (λ l. l.0) result ≡ checked_place library.now.layers name.now }
-        ensures found { AreFound library.now.layers self.new }
+    pub fn layer_of(&mut self, name: &[u8]) -> Option<LayerId>
+        ensures value { option_map (λ l. l.0) result ≡ checked_place self.old.layers name.now }
+        ensures same { self.new ≡ self.old }
     {
         let slot = slot_of(name);
         let last = self.slots[slot];
-        if is_named(library, last, name) {
+        if is_named(self.library, last, name) {
             return last;
         }
-        let found = checked_layer(library, name);
+        let found = checked_layer(self.library, name);
         self.slots[slot] = found;
         found
     }

@@ -1,12 +1,11 @@
 -- Entries that are drawn one after the other.
 use Rattle.std.proofs.Common.{◌≡◌, ℕ, suc, ◌+◌, ◌<◌, false, true, List, ◌∷◌, ◌++◌, Option, Some, None, drop, flat_map, get_or, length, map, refl, sym, ap, ◌∙◌, add-one, drop-cons}
 use Rattle.std.specs.List.{cons_option, filter_map}
-use Rattle.design_model.specs.declared.identifier.LayerId.{LayerId}
 use Rattle.lef_grammar.specs.Definitions.{Layer}
+use Rattle.lef_grammar.specs.Library.{Library}
 use Rattle.wire_rules.specs.Paths.{Piece}
 use Rattle.connection_rules.specs.NetParts.{Net, Wired, drawn, drawn_parts}
 use Rattle.net_lists.specs.Building.{with_parts}
-use Rattle.checked_layers.specs.LastLayers.{AreFound}
 use Rattle.drawn_parts.specs.Drawing.{Drawing, IsReady, put_pieces}
 use Rattle.drawn_parts.specs.EntryParts.{parts_drawn, parts_if}
 use Rattle.drawn_parts.proofs.PartLemmas.{drawn_all, parts_append, pieces_append, with_parts_append}
@@ -17,11 +16,11 @@ left_from xs i x below is = rw add-one (drop-cons xs i x below ∙ ap (λ y. y �
 not_begun : {X : Type 0} → false ≡ true → X
 not_begun e = let none : ⊥ = cc in absurd none
 
-module _ (layers : List Layer) where
-  -- nothing is drawn yet
-  pub none_begun : (last : List (Option LayerId)) (nets : List Net) → 0 < length nets → AreFound layers last → IsReady layers (record { is_begun = false; layers = last }) nets
-  none_begun last nets some found = record { some = some; begun = λ e. not_begun e; found = found }
+-- nothing is drawn yet
+pub none_begun : {A : Type 0} (library : Library) (nets : List Net) → 0 < length nets → IsReady {A = A} (record { is_begun = false; layers = library }) nets
+none_begun library nets some = record { some = some; begun = λ e. not_begun e }
 
+module _ (layers : List Layer) where
   -- all pieces of an entry were put in, from a net on whose last part isn't begun
   pub put_apart : (w : Wired) (nets : List Net) (d : Drawing) → d ≡ put_pieces layers w.pieces (record { is_begun = false; nets = nets }) → d.nets ≡ with_parts (parts_drawn layers w) nets
   put_apart w nets d h = ap (λ (x : Drawing). x.nets) h ∙ drawn_all layers w.pieces nets

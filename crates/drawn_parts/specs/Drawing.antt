@@ -7,25 +7,23 @@ use Rattle.wire_rules.specs.Paths.{Piece}
 use Rattle.wire_rules.specs.ViaShapes.{NamedShape}
 use Rattle.connection_rules.specs.NetParts.{Net, goes_on, shapes_of}
 use Rattle.connection_rules.specs.PinShapes.{checked_named}
-use Rattle.checked_layers.specs.LastLayers.{AreFound}
 use Rattle.net_lists.specs.Building.{last_parts, with_part, with_shape}
 use Rattle.wire_shapes.specs.RuleViews.{shape_view}
 use Rattle.wire_shapes.specs.declared.wiring_makings.LayerShape.{LayerShape}
-use Rattle.drawn_parts.specs.declared.drawing.Walk.{Walk}
+use Rattle.drawn_parts.specs.declared.drawing.PartWalk.{PartWalk}
 
 -- the nets, and whether the part of what is drawn at present stands there
 pub record Drawing : Type 0 where
   pub is_begun : Bool
   pub nets : List Net
 
-abbrev pub drawing : Walk → List Net → Drawing
+abbrev pub drawing : {A : Type 0} → PartWalk A → List Net → Drawing
 drawing walk nets = record { is_begun = walk.is_begun; nets = nets }
 
--- there is a net, it has a part where that is begun, and the layers that are kept were found
-pub record IsReady (layers : List Layer) (walk : Walk) (nets : List Net) : Type 0 where
+-- there is a net, and it has a part where that is begun
+pub record IsReady {A : Type 0} (walk : PartWalk A) (nets : List Net) : Type 0 where
   pub some : 0 < length nets
   pub begun : walk.is_begun ≡ true → 0 < length (last_parts nets)
-  pub found : AreFound layers walk.layers
 
 abbrev pub named_shapes : Option LayerShape → List NamedShape
 named_shapes None = []

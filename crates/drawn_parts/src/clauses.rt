@@ -9,9 +9,8 @@ ghost use Rattle.def_parts.specs.PointViews.{corners_view};
 ghost use Rattle.wire_parts.specs.SpecialNetViews.{special_clause_view, special_clauses_of};
 ghost use Rattle.drawn_parts.specs.Drawing.{IsReady, drawing, put_pieces};
 
-use crate::drawing::{Walk, put_piece};
+use crate::drawing::{PartWalk, put_piece};
 use crate::vias::put_vias;
-use cell_library::library::Library;
 use def_parts::points::Corners;
 use design_model::geometry::Rect;
 use design_wires::wires::DesignWires;
@@ -32,15 +31,15 @@ fn corner_rectangle(corners: &Corners<'_>) -> Rect
 
 /// Puts what a clause draws.
 fn put_clause<'a, 'l: 'a, 'r: 'a, 't: 'a, A: Allocator + Copy>(
-    library: &Library<'_, A>,
     wires: &DesignWires<'a, 'l, 'r, 't, A>,
     clause: &SpecialClause<'_>,
-    walk: &mut Walk,
+    walk: &mut PartWalk<'_, '_, A>,
     nets: &mut NetList<'_, A>,
 ) -> Result<(), AllocError>
-    requires { IsReady library.now.layers walk.old nets.old }
-    ensures ok { OnOk result (drawing walk.new nets.new ≡ put_pieces library.now.layers (clause_pieces wires.now.library wires.now.design (scale wires.now.design) (special_clause_view clause.now)) (drawing walk.old nets.old)) }
-    ensures ready { OnOk result (IsReady library.now.layers walk.new nets.new) }
+    requires { IsReady walk.old nets.old }
+    ensures ok { OnOk result (drawing walk.new nets.new ≡ put_pieces walk.old.layers.layers (clause_pieces wires.now.library wires.now.design (scale wires.now.design) (special_clause_view clause.now)) (drawing walk.old nets.old)) }
+    ensures ready { OnOk result (IsReady walk.new nets.new) }
+    ensures same { OnOk result (walk.new.layers ≡ walk.old.layers) }
 {
     match clause {
         SpecialClause::Rectangle(layer, corners) => {
@@ -48,9 +47,9 @@ fn put_clause<'a, 'l: 'a, 'r: 'a, 't: 'a, A: Allocator + Copy>(
                 layer: layer.bytes,
                 rect: corner_rectangle(corners),
             };
-            put_piece(library, &Piece::Rectangle(shape), walk, nets)
+            put_piece(&Piece::Rectangle(shape), walk, nets)
         }
-        SpecialClause::Vias(vias) => put_vias(library, wires, vias, walk, nets),
+        SpecialClause::Vias(vias) => put_vias(wires, vias, walk, nets),
         _ => Ok(()),
     }
 }
@@ -58,19 +57,19 @@ fn put_clause<'a, 'l: 'a, 'r: 'a, 't: 'a, A: Allocator + Copy>(
 /// Puts what clauses draw, one after the other.
 #[tactic(auto, using(crate::proofs::PartLemmas::pieces_append))]
 pub(crate) fn put_clauses<'p, 'a, 'l: 'a, 'r: 'a, 't: 'a, A: Allocator + Copy>(
-    library: &Library<'_, A>,
     wires: &DesignWires<'a, 'l, 'r, 't, A>,
     clauses: Parts<'p, SpecialClause<'p>>,
-    walk: &mut Walk,
+    walk: &mut PartWalk<'_, '_, A>,
     nets: &mut NetList<'_, A>,
 ) -> Result<(), AllocError>
-    requires { IsReady library.now.layers walk.old nets.old }
-    ensures ok { OnOk result (drawing walk.new nets.new ≡ put_pieces library.now.layers (flat_map (clause_pieces wires.now.library wires.now.design (scale wires.now.design)) (special_clauses_of clauses.entry)) (drawing walk.old nets.old)) }
-    ensures ready { OnOk result (IsReady library.now.layers walk.new nets.new) }
+    requires { IsReady walk.old nets.old }
+    ensures ok { OnOk result (drawing walk.new nets.new ≡ put_pieces walk.old.layers.layers (flat_map (clause_pieces wires.now.library wires.now.design (scale wires.now.design)) (special_clauses_of clauses.entry)) (drawing walk.old nets.old)) }
+    ensures ready { OnOk result (IsReady walk.new nets.new) }
+    ensures same { OnOk result (walk.new.layers ≡ walk.old.layers) }
 {
     let mut left = clauses;
     while let Some(clause) = left.next() {
-        put_clause(library, wires, &clause, walk, nets)?;
+        put_clause(wires, &clause, walk, nets)?;
     }
     Ok(())
 }

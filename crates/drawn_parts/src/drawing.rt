@@ -11,14 +11,27 @@ ghost use Rattle.drawn_parts.specs.Drawing.{IsReady, drawing, named_shapes, put_
 use cell_library::library::Library;
 use checked_layers::LastLayers;
 use net_lists::NetList;
-use std::alloc::{AllocError, Allocator};
+use std::alloc::{AllocError, Allocator, Global};
 use wire_shapes::{LayerShape, Piece};
 
-/// What is drawn at present: whether its part stands in the list, where it comes with its first shape; and the layers of its shapes.
+/// What a drawing goes on with from one entry to the next: the layers of its shapes; and whether the part of what is drawn at
+/// present stands in the list, where it comes with its first shape.
 #[derive(Drop)]
-pub(crate) struct Walk {
+pub struct PartWalk<'a, 'l, A: Allocator = Global> {
     pub(crate) is_begun: bool,
-    pub(crate) layers: LastLayers,
+    pub(crate) layers: LastLayers<'a, 'l, A>,
+}
+
+impl<'a, 'l, A: Allocator + Copy> PartWalk<'a, 'l, A> {
+    /// That of a drawing which has put nothing yet.
+    pub fn new(library: &'a Library<'l, A>) -> PartWalk<'a, 'l, A>
+        ensures { result.layers ≡ library.entry.now }
+    {
+        PartWalk {
+            is_begun: false,
+            layers: LastLayers::new(library),
+        }
+    }
 }
 
 /// Whether a piece is a further shape of the via before it.
@@ -54,16 +67,16 @@ pub(crate) fn length_of(piece: &Piece<'_>) -> u64
 
 /// Puts a shape into the present part, where its layer is of TYPE ROUTING or CUT.
 pub(crate) fn put_shape<A: Allocator + Copy>(
-    library: &Library<'_, A>,
     shape: &LayerShape<'_>,
-    walk: &mut Walk,
+    walk: &mut PartWalk<'_, '_, A>,
     nets: &mut NetList<'_, A>,
 ) -> Result<(), AllocError>
-    requires { IsReady library.now.layers walk.old nets.old }
-    ensures ok { OnOk result (drawing walk.new nets.new ≡ put_named library.now.layers (shape_view shape.now ∷ []) (drawing walk.old nets.old)) }
-    ensures ready { OnOk result (IsReady library.now.layers walk.new nets.new) }
+    requires { IsReady walk.old nets.old }
+    ensures ok { OnOk result (drawing walk.new nets.new ≡ put_named walk.old.layers.layers (shape_view shape.now ∷ []) (drawing walk.old nets.old)) }
+    ensures ready { OnOk result (IsReady walk.new nets.new) }
+    ensures same { OnOk result (walk.new.layers ≡ walk.old.layers) }
 {
-    let Some(layer) = walk.layers.layer_of(library, shape.layer) else {
+    let Some(layer) = walk.layers.layer_of(shape.layer) else {
         return Ok(());
     };
     if !walk.is_begun {
@@ -75,20 +88,20 @@ pub(crate) fn put_shape<A: Allocator + Copy>(
 
 /// Puts a piece into the present part where it is a further shape of the via before it, and else into a part of its own.
 pub(crate) fn put_piece<A: Allocator + Copy>(
-    library: &Library<'_, A>,
     piece: &Piece<'_>,
-    walk: &mut Walk,
+    walk: &mut PartWalk<'_, '_, A>,
     nets: &mut NetList<'_, A>,
 ) -> Result<(), AllocError>
-    requires { IsReady library.now.layers walk.old nets.old }
-    ensures ok { OnOk result (drawing walk.new nets.new ≡ put_piece library.now.layers (piece_view piece.now) (drawing walk.old nets.old)) }
-    ensures ready { OnOk result (IsReady library.now.layers walk.new nets.new) }
+    requires { IsReady walk.old nets.old }
+    ensures ok { OnOk result (drawing walk.new nets.new ≡ put_piece walk.old.layers.layers (piece_view piece.now) (drawing walk.old nets.old)) }
+    ensures ready { OnOk result (IsReady walk.new nets.new) }
+    ensures same { OnOk result (walk.new.layers ≡ walk.old.layers) }
 {
     if !is_further(piece) {
         walk.is_begun = false;
     }
     match shape_of(piece) {
-        Some(shape) => put_shape(library, &shape, walk, nets),
+        Some(shape) => put_shape(&shape, walk, nets),
         None => Ok(()),
     }
 }

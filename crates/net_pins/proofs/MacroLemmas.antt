@@ -1,5 +1,5 @@
 -- The shapes of a pin of a macro on layers of TYPE ROUTING or CUT, layer by layer.
-use Rattle.std.proofs.Common.{◌≡◌, ℕ, ℤ, pos, neg_ℤ, ◌-ℤ◌, Bool, true, false, List, [], ◌∷◌, ◌++◌, filter, map, refl, ap, ap₂, ◌∙◌, arith, Option, Some, None, if◌then◌else◌}
+use Rattle.std.proofs.Common.{◌≡◌, ℕ, ℤ, pos, neg_ℤ, ◌-ℤ◌, Bool, true, false, ◌||◌, List, [], ◌∷◌, ◌++◌, filter, map, refl, sym, ap, ap₂, ◌∙◌, arith, Option, Some, None, if◌then◌else◌}
 use Rattle.std.specs.Int.{int_min, int_max}
 use Rattle.std.proofs.lemmas.Int.{ints, clamps}
 use Rattle.std.proofs.lemmas.List.{map-append}
@@ -11,8 +11,9 @@ use Rattle.lef_grammar.specs.Definitions.{Distances, Layer, LayerShapes}
 use Rattle.lef_grammar.specs.Measures.{Shape, boundary_of, moved_by, on_layer, on_layer_if, place_among, point_or_0, shapes_in}
 use Rattle.connection_rules.specs.PinShapes.{checked, is_checked, placed_shape}
 use Rattle.checked_layers.specs.CheckedLayers.{if_checked}
-use Rattle.net_pins.specs.MacroPins.{all_checked}
-use Rattle.net_pins.proofs.ShapeLemmas.{filter_both}
+use Rattle.connection_rules.specs.Terminals.{is_some_shape}
+use Rattle.net_pins.specs.MacroPins.{all_checked, layer_checked}
+use Rattle.net_pins.proofs.ShapeLemmas.{filter_both, some_in_both}
 
 all_on : (u n : ℕ) (o : Point) (rs : List (Distances × Distances)) (test : ℕ → Bool) (b : Bool) → test n ≡ b
     → filter (λ (s : Shape). test s.layer) (map (moved_by o) (on_layer u rs n)) ≡ (if b then map (moved_by o) (on_layer u rs n) else [])
@@ -37,6 +38,21 @@ layer_by_layer u o layers (s ∷ ss) =
     ap (checked layers) (map-append (moved_by o) here (shapes_in u layers ss))
     ∙ filter_both (λ (t : Shape). is_checked layers t.layer) (map (moved_by o) here) (map (moved_by o) (shapes_in u layers ss))
     ∙ ap₂ (λ (xs ys : List Shape). xs ++ ys) (one_layer u o layers s.rectangles (place_among layers s.layer)) (layer_by_layer u o layers ss)
+
+-- whether the first of some layers has a shape, or one behind it
+module _ (u : ℕ) (o : Point) (layers : List Layer) (left rest : List LayerShapes) (s : LayerShapes) (here all : Bool) (is : left ≡ s ∷ rest) (so_far : is_some_shape (all_checked u o layers left) ≡ all) (h : here ≡ is_some_shape (layer_checked u o layers s)) where
+  first_or_later : (here || is_some_shape (all_checked u o layers rest)) ≡ all
+  first_or_later =
+      ap (λ (b : Bool). b || is_some_shape (all_checked u o layers rest)) h
+      ∙ sym (some_in_both (layer_checked u o layers s) (all_checked u o layers rest))
+      ∙ ap (λ (ls : List LayerShapes). is_some_shape (all_checked u o layers ls)) (sym is)
+      ∙ so_far
+
+  pub some_here : here ≡ true → true ≡ all
+  some_here t = ap (λ (b : Bool). b || is_some_shape (all_checked u o layers rest)) (sym t) ∙ first_or_later
+
+  pub none_here : here ≡ false → is_some_shape (all_checked u o layers rest) ≡ all
+  none_here f = ap (λ (b : Bool). b || is_some_shape (all_checked u o layers rest)) (sym f) ∙ first_or_later
 
 -- the ends of an interval, ordered twice
 low : (a b : ℤ) → int_min (int_min a b) (int_max a b) ≡ int_min a b

@@ -1,5 +1,5 @@
 -- Pins that are put behind the parts of the last net, each once.
-use Rattle.std.specs.Prelude.{◌≡◌, ◌<◌, List, [], ◌∷◌, ◌++◌, length, if◌then◌else◌}
+use Rattle.std.specs.Prelude.{List, [], ◌∷◌, ◌++◌, if◌then◌else◌}
 use Rattle.statement_model.specs.Grammar.{Key}
 use Rattle.statement_model.specs.Reading.{is_among}
 use Rattle.connection_rules.specs.NetParts.{Net, Part, pin_part}
@@ -21,8 +21,3 @@ with_pin p s = if is_among s.0 p.words then s else (s.0 ++ p.words ∷ [], with_
 abbrev pub with_pins : List NetPin → State → State
 with_pins [] s = s
 with_pins (p ∷ ps) s = with_pins ps (with_pin p s)
-
--- of all pins these are left to be put, and there is a net
-pub record PutsPins (all : List NetPin) (seen : List Key) (nets : List Net) (left : List NetPin) (seen_now : List Key) (nets_now : List Net) : Type 0 where
-  pub same : with_pins left (seen_now, nets_now) ≡ with_pins all (seen, nets)
-  pub net : 0 < length nets_now

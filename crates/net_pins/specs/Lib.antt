@@ -6,3 +6,4 @@ pub mod PortViews
 pub mod PortsLeft
 pub mod Putting
 pub mod SeenViews
+pub mod Walking

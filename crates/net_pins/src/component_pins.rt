@@ -14,19 +14,18 @@ ghost use Rattle.net_pins.specs.Putting.{HasPart};
 
 use crate::cell_place::CellPlace;
 use crate::macro_pins::{has_shape, put_shapes};
-use cell_library::library::Library;
 use cell_library::macro_view::MacroView;
 use cell_library::pin::Pin;
+use checked_layers::LastLayers;
 use design_wires::scale::Scale;
 use net_lists::NetList;
 use place_parts::component_parts::ComponentParts;
 use place_parts::standing::Standing;
 use std::alloc::{AllocError, Allocator};
 
-/// A pin of a macro, with the library that has the macro, and its name.
+/// A pin of a macro, with the macro and the pin's name.
 #[derive(Clone, Copy)]
 pub(crate) struct MacroPin<'a, 'l, 'n, A: Allocator> {
-    pub(crate) library: &'a Library<'l, A>,
     pub(crate) cell: MacroView<'a, 'l, A>,
     pub(crate) name: &'n [u8],
     pub(crate) pin: &'a Pin<'l, A>,
@@ -37,11 +36,13 @@ fn put_placed<A: Allocator + Copy>(
     pin: MacroPin<'_, '_, '_, A>,
     scale: Scale,
     component: &ComponentParts<'_>,
+    layers: &mut LastLayers<'_, '_, A>,
     nets: &mut NetList<'_, A>,
 ) -> Result<(), AllocError>
     requires { HasPart nets.old }
-    ensures ok { OnOk result (nets.new ≡ with_shapes (component_pin pin.entry.library.now (units_of scale) (component_view component.now) (cell_view pin.entry.cell).cell (pin_view (pin.entry.name.now, pin.entry.pin.now))).shapes nets.old) }
+    ensures ok { OnOk result (nets.new ≡ with_shapes (component_pin layers.old (units_of scale) (component_view component.now) (cell_view pin.entry.cell).cell (pin_view (pin.entry.name.now, pin.entry.pin.now))).shapes nets.old) }
     ensures part { OnOk result (HasPart nets.new) }
+    ensures same { OnOk result (layers.new ≡ layers.old) }
 {
     let Some(standing) = component.standing else {
         return Ok(());
@@ -50,7 +51,7 @@ fn put_placed<A: Allocator + Copy>(
         return Ok(());
     };
     let place = CellPlace::of(pin.cell, scale, spot);
-    put_shapes(pin.library, place, pin.pin.shapes.as_slice(), nets)
+    put_shapes(layers, place, pin.pin.shapes.as_slice(), nets)
 }
 
 /// Puts a component's pin behind the parts of the last net, where it counts.
@@ -58,15 +59,17 @@ pub(crate) fn put_component_pin<A: Allocator + Copy>(
     pin: MacroPin<'_, '_, '_, A>,
     scale: Scale,
     component: &ComponentParts<'_>,
+    layers: &mut LastLayers<'_, '_, A>,
     nets: &mut NetList<'_, A>,
 ) -> Result<(), AllocError>
     requires { 0 < length nets.old }
-    ensures ok { OnOk result (nets.new ≡ with_parts (counted (component_pin pin.entry.library.now (units_of scale) (component_view component.now) (cell_view pin.entry.cell).cell (pin_view (pin.entry.name.now, pin.entry.pin.now)))) nets.old) }
+    ensures ok { OnOk result (nets.new ≡ with_parts (counted (component_pin layers.old (units_of scale) (component_view component.now) (cell_view pin.entry.cell).cell (pin_view (pin.entry.name.now, pin.entry.pin.now)))) nets.old) }
     ensures net { OnOk result (0 < length nets.new) }
+    ensures same { OnOk result (layers.new ≡ layers.old) }
 {
-    if !has_shape(pin.library, pin.pin.shapes.as_slice()) {
+    if !has_shape(layers, pin.pin.shapes.as_slice()) {
         return Ok(());
     }
     nets.begin_part(true)?;
-    put_placed(pin, scale, component, nets)
+    put_placed(pin, scale, component, layers, nets)
 }

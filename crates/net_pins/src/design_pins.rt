@@ -23,8 +23,7 @@ ghost use Rattle.net_pins.specs.Putting.{HasPart};
 use crate::port_place::PortPlace;
 use crate::ports::{is_port, place_ahead};
 use crate::sources::Sources;
-use cell_library::library::Library;
-use checked_layers::checked_layer;
+use checked_layers::LastLayers;
 use def_parts::points::Corners;
 use design_model::geometry::{Point, Rect};
 use net_lists::NetList;
@@ -54,16 +53,17 @@ fn via_rectangle(rect: Rect, at: Point) -> Rect
 
 /// Puts a rectangle into the last part, where the layer of this name is one of TYPE ROUTING or CUT.
 fn put_named<A: Allocator + Copy>(
-    library: &Library<'_, A>,
+    layers: &mut LastLayers<'_, '_, A>,
     layer: &[u8],
     rect: Rect,
     nets: &mut NetList<'_, A>,
 ) -> Result<(), AllocError>
     requires { HasPart nets.old }
-    ensures ok { OnOk result (nets.new ≡ with_shapes (on_place_if (rectangle_of rect) (checked_place library.now.layers layer.now)) nets.old) }
+    ensures ok { OnOk result (nets.new ≡ with_shapes (on_place_if (rectangle_of rect) (checked_place layers.old.layers layer.now)) nets.old) }
     ensures part { OnOk result (HasPart nets.new) }
+    ensures same { OnOk result (layers.new ≡ layers.old) }
 {
-    match checked_layer(library, layer) {
+    match layers.layer_of(layer) {
         Some(id) => nets.push_shape(id, rect),
         None => Ok(()),
     }
@@ -74,17 +74,20 @@ fn put_via<'a, 'l: 'a, 'r: 'a, 't: 'a, A: Allocator + Copy>(
     of: &Sources<'_, 'a, 'l, 'r, 't, A>,
     via: &PinVia<'t>,
     place: PortPlace,
+    layers: &mut LastLayers<'_, '_, A>,
     nets: &mut NetList<'_, A>,
 ) -> Result<(), AllocError>
-    requires { HasPart nets.old }
+    requires part { HasPart nets.old }
+    requires known { layers.old ≡ of.now.library.now }
     ensures ok { OnOk result (nets.new ≡ with_shapes (checked_named of.now.library.now.layers (map (turned_shape (port_place_view place)) (clause_shapes (vias_in of.now) (pin_has_via (pin_via_view via.now))))) nets.old) }
     ensures part { OnOk result (HasPart nets.new) }
+    ensures known { OnOk result (layers.new ≡ of.now.library.now) }
 {
     let at = via.at.place();
     let mut shapes = of.via_shapes(via.name.bytes);
     while let Some(shape) = shapes.next() {
         let rect = place.place(via_rectangle(shape.rect, at));
-        put_named(of.library, shape.layer, rect, nets)?;
+        put_named(layers, shape.layer, rect, nets)?;
     }
     Ok(())
 }
@@ -94,11 +97,14 @@ fn put_clause<'a, 'l: 'a, 'r: 'a, 't: 'a, A: Allocator + Copy>(
     of: &Sources<'_, 'a, 'l, 'r, 't, A>,
     clause: &PinClause<'t>,
     place: Option<PortPlace>,
+    layers: &mut LastLayers<'_, '_, A>,
     nets: &mut NetList<'_, A>,
 ) -> Result<(), AllocError>
-    requires { HasPart nets.old }
+    requires part { HasPart nets.old }
+    requires known { layers.old ≡ of.now.library.now }
     ensures ok { OnOk result (nets.new ≡ with_shapes (checked_named of.now.library.now.layers (clause_if (vias_in of.now) (option_map port_place_view place) (pin_clause_view clause.now))) nets.old) }
     ensures part { OnOk result (HasPart nets.new) }
+    ensures known { OnOk result (layers.new ≡ of.now.library.now) }
 {
     let Some(place) = place else {
         return Ok(());
@@ -106,9 +112,9 @@ fn put_clause<'a, 'l: 'a, 'r: 'a, 't: 'a, A: Allocator + Copy>(
     match clause {
         PinClause::Rectangle(rectangle) => {
             let rect = place.place(corner_rectangle(&rectangle.corners));
-            put_named(of.library, rectangle.layer.bytes, rect, nets)
+            put_named(layers, rectangle.layer.bytes, rect, nets)
         }
-        PinClause::Via(via) => put_via(of, via, place, nets),
+        PinClause::Via(via) => put_via(of, via, place, layers, nets),
         _ => Ok(()),
     }
 }
@@ -117,11 +123,14 @@ fn put_clause<'a, 'l: 'a, 'r: 'a, 't: 'a, A: Allocator + Copy>(
 fn put_ports<'a, 'l: 'a, 'r: 'a, 't: 'a, A: Allocator + Copy>(
     of: &Sources<'_, 'a, 'l, 'r, 't, A>,
     pin: &PinParts<'t>,
+    layers: &mut LastLayers<'_, '_, A>,
     nets: &mut NetList<'_, A>,
 ) -> Result<(), AllocError>
-    requires { HasPart nets.old }
+    requires part { HasPart nets.old }
+    requires known { layers.old ≡ of.now.library.now }
     ensures ok { OnOk result (nets.new ≡ with_shapes (design_pin of.now.library.now of.now.names.now (units_of of.now.scale) (pin_view pin.now)).shapes nets.old) }
     ensures part { OnOk result (HasPart nets.new) }
+    ensures known { OnOk result (layers.new ≡ of.now.library.now) }
 {
     let mut place = place_ahead(&pin.clauses);
     let mut left = pin.clauses.again();
@@ -129,7 +138,7 @@ fn put_ports<'a, 'l: 'a, 'r: 'a, 't: 'a, A: Allocator + Copy>(
         if is_port(&clause) {
             place = place_ahead(&left);
         } else {
-            put_clause(of, &clause, place, nets)?;
+            put_clause(of, &clause, place, layers, nets)?;
         }
     }
     Ok(())
@@ -139,12 +148,15 @@ fn put_ports<'a, 'l: 'a, 'r: 'a, 't: 'a, A: Allocator + Copy>(
 fn via_has_shape<'a, 'l: 'a, 'r: 'a, 't: 'a, A: Allocator + Copy>(
     of: &Sources<'_, 'a, 'l, 'r, 't, A>,
     via: &PinVia<'t>,
+    layers: &mut LastLayers<'_, '_, A>,
 ) -> bool
-    ensures { result ≡ is_some_shape (checked_named of.now.library.now.layers (clause_shapes (vias_in of.now) (pin_has_via (pin_via_view via.now)))) }
+    requires { layers.old ≡ of.now.library.now }
+    ensures value { result ≡ is_some_shape (checked_named of.now.library.now.layers (clause_shapes (vias_in of.now) (pin_has_via (pin_via_view via.now)))) }
+    ensures known { layers.new ≡ of.now.library.now }
 {
     let mut shapes = of.via_shapes(via.name.bytes);
     while let Some(shape) = shapes.next() {
-        if checked_layer(of.library, shape.layer).is_some() {
+        if layers.layer_of(shape.layer).is_some() {
             return true;
         }
     }
@@ -155,14 +167,15 @@ fn via_has_shape<'a, 'l: 'a, 'r: 'a, 't: 'a, A: Allocator + Copy>(
 fn clause_has_shape<'a, 'l: 'a, 'r: 'a, 't: 'a, A: Allocator + Copy>(
     of: &Sources<'_, 'a, 'l, 'r, 't, A>,
     clause: &PinClause<'t>,
+    layers: &mut LastLayers<'_, '_, A>,
 ) -> bool
-    ensures { result ≡ is_some_shape (checked_named of.now.library.now.layers (clause_shapes (vias_in of.now) (pin_clause_view clause.now))) }
+    requires { layers.old ≡ of.now.library.now }
+    ensures value { result ≡ is_some_shape (checked_named of.now.library.now.layers (clause_shapes (vias_in of.now) (pin_clause_view clause.now))) }
+    ensures known { layers.new ≡ of.now.library.now }
 {
     match clause {
-        PinClause::Rectangle(rectangle) => {
-            checked_layer(of.library, rectangle.layer.bytes).is_some()
-        }
-        PinClause::Via(via) => via_has_shape(of, via),
+        PinClause::Rectangle(rectangle) => { layers.layer_of(rectangle.layer.bytes).is_some() }
+        PinClause::Via(via) => via_has_shape(of, via, layers),
         _ => false,
     }
 }
@@ -171,12 +184,15 @@ fn clause_has_shape<'a, 'l: 'a, 'r: 'a, 't: 'a, A: Allocator + Copy>(
 fn counts<'a, 'l: 'a, 'r: 'a, 't: 'a, A: Allocator + Copy>(
     of: &Sources<'_, 'a, 'l, 'r, 't, A>,
     pin: &PinParts<'t>,
+    layers: &mut LastLayers<'_, '_, A>,
 ) -> bool
-    ensures { result ≡ (design_pin of.now.library.now of.now.names.now (units_of of.now.scale) (pin_view pin.now)).counts }
+    requires { layers.old ≡ of.now.library.now }
+    ensures value { result ≡ (design_pin of.now.library.now of.now.names.now (units_of of.now.scale) (pin_view pin.now)).counts }
+    ensures known { layers.new ≡ of.now.library.now }
 {
     let mut left = pin.clauses.again();
     while let Some(clause) = left.next() {
-        if clause_has_shape(of, &clause) {
+        if clause_has_shape(of, &clause, layers) {
             return true;
         }
     }
@@ -187,15 +203,18 @@ fn counts<'a, 'l: 'a, 'r: 'a, 't: 'a, A: Allocator + Copy>(
 pub(crate) fn put_design_pin<'a, 'l: 'a, 'r: 'a, 't: 'a, A: Allocator + Copy>(
     of: &Sources<'_, 'a, 'l, 'r, 't, A>,
     pin: &PinParts<'t>,
+    layers: &mut LastLayers<'_, '_, A>,
     nets: &mut NetList<'_, A>,
 ) -> Result<(), AllocError>
-    requires { 0 < length nets.old }
+    requires net { 0 < length nets.old }
+    requires known { layers.old ≡ of.now.library.now }
     ensures ok { OnOk result (nets.new ≡ with_parts (counted (design_pin of.now.library.now of.now.names.now (units_of of.now.scale) (pin_view pin.now))) nets.old) }
     ensures net { OnOk result (0 < length nets.new) }
+    ensures known { OnOk result (layers.new ≡ of.now.library.now) }
 {
-    if !counts(of, pin) {
+    if !counts(of, pin, layers) {
         return Ok(());
     }
     nets.begin_part(true)?;
-    put_ports(of, pin, nets)
+    put_ports(of, pin, layers, nets)
 }

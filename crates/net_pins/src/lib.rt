@@ -1,7 +1,8 @@
 //! The pins of a net that count, as parts of a `NetList`.
 //!
-//! Begin with `Pins::new`, which reads once which pins of a design name a net, and `put_pins`, which puts those of a net that count
-//! behind the parts of the last net: those that its entries list, and those of the design that name it, each once. What pins a net
+//! Begin with `Pins::new`, which reads once which pins of a design name a net, and `Pins::walk`, also once, for what is kept from one
+//! net to the next. `put_pins` puts those of a net that count behind the parts of the last net: those that its entries list, and
+//! those of the design that name it, each once. What pins a net
 //! has is said in `connection_rules/specs`: `Terminals` (`net_pins`), `PinShapes` and `NetParts` (`pin_parts`). A pin counts where
 //! it has a shape on a layer of TYPE ROUTING or CUT, placed or not.
 //!
@@ -18,10 +19,12 @@ mod design_pins;
 mod lent_pin;
 mod listed_pins;
 mod macro_pins;
+mod pin_walk;
 mod pins;
 mod port_place;
 mod ports;
 mod seen_pins;
 mod sources;
 
+pub use pin_walk::PinWalk;
 pub use pins::Pins;

@@ -1,6 +1,6 @@
 //! The pins that the terminals of entries stand for (LEF/DEF 5.8 Language Reference, "Nets" and "Special Nets").
 
-ghost use Rattle.std.specs.Prelude.{◌≡◌, ◌<◌, ◌∷◌, [], ℕ, OnOk, flat_map, length};
+ghost use Rattle.std.specs.Prelude.{◌≡◌, ◌∷◌, [], ℕ, OnOk, flat_map};
 ghost use Rattle.std.specs.List.{filter_map};
 ghost use Rattle.std.specs.Option.{option_map, option_to_list};
 ghost use Rattle.form_meanings.specs.Firsts.{find_named};
@@ -16,17 +16,17 @@ ghost use Rattle.def_reader.specs.StatementViews.{record_view, records_view};
 ghost use Rattle.design_wires.specs.Scales.{units_of};
 ghost use Rattle.net_pins.specs.Counting.{with_pins};
 ghost use Rattle.net_pins.specs.EntryPins.{borrowed_pin, listed, pin_of_entry, pin_of_record, pins_in};
+ghost use Rattle.net_pins.specs.Walking.{IsReady};
 
 use crate::component_pins::{MacroPin, put_component_pin};
 use crate::design_pins::put_design_pin;
-use crate::seen_pins::{PinWords, SeenPins};
+use crate::pin_walk::PinWalk;
+use crate::seen_pins::PinWords;
 use crate::sources::Sources;
-use cell_library::library::Library;
 use def_reader::entry::Entry;
 use def_reader::statement::Statement;
 use design_model::mode::Section;
 use design_names::names::Names;
-use design_wires::scale::Scale;
 use net_lists::NetList;
 use place_parts::component_parts::ComponentParts;
 use place_parts::pins::PinParts;
@@ -36,19 +36,18 @@ use wire_parts::nets::NetEntry;
 use wire_parts::terminals::Terminal;
 
 /// Puts the pin of this name of a component, where it has that and it counts, unless it was seen.
-fn put_pin_of<'t, A: Allocator + Copy>(
-    library: &Library<'_, A>,
-    scale: Scale,
+fn put_pin_of<'a, 'l: 'a, 'r: 'a, 't: 'a, A: Allocator + Copy>(
+    of: &Sources<'_, 'a, 'l, 'r, 't, A>,
     component: &ComponentParts<'t>,
     pin: &'t [u8],
-    seen: &mut SeenPins<'t, A>,
+    walk: &mut PinWalk<'_, '_, 't, A>,
     nets: &mut NetList<'_, A>,
 ) -> Result<(), AllocError>
-    requires { 0 < length nets.old }
-    ensures ok { OnOk result ((seen.new, nets.new) ≡ with_pins (option_to_list (pin_of_component library.now (units_of scale) pin.entry.now (component_view component.now))) (seen.old, nets.old)) }
-    ensures net { OnOk result (0 < length nets.new) }
+    requires { IsReady of.now.library.now walk.old nets.old }
+    ensures ok { OnOk result ((walk.new.seen, nets.new) ≡ with_pins (option_to_list (pin_of_component of.now.library.now (units_of of.now.scale) pin.entry.now (component_view component.now))) (walk.old.seen, nets.old)) }
+    ensures ready { OnOk result (IsReady of.now.library.now walk.new nets.new) }
 {
-    let Some(cell) = library.macro_of(component.cell.bytes) else {
+    let Some(cell) = of.library.macro_of(component.cell.bytes) else {
         return Ok(());
     };
     let Some(found) = cell.pin(pin) else {
@@ -58,76 +57,73 @@ fn put_pin_of<'t, A: Allocator + Copy>(
         component: Some(component.name.bytes),
         pin,
     };
-    if !seen.note(words)? {
+    if !walk.seen.note(words)? {
         return Ok(());
     }
     let pin = MacroPin {
-        library,
         cell,
         name: pin,
         pin: found,
     };
-    put_component_pin(pin, scale, component, nets)
+    put_component_pin(pin, of.scale, component, &mut walk.layers, nets)
 }
 
 /// Puts a pin of the design, where it counts, unless it was seen.
 pub(crate) fn put_pin<'a, 'l: 'a, 'r: 'a, 't: 'a, A: Allocator + Copy>(
     of: &Sources<'_, 'a, 'l, 'r, 't, A>,
     pin: &PinParts<'t>,
-    seen: &mut SeenPins<'t, A>,
+    walk: &mut PinWalk<'_, '_, 't, A>,
     nets: &mut NetList<'_, A>,
 ) -> Result<(), AllocError>
-    requires { 0 < length nets.old }
-    ensures ok { OnOk result ((seen.new, nets.new) ≡ with_pins (design_pin of.now.library.now of.now.names.now (units_of of.now.scale) (pin_view pin.now) ∷ []) (seen.old, nets.old)) }
-    ensures net { OnOk result (0 < length nets.new) }
+    requires { IsReady of.now.library.now walk.old nets.old }
+    ensures ok { OnOk result ((walk.new.seen, nets.new) ≡ with_pins (design_pin of.now.library.now of.now.names.now (units_of of.now.scale) (pin_view pin.now) ∷ []) (walk.old.seen, nets.old)) }
+    ensures ready { OnOk result (IsReady of.now.library.now walk.new nets.new) }
 {
     let words = PinWords {
         component: None,
         pin: pin.name.bytes,
     };
-    if seen.note(words)? {
-        put_design_pin(of, pin, nets)
+    if walk.seen.note(words)? {
+        put_design_pin(of, pin, &mut walk.layers, nets)
     } else {
         Ok(())
     }
 }
 
 /// Puts the pin of this name of the component that a statement is.
-fn put_pin_of_statement<'t, A: Allocator + Copy>(
-    library: &Library<'_, A>,
-    scale: Scale,
+fn put_pin_of_statement<'a, 'l: 'a, 'r: 'a, 't: 'a, A: Allocator + Copy>(
+    of: &Sources<'_, 'a, 'l, 'r, 't, A>,
     statement: &Statement<'t>,
     pin: &'t [u8],
-    seen: &mut SeenPins<'t, A>,
+    walk: &mut PinWalk<'_, '_, 't, A>,
     nets: &mut NetList<'_, A>,
 ) -> Result<(), AllocError>
-    requires { 0 < length nets.old }
-    ensures ok { OnOk result ((seen.new, nets.new) ≡ with_pins (option_to_list (pin_of_record library.now (units_of scale) pin.entry.now (record_view statement.now))) (seen.old, nets.old)) }
-    ensures net { OnOk result (0 < length nets.new) }
+    requires { IsReady of.now.library.now walk.old nets.old }
+    ensures ok { OnOk result ((walk.new.seen, nets.new) ≡ with_pins (option_to_list (pin_of_record of.now.library.now (units_of of.now.scale) pin.entry.now (record_view statement.now))) (walk.old.seen, nets.old)) }
+    ensures ready { OnOk result (IsReady of.now.library.now walk.new nets.new) }
 {
     match statement {
         Statement::Entry(Entry::Component(component)) => {
-            put_pin_of(library, scale, component, pin, seen, nets)
+            put_pin_of(of, component, pin, walk, nets)
         }
         _ => Ok(()),
     }
 }
 
 /// Puts the pin of this name of each component that has it.
-fn put_pins_of_all<'t, A: Allocator + Copy>(
-    library: &Library<'_, A>,
-    scale: Scale,
+fn put_pins_of_all<'a, 'l: 'a, 'r: 'a, 't: 'a, A: Allocator + Copy>(
+    of: &Sources<'_, 'a, 'l, 'r, 't, A>,
     records: &[Statement<'t>],
     pin: &'t [u8],
-    seen: &mut SeenPins<'t, A>,
+    walk: &mut PinWalk<'_, '_, 't, A>,
     nets: &mut NetList<'_, A>,
 ) -> Result<(), AllocError>
-    requires { 0 < length nets.old }
-    ensures ok { OnOk result ((seen.new, nets.new) ≡ with_pins (filter_map (pin_of_component library.now (units_of scale) pin.entry.now) (filter_map component_of (records_view records.now))) (seen.old, nets.old)) }
-    ensures net { OnOk result (0 < length nets.new) }
+    requires { IsReady of.now.library.now walk.old nets.old }
+    ensures ok { OnOk result ((walk.new.seen, nets.new) ≡ with_pins (filter_map (pin_of_component of.now.library.now (units_of of.now.scale) pin.entry.now) (filter_map component_of (records_view records.now))) (walk.old.seen, nets.old)) }
+    ensures ready { OnOk result (IsReady of.now.library.now walk.new nets.new) }
 {
     for statement in records {
-        put_pin_of_statement(library, scale, statement, pin, seen, nets)?;
+        put_pin_of_statement(of, statement, pin, walk, nets)?;
     }
     Ok(())
 }
@@ -157,15 +153,15 @@ fn pin_named<'r, 't, A: Allocator + Copy>(
 fn put_pin_named<'a, 'l: 'a, 'r: 'a, 't: 'a, A: Allocator + Copy>(
     of: &Sources<'_, 'a, 'l, 'r, 't, A>,
     name: &[u8],
-    seen: &mut SeenPins<'t, A>,
+    walk: &mut PinWalk<'_, '_, 't, A>,
     nets: &mut NetList<'_, A>,
 ) -> Result<(), AllocError>
-    requires { 0 < length nets.old }
-    ensures ok { OnOk result ((seen.new, nets.new) ≡ with_pins ((pins_in of.now).of_design name.now) (seen.old, nets.old)) }
-    ensures net { OnOk result (0 < length nets.new) }
+    requires { IsReady of.now.library.now walk.old nets.old }
+    ensures ok { OnOk result ((walk.new.seen, nets.new) ≡ with_pins ((pins_in of.now).of_design name.now) (walk.old.seen, nets.old)) }
+    ensures ready { OnOk result (IsReady of.now.library.now walk.new nets.new) }
 {
     match pin_named(of.names, name) {
-        Some(pin) => put_pin(of, pin, seen, nets),
+        Some(pin) => put_pin(of, pin, walk, nets),
         None => Ok(()),
     }
 }
@@ -175,15 +171,15 @@ fn put_pin_of_named<'a, 'l: 'a, 'r: 'a, 't: 'a, A: Allocator + Copy>(
     of: &Sources<'_, 'a, 'l, 'r, 't, A>,
     component: &[u8],
     pin: &'t [u8],
-    seen: &mut SeenPins<'t, A>,
+    walk: &mut PinWalk<'_, '_, 't, A>,
     nets: &mut NetList<'_, A>,
 ) -> Result<(), AllocError>
-    requires { 0 < length nets.old }
-    ensures ok { OnOk result ((seen.new, nets.new) ≡ with_pins ((pins_in of.now).of_component component.now pin.entry.now) (seen.old, nets.old)) }
-    ensures net { OnOk result (0 < length nets.new) }
+    requires { IsReady of.now.library.now walk.old nets.old }
+    ensures ok { OnOk result ((walk.new.seen, nets.new) ≡ with_pins ((pins_in of.now).of_component component.now pin.entry.now) (walk.old.seen, nets.old)) }
+    ensures ready { OnOk result (IsReady of.now.library.now walk.new nets.new) }
 {
     match of.names.component(component) {
-        Some(parts) => put_pin_of(of.library, of.scale, parts, pin, seen, nets),
+        Some(parts) => put_pin_of(of, parts, pin, walk, nets),
         None => Ok(()),
     }
 }
@@ -192,22 +188,22 @@ fn put_pin_of_named<'a, 'l: 'a, 'r: 'a, 't: 'a, A: Allocator + Copy>(
 fn put_terminal<'a, 'l: 'a, 'r: 'a, 't: 'a, A: Allocator + Copy>(
     of: &Sources<'_, 'a, 'l, 'r, 't, A>,
     terminal: &Terminal<'t>,
-    seen: &mut SeenPins<'t, A>,
+    walk: &mut PinWalk<'_, '_, 't, A>,
     nets: &mut NetList<'_, A>,
 ) -> Result<(), AllocError>
-    requires { 0 < length nets.old }
-    ensures ok { OnOk result ((seen.new, nets.new) ≡ with_pins (pins_of (pins_in of.now) (terminal_view terminal.now)) (seen.old, nets.old)) }
-    ensures net { OnOk result (0 < length nets.new) }
+    requires { IsReady of.now.library.now walk.old nets.old }
+    ensures ok { OnOk result ((walk.new.seen, nets.new) ≡ with_pins (pins_of (pins_in of.now) (terminal_view terminal.now)) (walk.old.seen, nets.old)) }
+    ensures ready { OnOk result (IsReady of.now.library.now walk.new nets.new) }
 {
     let pin = terminal.pin.bytes;
     if terminal.is_virtual() {
         Ok(())
     } else if terminal.is_of_all() {
-        put_pins_of_all(of.library, of.scale, of.names.records(), pin, seen, nets)
+        put_pins_of_all(of, of.names.records(), pin, walk, nets)
     } else if terminal.is_of_design() {
-        put_pin_named(of, pin, seen, nets)
+        put_pin_named(of, pin, walk, nets)
     } else {
-        put_pin_of_named(of, terminal.owner.bytes, pin, seen, nets)
+        put_pin_of_named(of, terminal.owner.bytes, pin, walk, nets)
     }
 }
 
@@ -215,16 +211,16 @@ fn put_terminal<'a, 'l: 'a, 'r: 'a, 't: 'a, A: Allocator + Copy>(
 fn put_terminals<'a, 'l: 'a, 'r: 'a, 't: 'a, A: Allocator + Copy>(
     of: &Sources<'_, 'a, 'l, 'r, 't, A>,
     terminals: &Parts<'t, Terminal<'t>>,
-    seen: &mut SeenPins<'t, A>,
+    walk: &mut PinWalk<'_, '_, 't, A>,
     nets: &mut NetList<'_, A>,
 ) -> Result<(), AllocError>
-    requires { 0 < length nets.old }
-    ensures ok { OnOk result ((seen.new, nets.new) ≡ with_pins (flat_map (pins_of (pins_in of.now)) (terminals_of terminals.now)) (seen.old, nets.old)) }
-    ensures net { OnOk result (0 < length nets.new) }
+    requires { IsReady of.now.library.now walk.old nets.old }
+    ensures ok { OnOk result ((walk.new.seen, nets.new) ≡ with_pins (flat_map (pins_of (pins_in of.now)) (terminals_of terminals.now)) (walk.old.seen, nets.old)) }
+    ensures ready { OnOk result (IsReady of.now.library.now walk.new nets.new) }
 {
     let mut left = terminals.again();
     while let Some(terminal) = left.next() {
-        put_terminal(of, &terminal, seen, nets)?;
+        put_terminal(of, &terminal, walk, nets)?;
     }
     Ok(())
 }
@@ -233,16 +229,16 @@ fn put_terminals<'a, 'l: 'a, 'r: 'a, 't: 'a, A: Allocator + Copy>(
 pub(crate) fn put_listed<'a, 'l: 'a, 'r: 'a, 't: 'a, A: Allocator + Copy>(
     of: &Sources<'_, 'a, 'l, 'r, 't, A>,
     entry: &Entry<'t>,
-    seen: &mut SeenPins<'t, A>,
+    walk: &mut PinWalk<'_, '_, 't, A>,
     nets: &mut NetList<'_, A>,
 ) -> Result<(), AllocError>
-    requires { 0 < length nets.old }
-    ensures ok { OnOk result ((seen.new, nets.new) ≡ with_pins (flat_map (pins_of (pins_in of.now)) (listed (entry_view entry.now))) (seen.old, nets.old)) }
-    ensures net { OnOk result (0 < length nets.new) }
+    requires { IsReady of.now.library.now walk.old nets.old }
+    ensures ok { OnOk result ((walk.new.seen, nets.new) ≡ with_pins (flat_map (pins_of (pins_in of.now)) (listed (entry_view entry.now))) (walk.old.seen, nets.old)) }
+    ensures ready { OnOk result (IsReady of.now.library.now walk.new nets.new) }
 {
     match entry {
-        Entry::Net(NetEntry::Net(parts)) => put_terminals(of, &parts.terminals, seen, nets),
-        Entry::SpecialNet(parts) => put_terminals(of, &parts.terminals, seen, nets),
+        Entry::Net(NetEntry::Net(parts)) => put_terminals(of, &parts.terminals, walk, nets),
+        Entry::SpecialNet(parts) => put_terminals(of, &parts.terminals, walk, nets),
         _ => Ok(()),
     }
 }

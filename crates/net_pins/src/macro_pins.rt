@@ -10,34 +10,37 @@ ghost use Rattle.net_pins.specs.MacroPins.{all_checked, all_placed, layer_checke
 ghost use Rattle.net_pins.specs.Putting.{HasPart};
 
 use crate::cell_place::CellPlace;
-use cell_library::library::Library;
 use cell_library::numbers::MicronRect;
 use cell_library::shapes::LayerShapes;
-use checked_layers::checked_layer;
+use checked_layers::LastLayers;
 use design_model::identifier::LayerId;
 use net_lists::NetList;
 use std::alloc::{AllocError, Allocator};
 
 /// Whether there is a rectangle on a layer, and the layer is such a one.
 fn layer_has_shape<A: Allocator + Copy>(
-    library: &Library<'_, A>,
+    layers: &mut LastLayers<'_, '_, A>,
     layer: &LayerShapes<'_, A>,
 ) -> bool
-    ensures { (u : ℕ) (o : ThePoint) → result ≡ is_some_shape (layer_checked u o library.now.layers (shapes_view layer.now)) }
+    ensures value { (u : ℕ) (o : ThePoint) → result ≡ is_some_shape (layer_checked u o layers.old.layers (shapes_view layer.now)) }
+    ensures same { layers.new ≡ layers.old }
 {
-    let is_bare = layer.rectangles.as_slice().is_empty();
-    !is_bare && checked_layer(library, layer.layer).is_some()
+    if layer.rectangles.as_slice().is_empty() {
+        return false;
+    }
+    layers.layer_of(layer.layer).is_some()
 }
 
 /// Whether there is a shape on such a layer.
 pub(crate) fn has_shape<A: Allocator + Copy>(
-    library: &Library<'_, A>,
+    layers: &mut LastLayers<'_, '_, A>,
     shapes: &[LayerShapes<'_, A>],
 ) -> bool
-    ensures { (u : ℕ) (o : ThePoint) → result ≡ is_some_shape (all_checked u o library.now.layers (map shapes_view shapes.now)) }
+    ensures value { (u : ℕ) (o : ThePoint) → result ≡ is_some_shape (all_checked u o layers.old.layers (map shapes_view shapes.now)) }
+    ensures same { layers.new ≡ layers.old }
 {
     for layer in shapes {
-        if layer_has_shape(library, layer) {
+        if layer_has_shape(layers, layer) {
             return true;
         }
     }
@@ -63,16 +66,17 @@ fn put_rectangles<A: Allocator + Copy>(
 
 /// Puts the shapes on a layer, where it is such a one, into the last part.
 fn put_layer<A: Allocator + Copy>(
-    library: &Library<'_, A>,
+    layers: &mut LastLayers<'_, '_, A>,
     place: CellPlace,
     layer: &LayerShapes<'_, A>,
     nets: &mut NetList<'_, A>,
 ) -> Result<(), AllocError>
     requires { HasPart nets.old }
-    ensures ok { OnOk result (nets.new ≡ with_shapes (layer_placed place library.now.layers (shapes_view layer.now)) nets.old) }
+    ensures ok { OnOk result (nets.new ≡ with_shapes (layer_placed place layers.old.layers (shapes_view layer.now)) nets.old) }
     ensures part { OnOk result (HasPart nets.new) }
+    ensures same { OnOk result (layers.new ≡ layers.old) }
 {
-    match checked_layer(library, layer.layer) {
+    match layers.layer_of(layer.layer) {
         Some(id) => put_rectangles(place, id, layer.rectangles.as_slice(), nets),
         None => Ok(()),
     }
@@ -80,17 +84,18 @@ fn put_layer<A: Allocator + Copy>(
 
 /// Puts the shapes on such layers, where they lie for a component, into the last part.
 pub(crate) fn put_shapes<A: Allocator + Copy>(
-    library: &Library<'_, A>,
+    layers: &mut LastLayers<'_, '_, A>,
     place: CellPlace,
     shapes: &[LayerShapes<'_, A>],
     nets: &mut NetList<'_, A>,
 ) -> Result<(), AllocError>
     requires { HasPart nets.old }
-    ensures ok { OnOk result (nets.new ≡ with_shapes (all_placed place library.now.layers (map shapes_view shapes.now)) nets.old) }
+    ensures ok { OnOk result (nets.new ≡ with_shapes (all_placed place layers.old.layers (map shapes_view shapes.now)) nets.old) }
     ensures part { OnOk result (HasPart nets.new) }
+    ensures same { OnOk result (layers.new ≡ layers.old) }
 {
     for layer in shapes {
-        put_layer(library, place, layer, nets)?;
+        put_layer(layers, place, layer, nets)?;
     }
     Ok(())
 }

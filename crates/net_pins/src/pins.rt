@@ -17,10 +17,11 @@ ghost use Rattle.name_groups.specs.Groups.{seen as seen_group};
 ghost use Rattle.net_lists.specs.Building.{with_parts};
 ghost use Rattle.net_pins.specs.Counting.{with_pins};
 ghost use Rattle.net_pins.specs.EntryPins.{borrowed_pin, design_pin_in, design_pin_of, lent_pin, listed, net_groups, pins_in};
+ghost use Rattle.net_pins.specs.Walking.{IsReady};
 
 use crate::lent_pin::LentPin;
 use crate::listed_pins::{put_listed, put_pin};
-use crate::seen_pins::SeenPins;
+use crate::pin_walk::PinWalk;
 use crate::sources::Sources;
 use cell_library::library::Library;
 use def_reader::entry::Entry;
@@ -118,15 +119,15 @@ fn pins_by_net<'r, 't, A: Allocator + Copy>(
 fn put_all_listed<'a, 'l: 'a, 'r: 'a, 't: 'a, A: Allocator + Copy>(
     of: &Sources<'_, 'a, 'l, 'r, 't, A>,
     entries: &[LentEntry<'_, 't>],
-    seen: &mut SeenPins<'t, A>,
+    walk: &mut PinWalk<'_, '_, 't, A>,
     nets: &mut NetList<'_, A>,
 ) -> Result<(), AllocError>
-    requires { 0 < length nets.old }
-    ensures ok { OnOk result ((seen.new, nets.new) ≡ with_pins (flat_map (pins_of (pins_in of.now)) (flat_map listed (map entry_lent entries.now))) (seen.old, nets.old)) }
-    ensures net { OnOk result (0 < length nets.new) }
+    requires { IsReady of.now.library.now walk.old nets.old }
+    ensures ok { OnOk result ((walk.new.seen, nets.new) ≡ with_pins (flat_map (pins_of (pins_in of.now)) (flat_map listed (map entry_lent entries.now))) (walk.old.seen, nets.old)) }
+    ensures ready { OnOk result (IsReady of.now.library.now walk.new nets.new) }
 {
     for entry in entries {
-        put_listed(of, entry.entry, seen, nets)?;
+        put_listed(of, entry.entry, walk, nets)?;
     }
     Ok(())
 }
@@ -135,15 +136,15 @@ fn put_all_listed<'a, 'l: 'a, 'r: 'a, 't: 'a, A: Allocator + Copy>(
 fn put_all<'a, 'l: 'a, 'r: 'a, 't: 'a, A: Allocator + Copy>(
     of: &Sources<'_, 'a, 'l, 'r, 't, A>,
     pins: &[LentPin<'_, 't>],
-    seen: &mut SeenPins<'t, A>,
+    walk: &mut PinWalk<'_, '_, 't, A>,
     nets: &mut NetList<'_, A>,
 ) -> Result<(), AllocError>
-    requires { 0 < length nets.old }
-    ensures ok { OnOk result ((seen.new, nets.new) ≡ with_pins (map (design_pin_of of.now) (map lent_pin pins.now)) (seen.old, nets.old)) }
-    ensures net { OnOk result (0 < length nets.new) }
+    requires { IsReady of.now.library.now walk.old nets.old }
+    ensures ok { OnOk result ((walk.new.seen, nets.new) ≡ with_pins (map (design_pin_of of.now) (map lent_pin pins.now)) (walk.old.seen, nets.old)) }
+    ensures ready { OnOk result (IsReady of.now.library.now walk.new nets.new) }
 {
     for pin in pins {
-        put_pin(of, pin.pin, seen, nets)?;
+        put_pin(of, pin.pin, walk, nets)?;
     }
     Ok(())
 }
@@ -151,18 +152,18 @@ fn put_all<'a, 'l: 'a, 'r: 'a, 't: 'a, A: Allocator + Copy>(
 /// Puts the pins that entries list, and then some pins of the design, each once.
 fn put_both<'a, 'l: 'a, 'r: 'a, 't: 'a, A: Allocator + Copy>(
     of: &Sources<'_, 'a, 'l, 'r, 't, A>,
-    alloc: A,
     entries: &[LentEntry<'_, 't>],
     pins: &[LentPin<'_, 't>],
+    walk: &mut PinWalk<'_, '_, 't, A>,
     nets: &mut NetList<'_, A>,
 ) -> Result<(), AllocError>
-    requires { 0 < length nets.old }
+    requires { IsReady of.now.library.now walk.old nets.old }
     ensures ok { OnOk result (nets.new ≡ (with_pins (flat_map (pins_of (pins_in of.now)) (flat_map listed (map entry_lent entries.now)) ++ map (design_pin_of of.now) (map lent_pin pins.now)) ([], nets.old)).1) }
-    ensures net { OnOk result (0 < length nets.new) }
+    ensures ready { OnOk result (IsReady of.now.library.now walk.new nets.new) }
 {
-    let mut seen = SeenPins::new(alloc, of.names.hash_builder());
-    put_all_listed(of, entries, &mut seen, nets)?;
-    put_all(of, pins, &mut seen, nets)
+    walk.seen.clear();
+    put_all_listed(of, entries, walk, nets)?;
+    put_all(of, pins, walk, nets)
 }
 
 impl<'v, 'a, 'l: 'a, 'r: 'a, 't: 'a, A: Allocator + Copy> Pins<'v, 'a, 'l, 'r, 't, A> {
@@ -190,19 +191,29 @@ impl<'v, 'a, 'l: 'a, 'r: 'a, 't: 'a, A: Allocator + Copy> Pins<'v, 'a, 'l, 'r, '
         Ok(Pins { sources, by_net })
     }
 
+    /// What `put_pins` goes on with from one net to the next. It takes no memory.
+    pub fn walk(&self, alloc: A) -> PinWalk<'a, 'l, 't, A>
+        ensures { result.layers ≡ self.now.library }
+    {
+        let hash_builder = self.sources.names.hash_builder();
+        PinWalk::new(alloc, self.sources.library, hash_builder)
+    }
+
     /// Puts the pins of a net that count behind the parts of the last net, by the net's name and its entries: the pins that the
     /// entries list, and those of the design that name the net, each once.
     pub fn put_pins(
         &self,
-        alloc: A,
         net: &[u8],
         entries: &[LentEntry<'_, 't>],
+        walk: &mut PinWalk<'_, '_, 't, A>,
         nets: &mut NetList<'_, A>,
     ) -> Result<(), AllocError>
         requires net { 0 < length nets.old }
+        requires known { walk.old.layers ≡ self.now.library }
         ensures ok { OnOk result (nets.new ≡ with_parts (pin_parts (pins_by_name self.now.library self.now.design (scale_of self.now.design)) net.now (filter_map (wired_of self.now.library self.now.design (scale_of self.now.design)) (map entry_lent entries.now))) nets.old) }
         ensures net { OnOk result (0 < length nets.new) }
+        ensures known { OnOk result (walk.new.layers ≡ self.now.library) }
     {
-        put_both(&self.sources, alloc, entries, self.by_net.get(net), nets)
+        put_both(&self.sources, entries, self.by_net.get(net), walk, nets)
     }
 }

@@ -10,8 +10,11 @@ use std::alloc::{AllocError, Allocator, Global};
 use std::hash::{Hash, Hasher, RandomState};
 use std::marker::Model;
 
+/// How many pins are gone over one by one, which are all pins of most nets.
+const FEW: usize = 16;
+
 /// The component of a pin, unless it is the design's, and its name: a key of a table, each hashed by one write.
-#[derive(Clone, Copy)]
+#[derive(Clone, Copy, Drop)]
 pub(crate) struct PinWords<'t> {
     pub(crate) component: Option<&'t [u8]>,
     pub(crate) pin: &'t [u8],
@@ -44,20 +47,24 @@ impl<'t> Hash for PinWords<'t> {
     }
 }
 
-/// Pins by their words, in the order in which they were noted.
+/// Pins by their words, in the order in which they were noted: the first of them, and those behind them, which are looked up by a
+/// hash.
 #[derive(Drop)]
 pub(crate) struct SeenPins<'t, A: Allocator = Global> {
-    pins: IndexSet<PinWords<'t>, RandomState, A>,
+    first: Vec<PinWords<'t>, A>,
+    further: IndexSet<PinWords<'t>, RandomState, A>,
 }
 
 impl<'t, A: Allocator> Model for SeenPins<'t, A> {
-    ghost use Rattle.std.specs.Prelude.{List, map};
+    ghost use Rattle.std.specs.Prelude.{◌≡◌, ◌<◌, ◌++◌, [], List, length, map};
     ghost use Rattle.statement_model.specs.Grammar.{Key};
     ghost use Rattle.net_pins.specs.SeenViews.{words_of};
 
     ghost Value = { List Key };
 
-    ghost view = { λ s. map words_of s.pins.keys };
+    ghost view = { λ s. map words_of (s.first.items ++ s.further.keys) };
+
+    ghost invariant = { λ s. length s.first.items < 16 → s.further.keys ≡ [] };
 }
 
 impl<'t, A: Allocator + Copy> SeenPins<'t, A> {
@@ -66,7 +73,22 @@ impl<'t, A: Allocator + Copy> SeenPins<'t, A> {
         ensures { result ≡ [] }
     {
         SeenPins {
-            pins: IndexSet::with_hasher(alloc, hash_builder),
+            first: Vec::new(alloc),
+            further: IndexSet::with_hasher(alloc, hash_builder),
+        }
+    }
+
+    /// Forgets all pins. The room for the first of them stays, unless there were others: emptying a large table costs as much as
+    /// filling it.
+    pub(crate) fn clear(&mut self)
+        ensures { self.new ≡ [] }
+    {
+        if self.further.is_empty() {
+            self.first.clear();
+        } else {
+            let alloc = *self.further.allocator();
+            let hash_builder = *self.further.hasher();
+            *self = SeenPins::new(alloc, hash_builder);
         }
     }
 
@@ -75,7 +97,14 @@ impl<'t, A: Allocator + Copy> SeenPins<'t, A> {
         ensures is_new { IfOk result (λ is_new. is_new ≡ not (is_among self.old (words_of pin.entry))) }
         ensures noted { OnOk result (self.new ≡ (if is_among self.old (words_of pin.entry) then self.old else self.old ++ words_of pin.entry ∷ [])) }
     {
-        let is_new = self.pins.insert(pin)?;
+        if self.first.as_slice().contains(&pin) {
+            return Ok(false);
+        }
+        if self.first.len() < FEW {
+            self.first.push(pin)?;
+            return Ok(true);
+        }
+        let is_new = self.further.insert(pin)?;
         Ok(is_new)
     }
 }

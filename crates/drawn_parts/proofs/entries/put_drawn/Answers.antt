@@ -1,4 +1,4 @@
-use Rattle.std.proofs.Common.{◌≡◌, [], drop, map, ap, rules}
+use Rattle.std.proofs.Common.{◌≡◌, [], drop, map, ap, ◌∙◌, rules}
 use Rattle.std.proofs.lemmas.List.{drop_all}
 use Rattle.std.specs.List.{filter_map}
 use Rattle.connection_rules.specs.NetParts.{wired_of}
@@ -13,11 +13,13 @@ pub loop-lent-preserved : goal.loop-lent-preserved
 loop-lent-preserved g c =
     let wired = wired_of c.args.wires.now.library c.args.wires.now.design (scale c.args.wires.now.design) in
     let entries = c.args.entries.now in
+    let same = c.loop-lent.invariant.same in
     record {
       net = c.in_ok-more.ensures.net;
+      same = c.in_ok-more.ensures.same ∙ same;
       so_far =
-          entry_put c.args.library.now.layers entry_lent wired entries c.loop-lent.lent-index
-          c.lent-item.result _ _ _ c.loop-lent-test.true c.lent-item.is c.in_ok-more.ensures.ok c.loop-lent.invariant.so_far;
+          entry_put c.args.walk.now.layers.layers entry_lent wired entries c.loop-lent.lent-index
+          c.lent-item.result _ _ _ c.loop-lent-test.true c.lent-item.is (rw same at c.in_ok-more.ensures.ok) c.loop-lent.invariant.so_far;
       below = capped_below _ _ c.saturating_add-length.ensures;
       length =
           entry_added entry_lent wired entries c.loop-lent.lent-index c.lent-item.result _ _ _ _ c.loop-lent-test.true c.lent-item.is c.in_ok-more.ensures.length c.saturating_add-length.ensures

@@ -11,9 +11,10 @@ use Rattle.drawn_parts.proofs.entries.put_drawn.Given as goal
 abbrev pub invariant-loop-lent : goal.invariant-loop-lent
 invariant-loop-lent g l = record {
   net : 0 < length l.nets;
+  same : l.walk.layers ≡ l.initial.walk.layers;
   so_far :
-      with_parts (drawn_parts l.library.layers (filter_map (wired_of l.wires.library l.wires.design (scale l.wires.design)) (map entry_lent (drop l.lent-index l.entries)))) l.nets
-      ≡ with_parts (drawn_parts l.library.layers (filter_map (wired_of l.wires.library l.wires.design (scale l.wires.design)) (map entry_lent l.entries))) l.initial.nets;
+      with_parts (drawn_parts l.initial.walk.layers.layers (filter_map (wired_of l.wires.library l.wires.design (scale l.wires.design)) (map entry_lent (drop l.lent-index l.entries)))) l.nets
+      ≡ with_parts (drawn_parts l.initial.walk.layers.layers (filter_map (wired_of l.wires.library l.wires.design (scale l.wires.design)) (map entry_lent l.entries))) l.initial.nets;
   below : l.length < 2 ^ 64;
   length :
       capped (l.length + sum_by wired_length (filter_map (wired_of l.wires.library l.wires.design (scale l.wires.design)) (map entry_lent (drop l.lent-index l.entries))))

@@ -8,10 +8,11 @@ use Rattle.drawn_parts.proofs.entry_pieces.put_pieces.Given as goal
 
 abbrev pub invariant-loop-piece : goal.invariant-loop-piece
 invariant-loop-piece g l = record {
-  ready : IsReady l.library.layers l.walk l.nets;
+  ready : IsReady l.walk l.nets;
+  same : l.walk.layers ≡ l.initial.walk.layers;
   so_far :
-      put_pieces l.library.layers (entry_left g.W.MadeWires.pieces g.I.PathItems.items g.R.WiringMakings.rules g.S.LayerShapes.shapes l.piece-iterator) (drawing l.walk l.nets)
-      ≡ put_pieces l.library.layers (entry_left g.W.MadeWires.pieces g.I.PathItems.items g.R.WiringMakings.rules g.S.LayerShapes.shapes l.initial.piece-iterator) (drawing l.initial.walk l.initial.nets);
+      put_pieces l.initial.walk.layers.layers (entry_left g.W.MadeWires.pieces g.I.PathItems.items g.R.WiringMakings.rules g.S.LayerShapes.shapes l.piece-iterator) (drawing l.walk l.nets)
+      ≡ put_pieces l.initial.walk.layers.layers (entry_left g.W.MadeWires.pieces g.I.PathItems.items g.R.WiringMakings.rules g.S.LayerShapes.shapes l.initial.piece-iterator) (drawing l.initial.walk l.initial.nets);
   below : l.length < 2 ^ 64;
   length :
       capped (l.length + sum_by piece_length (entry_left g.W.MadeWires.pieces g.I.PathItems.items g.R.WiringMakings.rules g.S.LayerShapes.shapes l.piece-iterator))

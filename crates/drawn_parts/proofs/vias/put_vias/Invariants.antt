@@ -11,10 +11,11 @@ use Rattle.drawn_parts.proofs.vias.put_vias.Given as goal
 
 abbrev pub invariant-loop-later : goal.invariant-loop-later
 invariant-loop-later g l = record {
-  ready : IsReady l.library.layers l.walk l.nets;
+  ready : IsReady l.walk l.nets;
+  same : l.walk.layers ≡ l.initial.walk.layers;
   so_far :
-      put_pieces l.library.layers (flat_map (λ p. one_via (via_shapes l.wires.library l.wires.design (scale l.wires.design) (wire_via_view l.vias.via).name) (net_via (wire_via_view l.vias.via)) (place_of p)) (points_after (point_view l.at) (later_points l.left))) (drawing l.walk l.nets)
-      ≡ put_pieces l.library.layers (flat_map (λ p. one_via (via_shapes l.wires.library l.wires.design (scale l.wires.design) (wire_via_view l.vias.via).name) (net_via (wire_via_view l.vias.via)) (place_of p)) (points_after (point_view l.initial.at) (later_points l.initial.left))) (drawing l.initial.walk l.initial.nets);
+      put_pieces l.initial.walk.layers.layers (flat_map (λ p. one_via (via_shapes l.wires.library l.wires.design (scale l.wires.design) (wire_via_view l.vias.via).name) (net_via (wire_via_view l.vias.via)) (place_of p)) (points_after (point_view l.at) (later_points l.left))) (drawing l.walk l.nets)
+      ≡ put_pieces l.initial.walk.layers.layers (flat_map (λ p. one_via (via_shapes l.wires.library l.wires.design (scale l.wires.design) (wire_via_view l.vias.via).name) (net_via (wire_via_view l.vias.via)) (place_of p)) (points_after (point_view l.initial.at) (later_points l.initial.left))) (drawing l.initial.walk l.initial.nets);
 }
 
 abbrev pub decreases-loop-later : goal.decreases-loop-later

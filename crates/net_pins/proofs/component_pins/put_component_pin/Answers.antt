@@ -16,9 +16,9 @@ returns-then-not-has_shape-clause-ok g c =
     let u = units_of c.args.scale in
     let m = (cell_view c.args.pin.cell).cell in
     let p = pin_view (c.args.pin.name.now, c.args.pin.pin.now) in
-    uncounted (component_pin c.args.pin.library.now u (component_view c.args.component.now) m p) c.args.nets.now
-    (counts_so c.args.pin.library.now u m p c.has_shape.result false
-    (c.has_shape.ensures u (point_or_0 u m.origin) ∙ ap (λ ss. is_some_shape (all_checked u (point_or_0 u m.origin) c.args.pin.library.now.layers (map shapes_view ss))) c.as_slice.ensures) (search rules))
+    uncounted (component_pin c.args.layers.now u (component_view c.args.component.now) m p) c.args.nets.now
+    (counts_so c.args.layers.now u m p c.has_shape.result false
+    (c.has_shape.ensures.value u (point_or_0 u m.origin) ∙ ap (λ ss. is_some_shape (all_checked u (point_or_0 u m.origin) c.args.layers.now.layers (map shapes_view ss))) c.as_slice.ensures) (search rules))
 
 pub returns-clause-ok : goal.returns-clause-ok
 returns-clause-ok g c =
@@ -26,6 +26,6 @@ returns-clause-ok g c =
     let m = (cell_view c.args.pin.cell).cell in
     let p = pin_view (c.args.pin.name.now, c.args.pin.pin.now) in
     on_ok_weaker _
-    (counted_so (component_pin c.args.pin.library.now u (component_view c.args.component.now) m p) c.args.nets.now c.begin_part.new.self c.put_placed.new.nets
-    (counts_so c.args.pin.library.now u m p c.has_shape.result true
-    (c.has_shape.ensures u (point_or_0 u m.origin) ∙ ap (λ ss. is_some_shape (all_checked u (point_or_0 u m.origin) c.args.pin.library.now.layers (map shapes_view ss))) c.as_slice.ensures) (search rules)) c.in_ok-begin_part.ensures.ok) c.put_placed.ensures.ok
+    (counted_so (component_pin c.args.layers.now u (component_view c.args.component.now) m p) c.args.nets.now c.begin_part.new.self c.put_placed.new.nets
+    (counts_so c.args.layers.now u m p c.has_shape.result true
+    (c.has_shape.ensures.value u (point_or_0 u m.origin) ∙ ap (λ ss. is_some_shape (all_checked u (point_or_0 u m.origin) c.args.layers.now.layers (map shapes_view ss))) c.as_slice.ensures) (search rules)) c.in_ok-begin_part.ensures.ok) (rw (c.has_shape.ensures.same) at c.put_placed.ensures.ok)

@@ -21,8 +21,8 @@ returns-clause-ok g c =
     let stands : Some (At c.in-At.spot) ≡ standing_of component.clauses =
     ap (λ (s : Standing). Some s) (sym c.in-At.is) ∙ sym c.in-Some.is ∙ c.args.component.now.stands
     in
-    let layers = c.args.pin.library.now.layers in
-    let is = pin_placed c.args.pin.library.now (units_of c.args.scale) (cell_view c.args.pin.cell).cell (pin_view (c.args.pin.name.now, c.args.pin.pin.now)) c.of-place.result c.in-At.spot (placing component.clauses)
+    let layers = c.args.layers.now.layers in
+    let is = pin_placed c.args.layers.now (units_of c.args.scale) (cell_view c.args.pin.cell).cell (pin_view (c.args.pin.name.now, c.args.pin.pin.now)) c.of-place.result c.in-At.spot (placing component.clauses)
     (ap units_of place.scale) place.origin place.boundary place.orient place.at stands in
     on_ok_weaker c.put_shapes.result
     (same_put (all_placed c.of-place.result layers (map shapes_view c.as_slice.result.now)) (all_placed c.of-place.result layers (map shapes_view c.args.pin.pin.now.shapes)) _ c.put_shapes.new.nets c.args.nets.now

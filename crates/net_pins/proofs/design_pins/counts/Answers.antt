@@ -3,12 +3,16 @@ use Rattle.net_pins.specs.PortViews.{vias_in}
 use Rattle.net_pins.proofs.ClauseLemmas.{none_first, some_first}
 use Rattle.net_pins.proofs.design_pins.counts.Goals as goal
 
-pub returns-then-clause_has_shape : goal.returns-then-clause_has_shape
-returns-then-clause_has_shape g c =
+pub returns-then-clause_has_shape-clause-value : goal.returns-then-clause_has_shape-clause-value
+returns-then-clause_has_shape-clause-value g c =
     some_first c.args.of.now.library.now.layers (vias_in c.args.of.now) (pin_clauses_of c.loop-clause.left) (pin_clauses_of c.next.new.self) (pin_clause_view c.in-Some.clause) _ c.clause_has_shape.result
-    c.in-Some.ensures.step c.loop-clause.invariant c.clause_has_shape.ensures c.if-clause_has_shape.true
+    c.in-Some.ensures.step c.loop-clause.invariant.left c.clause_has_shape.ensures.value c.if-clause_has_shape.true
 
 pub loop-clause-preserved : goal.loop-clause-preserved
 loop-clause-preserved g c =
-    none_first c.args.of.now.library.now.layers (vias_in c.args.of.now) (pin_clauses_of c.loop-clause.left) (pin_clauses_of c.next.new.self) (pin_clause_view c.in-Some.clause) _ c.clause_has_shape.result
-    c.in-Some.ensures.step c.loop-clause.invariant c.clause_has_shape.ensures c.if-clause_has_shape.false
+    record {
+      known = c.clause_has_shape.ensures.known;
+      left =
+          none_first c.args.of.now.library.now.layers (vias_in c.args.of.now) (pin_clauses_of c.loop-clause.left) (pin_clauses_of c.next.new.self) (pin_clause_view c.in-Some.clause) _ c.clause_has_shape.result
+          c.in-Some.ensures.step c.loop-clause.invariant.left c.clause_has_shape.ensures.value c.if-clause_has_shape.false;
+    }

@@ -13,9 +13,9 @@ use Rattle.net_pins.proofs.listed_pins.put_pins_of_all.Goals as goal
 pub loop-statement-preserved : goal.loop-statement-preserved
 loop-statement-preserved g c =
     let i = c.loop-statement.statement-index in
-    let f = pin_of_component c.args.library.now (units_of c.args.scale) c.args.pin.now in
+    let f = pin_of_component c.args.of.now.library.now (units_of c.args.of.now.scale) c.args.pin.now in
     let there = split_at c.args.records.now i c.statement-item.result c.loop-statement-test.true c.statement-item.is in
     let rest = filter_map component_of (records_view (drop (i + 1) c.args.records.now)) in
     more_pins_put (option_to_list (component_of (record_view c.statement-item.result) >>= f)) (filter_map f rest)
     (ap (λ rs. filter_map f (filter_map component_of (records_view rs))) there ∙ filter_more f (component_of (record_view c.statement-item.result)) rest)
-    c.loop-statement.invariant c.in_ok-put_pin_of_statement.ensures.ok c.in_ok-put_pin_of_statement.ensures.net
+    c.loop-statement.invariant c.in_ok-put_pin_of_statement.ensures.ok c.in_ok-put_pin_of_statement.ensures.ready

@@ -9,4 +9,4 @@ pub loop-terminal-preserved : goal.loop-terminal-preserved
 loop-terminal-preserved g c =
     let f = pins_of (pins_in c.args.of.now) in
     more_pins_put (f (terminal_view c.in-Some.terminal)) (flat_map f (terminals_of c.next.new.self)) (ap (flat_map f) c.in-Some.ensures.step)
-    c.loop-terminal.invariant c.in_ok-put_terminal.ensures.ok c.in_ok-put_terminal.ensures.net
+    c.loop-terminal.invariant c.in_ok-put_terminal.ensures.ok c.in_ok-put_terminal.ensures.ready

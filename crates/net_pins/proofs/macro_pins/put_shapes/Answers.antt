@@ -1,4 +1,4 @@
-use Rattle.std.proofs.Common.{◌+◌, drop, ap, map}
+use Rattle.std.proofs.Common.{◌+◌, drop, ap, ◌∙◌, map}
 use Rattle.cell_library.proofs.AddingLemmas.{split_at}
 use Rattle.cell_library.specs.ShapeViews.{shapes_view}
 use Rattle.net_pins.specs.MacroPins.{all_placed, layer_placed}
@@ -8,7 +8,12 @@ use Rattle.net_pins.proofs.macro_pins.put_shapes.Goals as goal
 pub loop-layer-preserved : goal.loop-layer-preserved
 loop-layer-preserved g c =
     let i = c.loop-layer.layer-index in
-    let layers = c.args.library.now.layers in
+    let layers = c.args.layers.now.layers in
+    let same = c.loop-layer.invariant.same in
     let there = split_at c.args.shapes.now i c.layer-item.result c.loop-layer-test.true c.layer-item.is in
-    more_put (layer_placed c.args.place layers (shapes_view c.layer-item.result)) (all_placed c.args.place layers (map shapes_view (drop (i + 1) c.args.shapes.now)))
-    (ap (λ ss. all_placed c.args.place layers (map shapes_view ss)) there) c.loop-layer.invariant c.in_ok-put_layer.ensures.ok c.in_ok-put_layer.ensures.part
+    record {
+      same = c.in_ok-put_layer.ensures.same ∙ same;
+      puts =
+          more_put (layer_placed c.args.place layers (shapes_view c.layer-item.result)) (all_placed c.args.place layers (map shapes_view (drop (i + 1) c.args.shapes.now)))
+          (ap (λ ss. all_placed c.args.place layers (map shapes_view ss)) there) c.loop-layer.invariant.puts (rw same at c.in_ok-put_layer.ensures.ok) c.in_ok-put_layer.ensures.part;
+    }

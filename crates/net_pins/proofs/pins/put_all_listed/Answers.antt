@@ -15,4 +15,4 @@ loop-entry-preserved g c =
     let rest = flat_map listed (map entry_lent (drop (i + 1) c.args.entries.now)) in
     more_pins_put (flat_map f (listed (entry_lent c.entry-item.result))) (flat_map f rest)
     (ap (λ es. flat_map f (flat_map listed (map entry_lent es))) there ∙ flat_map-append f (listed (entry_lent c.entry-item.result)) rest)
-    c.loop-entry.invariant c.in_ok-put_listed.ensures.ok c.in_ok-put_listed.ensures.net
+    c.loop-entry.invariant c.in_ok-put_listed.ensures.ok c.in_ok-put_listed.ensures.ready

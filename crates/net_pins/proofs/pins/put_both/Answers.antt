@@ -10,6 +10,6 @@ pub returns-clause-ok : goal.returns-clause-ok
 returns-clause-ok g c =
     let of = c.args.of.now in
     on_ok_weaker c.put_all.result
-    (both_put (flat_map (pins_of (pins_in of)) (flat_map listed (map entry_lent c.args.entries.now))) (map (design_pin_of of) (map lent_pin c.args.pins.now)) c.new-seen.result c.put_all_listed.new.seen c.put_all.new.seen
-    c.args.nets.now c.put_all_listed.new.nets c.put_all.new.nets c.new-seen.ensures c.in_ok-put_all_listed.ensures.ok)
+    (both_put (flat_map (pins_of (pins_in of)) (flat_map listed (map entry_lent c.args.entries.now))) (map (design_pin_of of) (map lent_pin c.args.pins.now)) c.clear.new.self c.put_all_listed.new.walk.seen c.put_all.new.walk.seen
+    c.args.nets.now c.put_all_listed.new.nets c.put_all.new.nets c.clear.ensures c.in_ok-put_all_listed.ensures.ok)
     c.put_all.ensures.ok

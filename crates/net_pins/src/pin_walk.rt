@@ -1,0 +1,33 @@
+//! What the pins of one net after the other are found with.
+
+ghost use Rattle.std.specs.Prelude.{◌≡◌};
+
+use crate::seen_pins::SeenPins;
+use cell_library::library::Library;
+use checked_layers::LastLayers;
+use std::alloc::{Allocator, Global};
+use std::hash::RandomState;
+
+/// What a drawing goes on with from one net to the next: the layers that were looked up last; and the pins of the present net that
+/// were seen, with the room for those of the next.
+#[derive(Drop)]
+pub struct PinWalk<'a, 'l, 't, A: Allocator = Global> {
+    pub(crate) layers: LastLayers<'a, 'l, A>,
+    pub(crate) seen: SeenPins<'t, A>,
+}
+
+impl<'a, 'l, 't, A: Allocator + Copy> PinWalk<'a, 'l, 't, A> {
+    /// That of a drawing which has put nothing yet. It takes no memory.
+    pub(crate) fn new(
+        alloc: A,
+        library: &'a Library<'l, A>,
+        hash_builder: RandomState,
+    ) -> PinWalk<'a, 'l, 't, A>
+        ensures { result.layers ≡ library.entry.now }
+    {
+        PinWalk {
+            layers: LastLayers::new(library),
+            seen: SeenPins::new(alloc, hash_builder),
+        }
+    }
+}
