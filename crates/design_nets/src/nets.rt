@@ -12,10 +12,10 @@ ghost use Rattle.drawn_parts.specs.DrawnLengths.{capped};
 use cell_library::library::Library;
 use design_names::names::Names;
 use design_wires::wires::DesignWires;
-use drawn_parts::put_drawn;
+use drawn_parts::{PartWalk, put_drawn};
 use net_entries::{LentEntry, entries_by_net, is_power};
 use net_lists::{NetList, building_a_net};
-use net_pins::Pins;
+use net_pins::{PinWalk, Pins};
 use std::alloc::{AllocError, Allocator, Global};
 
 /// The nets of a design, and the length of each.
@@ -28,24 +28,28 @@ pub struct MeasuredNets<'t, A: Allocator = Global> {
 
 /// Puts the net of a name and of its entries behind the others, and gives its length.
 fn put_net<'v, 'a, 'l: 'a, 'r: 'a, 't: 'a, A: Allocator + Copy>(
-    alloc: A,
     pins: &Pins<'v, 'a, 'l, 'r, 't, A>,
-    library: &Library<'_, A>,
     wires: &DesignWires<'a, 'l, 'r, 't, A>,
     name: &'t [u8],
     entries: &[LentEntry<'_, 't>],
+    pin_walk: &mut PinWalk<'_, '_, 't, A>,
+    part_walk: &mut PartWalk<'_, '_, A>,
     nets: &mut NetList<'t, A>,
 ) -> Result<u64, AllocError>
-    requires library { library.now ≡ wires.now.library }
     requires pins { pins.now ≡ wires.now }
-    ensures net { let design = wires.now.design in let u = scale design in
-        OnOk result (nets.new ≡ nets.old ++ net_of library.now.layers (pins_by_name library.now design u) name.now (filter_map (wired_of library.now design u) (map entry_lent entries.now)) ∷ []) }
-    ensures length { let design = wires.now.design in IfOk result (λ n. n ≡ capped (sum_by wired_length (filter_map (wired_of library.now design (scale design)) (map entry_lent entries.now)))) }
+    requires pin_walk { pin_walk.old.layers ≡ wires.now.library }
+    requires part_walk { part_walk.old.layers ≡ wires.now.library }
+    ensures net { let library = wires.now.library in let design = wires.now.design in let u = scale design in
+        OnOk result (nets.new ≡ nets.old ++ net_of library.layers (pins_by_name library design u) name.now (filter_map (wired_of library design u) (map entry_lent entries.now)) ∷ []) }
+    ensures length { let library = wires.now.library in let design = wires.now.design in
+        IfOk result (λ n. n ≡ capped (sum_by wired_length (filter_map (wired_of library design (scale design)) (map entry_lent entries.now)))) }
+    ensures pin_walk { OnOk result (pin_walk.new.layers ≡ wires.now.library) }
+    ensures part_walk { OnOk result (part_walk.new.layers ≡ wires.now.library) }
 {
     building_a_net();
     nets.begin_net(name, is_power(entries))?;
-    pins.put_pins(alloc, name, entries, nets)?;
-    let length = put_drawn(library, wires, entries, nets)?;
+    pins.put_pins(name, entries, pin_walk, nets)?;
+    let length = put_drawn(wires, entries, part_walk, nets)?;
     Ok(length)
 }
 
@@ -65,11 +69,21 @@ pub fn measured_nets<'a, 'l: 'a, 'r: 'a, 't: 'a, A: Allocator + Copy>(
 {
     let groups = entries_by_net(alloc, names.hash_builder(), names.records())?;
     let pins = Pins::new(alloc, library, names, wires)?;
+    let mut pin_walk = pins.walk(alloc);
+    let mut part_walk = PartWalk::new(library);
     let mut nets = NetList::new(alloc);
     let mut lengths = Vec::new(alloc);
     for place in 0..groups.len() {
         let (name, entries) = groups.at(place);
-        let length = put_net(alloc, &pins, library, wires, name, entries, &mut nets)?;
+        let length = put_net(
+            &pins,
+            wires,
+            name,
+            entries,
+            &mut pin_walk,
+            &mut part_walk,
+            &mut nets,
+        )?;
         lengths.push(length)?;
     }
     Ok(MeasuredNets { nets, lengths })

@@ -20,6 +20,8 @@ loop-place-preserved g c =
     let net = rw (c.requires.same) at c.in_ok-length.ensures.net in
     let length = rw (c.requires.same) at c.in_ok-length.ensures.length in
     record {
+      pin_walk = c.in_ok-length.ensures.pin_walk;
+      part_walk = c.in_ok-length.ensures.part_walk;
       nets = next_net (λ x. net_of_group library design u (wired_group library design u x)) gs c.loop-place.place c.loop-place.nets _ c.loop-place.invariant.nets group c.put_net.new.nets here net;
       lengths =
           next_net (λ x. length_of_group (wired_group library design u x)) gs c.loop-place.place c.loop-place.lengths.items _ c.loop-place.invariant.lengths group c.push.new.self.items here

@@ -7,6 +7,8 @@ use Rattle.design_nets.proofs.nets.measured_nets.Given as goal
 
 abbrev pub invariant-loop-place : goal.invariant-loop-place
 invariant-loop-place g l = record {
+  pin_walk : l.pin_walk.layers ≡ l.wires.library;
+  part_walk : l.part_walk.layers ≡ l.wires.library;
   nets :
       l.nets ++ map (λ x. net_of_group l.library l.names (scale l.names) (wired_group l.library l.names (scale l.names) x)) (drop l.place (map group_view l.groups-inside.groups.entries))
       ≡ map (λ x. net_of_group l.library l.names (scale l.names) (wired_group l.library l.names (scale l.names) x)) (map group_view l.groups-inside.groups.entries);

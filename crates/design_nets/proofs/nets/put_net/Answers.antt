@@ -9,11 +9,12 @@ use Rattle.design_nets.proofs.nets.put_net.Goals as goal
 
 pub returns-clause-net : goal.returns-clause-net
 returns-clause-net g c =
-    let library = c.args.library.now in
+    let library = c.args.wires.now.library in
     let design = c.args.wires.now.design in
     let ws = filter_map (wired_of library design (scale design)) (map entry_lent c.args.entries.now) in
     let begun = rw (c.is_power.ensures library design (scale design)) at c.in_ok-begin_net.ensures.ok in
-    let given = rw (c.requires.pins, ← c.requires.library) at c.in_ok-put_pins.ensures.ok in
+    let given = rw (c.requires.pins) at c.in_ok-put_pins.ensures.ok in
+    let built = rw (c.requires.part_walk) at c.in_ok-length.ensures.ok in
     net_built c.building_a_net.ensures c.args.nets.now c.args.name.now (list_any (λ (w : Wired). w.is_power) ws)
     (pin_parts (pins_by_name library design (scale design)) c.args.name.now ws) (drawn_parts library.layers ws)
-    _ _ _ begun given c.in_ok-length.ensures.ok
+    _ _ _ begun given built
