@@ -41,13 +41,14 @@ fn refused<A: Allocator>(
 /// The answer to `check`.
 fn check_answer<A: Allocator + Copy>(
     alloc: A,
-    session: &Session<'_, '_, A>,
+    session: &mut Session<'_, '_, A>,
     number: u64,
     tally: &mut Tally,
 ) -> Result<Vec<u8, A>, AllocError>
-    requires reads { IsOk (read_def session.now.text) }
-    ensures gives { IfOk result (λ v. LineAnswers session.now.library number (ask report) session.now.text (counts_of tally.old) v.items session.now.text (counts_of tally.new)) }
-    ensures same { tally.new ≡ tally.old }
+    requires reads { IsOk (read_def session.old.text) }
+    ensures gives { IfOk result (λ v. LineAnswers session.old.library number (ask report) session.old.text (counts_of tally.old) v.items session.new.text (counts_of tally.new)) }
+    ensures same { session.new ≡ session.old }
+    ensures tally { tally.new ≡ tally.old }
 {
     let lines = session.diagnostics()?;
     check_text(alloc, &lines)

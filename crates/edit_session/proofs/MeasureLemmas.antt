@@ -5,7 +5,7 @@ use Rattle.design_model.specs.declared.fault.Fault.{Fault}
 use Rattle.def_grammar.specs.Records.{Record, read_def}
 use Rattle.edit_session.specs.Sessions.{Measures}
 
-design_of : (r : Result (List Record) Fault) → IsOk r → (design : List Record) × (r ≡ Ok design)
+pub design_of : (r : Result (List Record) Fault) → IsOk r → (design : List Record) × (r ≡ Ok design)
 design_of (Ok design) h = (design, refl)
 design_of (Err f) h = absurd (cc)
 

@@ -1,7 +1,22 @@
 -- Lines that are made by putting parts behind one another.
-use Rattle.std.proofs.Common.{◌≡◌, ℕ, List, [], ◌++◌, ap, ◌∙◌, append-nil, sym, arith}
+use Rattle.std.proofs.Common.{◌≡◌, ℕ, List, [], ◌++◌, Option, Some, None, Result, Ok, Err, ap, ◌∙◌, append-nil, subst, sym, arith, cond}
+use Rattle.std.specs.Prelude.{IfOk, IfSome, IsPermutation, IsSome, MatchOption}
+use Rattle.std.specs.Str.{bytes_eq}
+use Rattle.std.proofs.lemmas.List.Sorted.{All-permutation, sum_by-IsPermutation}
+use Rattle.design_model.specs.declared.diagnostic.DiagLine.{DiagLine}
+use Rattle.design_model.specs.Lines.{IsOfItsKind}
+use Rattle.design_model.specs.Order.{sorted_by_bytes, texts}
+use Rattle.kept_lines.specs.Kept.{Kept}
+use Rattle.line_laws.specs.SortingLaws.{SortingIsByLines}
 use Rattle.line_laws.specs.Lines.{SameLines, times}
 use Rattle.line_laws.proofs.PairSums.{times-append}
+use Rattle.def_grammar.specs.Records.{Record, read_def}
+use Rattle.lef_grammar.specs.Library.{Library}
+use Rattle.net_checks.specs.Drawings.{Drawing, IsDrawingOf}
+use Rattle.report_lines.specs.Kinds.{HaveTheirKinds}
+use Rattle.report_rules.specs.Diagnostics.{diagnostics}
+use Rattle.edit_session.specs.Sessions.{AreDiagnostics}
+use Rattle.edit_session.specs.Known.{AreKept, IsDrawingOfText}
 
 abbrev Lines : Type 0
 Lines = List (List ℕ)
@@ -17,20 +32,45 @@ module _ (old : Lines) where
     often = λ q. more.often q ∙ ap (λ (l : Lines). times q (l ++ d)) (h2 ∙ ap (λ (l : Lines). l ++ b) h1) ∙ same.often q;
   }
 
--- the families of a design in the order in which they are put, those on its nets last
-pub all_families : (l1 l2 l3 l4 n s u o p t : Lines) → l1 ≡ n → l2 ≡ l1 ++ u → SameLines l3 (l2 ++ (o ++ p)) → l4 ≡ l3 ++ s
-    → SameLines (l4 ++ t) (n ++ (s ++ (u ++ (o ++ (p ++ (t ++ []))))))
-all_families l1 l2 l3 l4 n s u o p t h1 h2 places h4 = record {
+-- the sorted lines have each line as often
+sorted_same : SortingIsByLines → (q : List ℕ) (lines : Lines) → times q (sorted_by_bytes lines) ≡ times q lines
+sorted_same law q lines = sum_by-IsPermutation (λ x. cond (bytes_eq q x) 1 0) lines (sorted_by_bytes lines) (law.0 lines).same
+
+-- copies of lines that are known, behind others
+pub copies_of : (known : Option Kept) (before after lines : Lines) → IsSome known → IfSome known (λ k. after ≡ before ++ k.lines) → IfSome known (AreKept lines) → after ≡ before ++ sorted_by_bytes lines
+copies_of None before after lines some copied kept = cc
+copies_of (Some k) before after lines some copied kept = copied ∙ ap (λ (l : Lines). before ++ l) kept
+
+-- the sorted lines of three parts, one behind the other, are all lines
+pub joined_parts : SortingIsByLines → (v0 v1 v2 v3 s p n all : Lines) → v0 ≡ [] → v1 ≡ v0 ++ sorted_by_bytes s → v2 ≡ v1 ++ sorted_by_bytes p → v3 ≡ v2 ++ sorted_by_bytes n
+    → SameLines (s ++ (p ++ n)) all → SameLines v3 all
+joined_parts law v0 v1 v2 v3 s p n all h0 h1 h2 h3 parts = record {
   often = λ q.
-      let e1 : times q l1 ≡ times q n = ap (times q) h1 in
-      let e2 : times q l2 ≡ times q (l1 ++ u) = ap (times q) h2 in
-      let e3 = places.often q in
-      let e4 : times q l4 ≡ times q (l3 ++ s) = ap (times q) h4 in
-      let rest = times-append q n (s ++ (u ++ (o ++ (p ++ (t ++ []))))) in
-      let rest1 = times-append q s (u ++ (o ++ (p ++ (t ++ [])))) in
-      let rest2 = times-append q u (o ++ (p ++ (t ++ []))) in
-      let rest3 = times-append q o (p ++ (t ++ [])) in
-      let rest4 = times-append q p (t ++ []) in
-      let rest5 : times q (t ++ []) ≡ times q t = ap (times q) (append-nil t) in
-      omega (arith, e1, e2, e3, e4, rest, rest1, rest2, rest3, rest4, rest5, times-append q l4 t, times-append q l3 s, times-append q l1 u, times-append q l2 (o ++ p), times-append q o p);
+      let e0 : times q v0 ≡ 0 = ap (times q) h0 in
+      let e1 : times q v1 ≡ times q (v0 ++ sorted_by_bytes s) = ap (times q) h1 in
+      let e2 : times q v2 ≡ times q (v1 ++ sorted_by_bytes p) = ap (times q) h2 in
+      let e3 : times q v3 ≡ times q (v2 ++ sorted_by_bytes n) = ap (times q) h3 in
+      let e4 = parts.often q in
+      omega (arith, e0, e1, e2, e3, e4, sorted_same law q s, sorted_same law q p, sorted_same law q n, times-append q v0 (sorted_by_bytes s), times-append q v1 (sorted_by_bytes p), times-append q v2 (sorted_by_bytes n), times-append q s (p ++ n), times-append q p n);
 }
+
+-- lines in another order have their kinds too
+pub kinds_moved : {A : Type 0} (old new : List (DiagLine A)) → IsPermutation old new → HaveTheirKinds old → HaveTheirKinds new
+kinds_moved old new moved k = record { each = All-permutation IsOfItsKind old new moved k.each }
+
+-- what holds of the design that a text reads as
+pub of_this : (T : List Record → Type 0) (text : List ℕ) (design other : List Record) → read_def text ≡ Ok design → read_def text ≡ Ok other → T design → T other
+of_this T text design other reads also t = let a = reads in let b = also in let same : design ≡ other = cc in subst T same t
+
+pub drawn_of : {E : Type 0} (Known : Type 0) (library : Library) (text : List ℕ) (design : List Record) (r : Result (Option Drawing) E) → read_def text ≡ Ok design
+    → IfOk r (λ nets. MatchOption nets Known (λ d. IsDrawingOf library design d))
+    → IfOk r (λ nets. MatchOption nets Known (λ d. IsDrawingOfText library text d))
+drawn_of Known library text design (Ok None) reads h = h
+drawn_of Known library text design (Ok (Some d)) reads h = λ other also. of_this (λ (it : List Record). IsDrawingOf library it d) text design other reads also h
+drawn_of Known library text design (Err e) reads h = tt
+
+pub told_of : {A E : Type 0} (library : Library) (text : List ℕ) (design : List Record) (r : Result (List (DiagLine A)) E) → read_def text ≡ Ok design
+    → IfOk r (λ lines. texts lines ≡ diagnostics library design)
+    → IfOk r (λ lines. AreDiagnostics library text lines)
+told_of library text design (Ok lines) reads h = (design, reads, h)
+told_of library text design (Err e) reads h = tt

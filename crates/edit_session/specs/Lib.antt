@@ -1,3 +1,3 @@
 pub mod Contents
-pub mod Reports
+pub mod Known
 pub mod Sessions

@@ -5,14 +5,16 @@
 //! `specs/Sessions`, over `Runs` of `edit_rules`, `Diagnostics` of `report_rules` and the definitions of `measure_rules`: every
 //! answer is that of reading the present text afresh, and each text of a session reads.
 //!
-//! A session borrows its library and keeps a copy of the text, of which it lends entries (`view::View`), and from the first
-//! question on measures up to the next edit what `reports` made. `open` answers `ReadError` (the text's
+//! A session borrows its library and keeps a copy of the text, of which it lends entries (`view::View`), from the first
+//! question on measures up to the next edit what `reports` made, and the lines of diagnostics, part by part, up to an edit that may
+//! change them (`staying_laws`). `open` answers `ReadError` (the text's
 //! fault, or refused memory), an edit `EditRefusal`, and then the text is as it was, `diagnostics` and questions on measures answer
 //! `AllocError`, and `write_to` `WriteFault`, where a first part of the text was written. Offsets of a text edit are
 //! bytes from 0, with the end after the last byte.
 #![tactic(auto)]
 
+mod known_lines;
 mod measures;
-pub mod report;
+mod report;
 pub mod session;
 pub mod view;

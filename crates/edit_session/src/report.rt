@@ -1,25 +1,28 @@
-//! The report on a text.
+//! The lines of a report on the present text, part by part.
 
-ghost use Rattle.std.specs.Prelude.{◌≡◌, ◌++◌, ◌<◌, ◌≤◌, IfOk, OnOk, flat_map, map};
+ghost use Rattle.std.specs.Prelude.{◌≡◌, ◌++◌, ◌<◌, ◌≤◌, IfOk, IsSome, List, MatchOption, OnOk, flat_map, map};
+ghost use Rattle.def_grammar.specs.Records.{Record};
 ghost use Rattle.def_reader.specs.StatementViews.{record_view};
+ghost use Rattle.lef_grammar.specs.Library.{Library as TheLibrary};
+ghost use Rattle.connection_rules.specs.NetLines.{net_lines};
 ghost use Rattle.design_rules.specs.Boxes.{scale};
 ghost use Rattle.report_rules.specs.Diagnostics.{statement_lines};
 ghost use Rattle.design_rules.specs.OverlapLines.{overlap_lines};
 ghost use Rattle.design_rules.specs.PlaceLines.{place_lines};
 ghost use Rattle.line_laws.specs.Lines.{SameLines};
+ghost use Rattle.staying_laws.specs.Staying.{lines_on_places, lines_on_statements};
 ghost use Rattle.design_text.specs.DesignTexts.{text_of};
-ghost use Rattle.report_lines.specs.Kinds.{HaveTheirKinds};
 ghost use Rattle.net_checks.specs.Drawings.{IsDrawingOf};
-ghost use Rattle.edit_session.specs.Reports.{LackNets};
-ghost use Rattle.edit_session.specs.Sessions.{AreDiagnostics};
+ghost use Rattle.edit_session.specs.Known.{AllKnown, AreKept, AreKnown, AreKnownOf, IsDrawingOfText};
 
+use crate::known_lines::KnownLines;
 use cell_library::library::Library;
 use def_reader::statement::Statement;
-use design_model::diagnostic::DiagLines;
 use design_names::names::{Names, names_of};
 use design_text::text::DesignText;
 use entry_checks::statement_lines::StatementChecks;
 use entry_checks::unchecked::unchecked_in_library;
+use kept_lines::KeptLines;
 use line_laws::one::components_in_any_order;
 use line_laws::same::{maps_are_same, permutations_are_same};
 use line_laws::scales::scales_are_good;
@@ -66,23 +69,6 @@ fn put_each<'t, A: Allocator + Copy>(
     Ok(())
 }
 
-/// Puts the lines on each statement of a design by itself behind others, and gives its nets with their shapes.
-fn put_named<'l, 't, A: Allocator + Copy>(
-    alloc: A,
-    library: &Library<'l, A>,
-    records: &[Statement<'t>],
-    lines: &mut Lines<A>,
-) -> Result<NetDrawing<'l, 't, A>, AllocError>
-    requires some { 0 < scale (map record_view records.now) }
-    requires few { scale (map record_view records.now) ≤ 100000 }
-    ensures lines { let design = map record_view records.entry.now in OnOk result (lines.new ≡ lines.old ++ flat_map (statement_lines library.now design) design) }
-    ensures nets { IfOk result (IsDrawingOf library.now (map record_view records.entry.now)) }
-{
-    let names = names_of(alloc, library.hash_builder(), records)?;
-    put_each(alloc, library, &names, records, lines)?;
-    NetDrawing::new(alloc, library, &names)
-}
-
 /// Puts the lines on components and what they stand in behind others, in the order of a sweep over them.
 fn put_places<'t, A: Allocator + Copy>(
     alloc: A,
@@ -108,36 +94,131 @@ fn put_places<'t, A: Allocator + Copy>(
     Ok(())
 }
 
-/// All lines on a text but those on its nets, and its nets with their shapes. Each statement is read once, from its piece, and none
-/// is kept.
-fn all_but_nets<'l, 't, A: Allocator + Copy>(
+/// The lines on components.
+fn on_places<'t, A: Allocator + Copy>(
+    alloc: A,
+    library: &'t Library<'_, A>,
+    records: &[Statement<'t>],
+) -> Result<KeptLines<A>, AllocError>
+    requires some { 0 < scale (map record_view records.now) }
+    requires few { scale (map record_view records.now) ≤ 100000 }
+    ensures { IfOk result (AreKept (lines_on_places library.entry.now (map record_view records.entry.now))) }
+{
+    same_lines_sort_alike();
+    let mut lines = Lines::new(alloc);
+    put_places(alloc, library, records, &mut lines)?;
+    Ok(KeptLines::of(lines))
+}
+
+/// The lines on headers, on each statement by itself, and on the library.
+fn on_statements<A: Allocator + Copy>(
+    alloc: A,
+    library: &Library<'_, A>,
+    names: &Names<'_, '_, A>,
+) -> Result<KeptLines<A>, AllocError>
+    ensures { IfOk result (AreKept (lines_on_statements library.now names.now)) }
+{
+    let records = names.records();
+    let mut lines = Lines::new(alloc);
+    counts_of(records, &mut lines)?;
+    put_each(alloc, library, names, records, &mut lines)?;
+    unchecked_in_library(library, &mut lines)?;
+    Ok(KeptLines::of(lines))
+}
+
+/// The lines on nets.
+fn on_nets<A: Allocator + Copy>(
+    alloc: A,
+    nets: &NetDrawing<'_, '_, A>,
+) -> Result<KeptLines<A>, AllocError>
+    ensures { (library : TheLibrary) (design : List Record) → IsDrawingOf library design nets.now → IfOk result (AreKept (net_lines library design (scale design))) }
+{
+    same_lines_sort_alike();
+    let lines = nets.put_lines(alloc, Lines::new(alloc))?;
+    Ok(KeptLines::of(lines))
+}
+
+/// Makes the lines on components known.
+fn know_places<'t, A: Allocator + Copy>(
+    alloc: A,
+    library: &'t Library<'_, A>,
+    records: &[Statement<'t>],
+    known: &mut KnownLines<A>,
+) -> Result<(), AllocError>
+    requires some { 0 < scale (map record_view records.now) }
+    requires few { scale (map record_view records.now) ≤ 100000 }
+    requires known { AreKnown library.now (map record_view records.now) known.old }
+    ensures known { AreKnown library.entry.now (map record_view records.entry.now) known.new }
+    ensures places { OnOk result (IsSome known.new.places) }
+{
+    if known.places.is_none() {
+        known.places = Some(on_places(alloc, library, records)?);
+    }
+    Ok(())
+}
+
+/// Makes the lines on statements known, and gives the nets of a design with their shapes, unless the lines on nets are known.
+fn know_statements<'l, 't, A: Allocator + Copy>(
+    alloc: A,
+    library: &Library<'l, A>,
+    records: &[Statement<'t>],
+    known: &mut KnownLines<A>,
+) -> Result<Option<NetDrawing<'l, 't, A>>, AllocError>
+    requires some { 0 < scale (map record_view records.now) }
+    requires few { scale (map record_view records.now) ≤ 100000 }
+    requires known { AreKnown library.now (map record_view records.now) known.old }
+    ensures known { AreKnown library.now (map record_view records.entry.now) known.new }
+    ensures places { known.new.places ≡ known.old.places }
+    ensures statements { OnOk result (IsSome known.new.statements) }
+    ensures nets { IfOk result (λ nets. MatchOption nets (IsSome known.new.nets) (IsDrawingOf library.now (map record_view records.entry.now))) }
+{
+    let names = names_of(alloc, library.hash_builder(), records)?;
+    if known.statements.is_none() {
+        known.statements = Some(on_statements(alloc, library, &names)?);
+    }
+    if known.nets.is_some() {
+        return Ok(None);
+    }
+    let nets = NetDrawing::new(alloc, library, &names)?;
+    Ok(Some(nets))
+}
+
+/// Makes all lines known but those on nets, and gives the nets with their shapes, unless the lines on them are known too. Each
+/// statement is read once, from its piece, and none is kept.
+fn know_all_but_nets<'l, 't, A: Allocator + Copy>(
     alloc: A,
     library: &'t Library<'l, A>,
     text: &'t DesignText<A>,
-) -> Result<(Lines<A>, NetDrawing<'l, 't, A>), AllocError>
-    ensures { IfOk result (λ x. LackNets library.now (text_of text.now) x.0 x.1) }
+    known: &mut KnownLines<A>,
+) -> Result<Option<NetDrawing<'l, 't, A>>, AllocError>
+    requires { AreKnownOf library.now (text_of text.now) known.old }
+    ensures known { AreKnownOf library.entry.now (text_of text.entry.now) known.new }
+    ensures statements { OnOk result (IsSome known.new.statements) }
+    ensures places { OnOk result (IsSome known.new.places) }
+    ensures nets { IfOk result (λ nets. MatchOption nets (IsSome known.new.nets) (λ d. IsDrawingOfText library.entry.now (text_of text.entry.now) d)) }
 {
     scales_are_good();
     let records = text.statements(alloc)?;
-    let mut lines = Lines::new(alloc);
-    counts_of(&records, &mut lines)?;
-    unchecked_in_library(library, &mut lines)?;
-    put_places(alloc, library, &records, &mut lines)?;
-    let nets = put_named(alloc, library, &records, &mut lines)?;
-    Ok((lines, nets))
+    know_places(alloc, library, &records, known)?;
+    know_statements(alloc, library, &records, known)
 }
 
-/// All diagnostics of a text, in the order of their bytes, repeats kept.
-pub fn report<'l, 't, A: Allocator + Copy>(
+/// Makes the lines on a text known. What was known is not made again.
+pub(crate) fn know_lines<A: Allocator + Copy>(
     alloc: A,
-    library: &'t Library<'l, A>,
-    text: &'t DesignText<A>,
-) -> Result<DiagLines<A>, AllocError>
-    ensures lines { IfOk result (λ lines. AreDiagnostics library.now (text_of text.now) lines) }
-    ensures kinds { IfOk result (λ lines. HaveTheirKinds lines) }
+    library: &Library<'_, A>,
+    text: &DesignText<A>,
+    known: &mut KnownLines<A>,
+) -> Result<(), AllocError>
+    requires { AreKnownOf library.now (text_of text.now) known.old }
+    ensures known { AreKnownOf library.now (text_of text.now) known.new }
+    ensures all { OnOk result (AllKnown known.new) }
 {
-    same_lines_sort_alike();
-    let (lines, nets) = all_but_nets(alloc, library, text)?;
-    let lines = nets.put_lines(alloc, lines)?;
-    Ok(lines.into_sorted())
+    if known.are_all() {
+        return Ok(());
+    }
+    if let Some(nets) = know_all_but_nets(alloc, library, text, known)? {
+        known.nets = Some(on_nets(alloc, &nets)?);
+    }
+    Ok(())
 }

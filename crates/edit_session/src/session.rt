@@ -20,8 +20,9 @@ ghost use Rattle.design_text.specs.Editing.{KeepsTheRest, ReadsEdited};
 ghost use Rattle.design_text.specs.FewReads.{ReadsFew, new_in};
 ghost use Rattle.edit_session.specs.Sessions.{AnswersOn, AreDiagnostics, HasParts, Measures, OpensAs, Views};
 
+use crate::known_lines::KnownLines;
 use crate::measures::kept_or_made;
-use crate::report::report;
+use crate::report::know_lines;
 use crate::view::{View, view_of};
 use cell_library::library::Library;
 use counted_devices::counted::{CountedWrite, Failures};
@@ -46,6 +47,8 @@ pub struct Session<'s, 'l, A: Allocator + Copy = Global> {
     text: DesignText<A>,
     /// What was measured of the present text, if that was asked since it was last edited.
     reports: Option<Reports<A>>,
+    /// The lines on the present text that are known.
+    known: KnownLines<A>,
 }
 
 impl<'s, 'l, A: Allocator + Copy> Model for Session<'s, 'l, A> {
@@ -53,13 +56,14 @@ impl<'s, 'l, A: Allocator + Copy> Model for Session<'s, 'l, A> {
     ghost use Rattle.def_grammar.specs.Records.{read_def};
     ghost use Rattle.design_text.specs.DesignTexts.{text_of};
     ghost use Rattle.edit_session.specs.Contents.{Content};
+    ghost use Rattle.edit_session.specs.Known.{AreKnownOf};
     ghost use Rattle.edit_session.specs.Sessions.{AnswersOn};
 
     ghost Value = { Content };
 
     ghost view = { λ s. record { library = s.library.now; text = text_of s.text } };
 
-    ghost invariant = { λ s. IsOk (read_def (text_of s.text)) × IfSome s.reports (AnswersOn s.library.now (text_of s.text)) };
+    ghost invariant = { λ s. IsOk (read_def (text_of s.text)) × IfSome s.reports (AnswersOn s.library.now (text_of s.text)) × AreKnownOf s.library.now (text_of s.text) s.known };
 }
 
 impl<'s, 'l, A: Allocator + Copy> Session<'s, 'l, A> {
@@ -94,6 +98,7 @@ impl<'s, 'l, A: Allocator + Copy> Session<'s, 'l, A> {
             library,
             text,
             reports: None,
+            known: KnownLines::none(),
         })
     }
 
@@ -124,6 +129,7 @@ impl<'s, 'l, A: Allocator + Copy> Session<'s, 'l, A> {
         self.text.text_reads();
         let reads = edited?;
         self.reports = None;
+        self.known.stay_behind(edit);
         Ok(Done { reads, tests: 0 })
     }
 
@@ -138,6 +144,7 @@ impl<'s, 'l, A: Allocator + Copy> Session<'s, 'l, A> {
         self.text.text_reads();
         let reads = edited?;
         self.reports = None;
+        self.known = KnownLines::none();
         Ok(Done { reads, tests: 0 })
     }
 
@@ -150,12 +157,15 @@ impl<'s, 'l, A: Allocator + Copy> Session<'s, 'l, A> {
         view_of(&self.text, section, name)
     }
 
-    /// All diagnostics of the present text, in the order of their bytes, repeats kept.
-    pub fn diagnostics(&self) -> Result<DiagLines<A>, AllocError>
-        ensures lines { IfOk result (λ lines. AreDiagnostics self.now.library self.now.text lines) }
+    /// All diagnostics of the present text, in the order of their bytes, repeats kept. Lines are made at the first question after an
+    /// edit that may have changed them, and kept up to the next such edit.
+    pub fn diagnostics(&mut self) -> Result<DiagLines<A>, AllocError>
+        ensures lines { IfOk result (λ lines. AreDiagnostics self.old.library self.old.text lines) }
         ensures kinds { IfOk result (λ lines. HaveTheirKinds lines) }
+        ensures same { self.new ≡ self.old }
     {
-        report(self.alloc, self.library, &self.text)
+        know_lines(self.alloc, self.library, &self.text, &mut self.known)?;
+        self.known.joined(self.alloc)
     }
 
     /// What is measured of the present text, which no field has then.
