@@ -15,7 +15,9 @@ use design_model::sequence::Sequence;
 use edit_model::edit::Edit;
 use kept_lines::KeptLines;
 use line_laws::sorting::{same_lines_sort_alike, sorting_is_by_lines};
-use staying_laws::{net_edits_keep_places, parts_are_all, placing_keeps_statements, unplacing_keeps_statements};
+use staying_laws::{
+    net_edits_keep_places, parts_are_all, placing_keeps_statements, unplacing_keeps_statements,
+};
 use std::alloc::{AllocError, Allocator, Global};
 
 /// The lines on a text in three parts, each as far as it was asked for and no edit since then can have changed it.

@@ -60,11 +60,7 @@ impl<A: Allocator + Copy> KeptLines<A> {
     }
 
     /// Puts copies of the lines behind others, in their order. It takes at most one allocation for each line, and those of the list.
-    pub fn copy_to(
-        &self,
-        alloc: A,
-        lines: &mut Vec<DiagLine<A>, A>,
-    ) -> Result<(), AllocError>
+    pub fn copy_to(&self, alloc: A, lines: &mut Vec<DiagLine<A>, A>) -> Result<(), AllocError>
         requires { HaveTheirKinds lines.old.items }
         ensures lines { OnOk result (texts lines.new.items ≡ texts lines.old.items ++ self.now.lines) }
         ensures kinds { OnOk result (HaveTheirKinds lines.new.items) }
