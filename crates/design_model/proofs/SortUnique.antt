@@ -14,27 +14,27 @@ use Rattle.design_model.specs.Order.{byte_cmp, put_in_order, sorted_by_bytes, Is
 abbrev Text : Type 0
 Text = List ℕ
 
-abbrev pub hit : Ordering → ℕ
+abbrev hit : Ordering → ℕ
 hit Less = 0
 hit Equal = 1
 hit Greater = 0
 
 -- how often q stands in a list
-abbrev pub count : Text → List Text → ℕ
+abbrev count : Text → List Text → ℕ
 count q xs = sum_by (λ x. hit (byte_cmp q x)) xs
 
-pub count-cons : (q x : Text) (xs : List Text) → count q (x ∷ xs) ≡ hit (byte_cmp q x) + count q xs
+count-cons : (q x : Text) (xs : List Text) → count q (x ∷ xs) ≡ hit (byte_cmp q x) + count q xs
 count-cons q x xs = sum_by-cons (λ t. hit (byte_cmp q t)) x xs
 
-abbrev pub Above : Text → List Text → Type 0
+abbrev Above : Text → List Text → Type 0
 Above x [] = Unit {0}
 Above x (y ∷ ys) = (is_lt (byte_cmp y x) ≡ false) × Above x ys
 
-abbrev pub Up : List Text → Type 0
+abbrev Up : List Text → Type 0
 Up [] = Unit {0}
 Up (x ∷ xs) = Above x xs × Up xs
 
-pub itself : (x : Text) → byte_cmp x x ≡ Equal
+itself : (x : Text) → byte_cmp x x ≡ Equal
 itself x =
     let a = nat_list_cmp_total.antisymm x x in
     elim (byte_cmp x x) as (λ r. r ≡ ordering_reverse r → r ≡ Equal) [ Less ↦ λ e. cc | Equal ↦ λ e. refl | Greater ↦ λ e. cc ] a
@@ -50,7 +50,7 @@ less_le x y z p n =
 not_back : (x y : Text) → byte_cmp y x ≡ Less → is_lt (byte_cmp x y) ≡ false
 not_back x y p = ap is_lt (nat_list_cmp_total.antisymm x y ∙ ap ordering_reverse p)
 
-pub not_less : (x y z : Text) → is_lt (byte_cmp y x) ≡ false → is_lt (byte_cmp z y) ≡ false → is_lt (byte_cmp z x) ≡ false
+not_less : (x y z : Text) → is_lt (byte_cmp y x) ≡ false → is_lt (byte_cmp z y) ≡ false → is_lt (byte_cmp z x) ≡ false
 not_less x y z yx zy =
     elim (byte_cmp z x) as (λ r. byte_cmp z x ≡ r → is_lt r ≡ false) [
       | Less ↦ λ e. let f : is_lt (byte_cmp z y) ≡ true = ap is_lt (less_le z x y e yx) in cc
@@ -58,14 +58,14 @@ not_less x y z yx zy =
       | Greater ↦ λ e. refl
     ] refl
 
-pub count-above : (x y : Text) (ys : List Text) → byte_cmp x y ≡ Less → Above y ys → count x ys ≡ 0
+count-above : (x y : Text) (ys : List Text) → byte_cmp x y ≡ Less → Above y ys → count x ys ≡ 0
 count-above x y [] p a = refl
 count-above x y (z ∷ zs) p a =
     let e : hit (byte_cmp x z) ≡ 0 = ap hit (less_le x y z p a.0) in
     let r = count-above x y zs p a.1 in
     omega (arith, e, r, count-cons x z zs)
 
-pub same_lists : (xs ys : List Text) → Up xs → Up ys → ((q : Text) → count q xs ≡ count q ys) → xs ≡ ys
+same_lists : (xs ys : List Text) → Up xs → Up ys → ((q : Text) → count q xs ≡ count q ys) → xs ≡ ys
 same_lists [] [] u v h = refl
 same_lists [] (y ∷ ys) u v h = let e = h y in let i : hit (byte_cmp y y) ≡ 1 = ap hit (itself y) in absurd (omega (arith, e, i, count-cons y y ys))
 same_lists (x ∷ xs) [] u v h = let e = h x in let i : hit (byte_cmp x x) ≡ 1 = ap hit (itself x) in absurd (omega (arith, e, i, count-cons x x xs))
@@ -96,7 +96,7 @@ above_put z x (y ∷ ys) h a =
       | false ↦ (h, (a.0, a.1))
     ]
 
-pub above_lower : (x y : Text) (ys : List Text) → is_lt (byte_cmp y x) ≡ false → Above y ys → Above x ys
+above_lower : (x y : Text) (ys : List Text) → is_lt (byte_cmp y x) ≡ false → Above y ys → Above x ys
 above_lower x y [] h a = tt
 above_lower x y (z ∷ zs) h a = (not_less x y z h a.0, above_lower x y zs h a.1)
 
@@ -105,7 +105,7 @@ is_less Less e = refl
 is_less Equal e = cc
 is_less Greater e = cc
 
-pub up_put : (x : Text) (ys : List Text) → Up ys → Up (put_in_order x ys)
+up_put : (x : Text) (ys : List Text) → Up ys → Up (put_in_order x ys)
 up_put x [] u = (tt, tt)
 up_put x (y ∷ ys) u =
     elim (is_lt (byte_cmp y x)) as (λ b. is_lt (byte_cmp y x) ≡ b → Up (cond b (y ∷ put_in_order x ys) (x ∷ y ∷ ys))) [
@@ -113,11 +113,11 @@ up_put x (y ∷ ys) u =
       | false ↦ λ e. ((e, above_lower x y ys e u.0), u)
     ] refl
 
-pub up_sorted : (xs : List Text) → Up (sorted_by_bytes xs)
+up_sorted : (xs : List Text) → Up (sorted_by_bytes xs)
 up_sorted [] = tt
 up_sorted (x ∷ xs) = up_put x (sorted_by_bytes xs) (up_sorted xs)
 
-pub count-put : (q x : Text) (ys : List Text) → count q (put_in_order x ys) ≡ hit (byte_cmp q x) + count q ys
+count-put : (q x : Text) (ys : List Text) → count q (put_in_order x ys) ≡ hit (byte_cmp q x) + count q ys
 count-put q x [] = count-cons q x []
 count-put q x (y ∷ ys) =
     elim (is_lt (byte_cmp y x)) as (λ b. count q (cond b (y ∷ put_in_order x ys) (x ∷ y ∷ ys)) ≡ hit (byte_cmp q x) + count q (y ∷ ys)) [
@@ -125,7 +125,7 @@ count-put q x (y ∷ ys) =
       | false ↦ count-cons q x (y ∷ ys)
     ]
 
-pub count-sorted : (q : Text) (xs : List Text) → count q (sorted_by_bytes xs) ≡ count q xs
+count-sorted : (q : Text) (xs : List Text) → count q (sorted_by_bytes xs) ≡ count q xs
 count-sorted q [] = refl
 count-sorted q (x ∷ xs) = let r = count-sorted q xs in let p = count-put q x (sorted_by_bytes xs) in omega (arith, r, p, count-cons q x xs)
 

@@ -1,3 +1,4 @@
+mod Counts
 mod OrderLemmas
 mod PlaceLemmas
 mod TurnLemmas

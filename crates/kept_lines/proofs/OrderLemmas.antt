@@ -10,7 +10,7 @@ use Rattle.std.proofs.lemmas.List.Sums.{sum_by-cons, sum_by-remove}
 use Rattle.std.proofs.lemmas.Map.Lookups.{exact_bytes}
 use Rattle.std.proofs.lemmas.Slice.Eq.{bytes_eq-Decides}
 use Rattle.design_model.specs.Order.{byte_cmp, put_in_order, sorted_by_bytes}
-use Rattle.design_model.proofs.SortUnique.{Above, Up, count, count-above, count-cons, count-sorted, hit, itself, not_less, same_lists, up_put, up_sorted}
+use Rattle.kept_lines.proofs.Counts.{Above, Up, count, count-above, count-cons, count-sorted, hit, itself, not_less, same_lists, up_put, up_sorted}
 use Rattle.line_laws.specs.Lines.{SameLines, times}
 use Rattle.kept_lines.specs.Kept.{is_below}
 

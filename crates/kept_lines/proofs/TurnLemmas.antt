@@ -6,7 +6,7 @@ use Rattle.std.proofs.lemmas.List.Sums.{sum_by-cons, sum_by-take-le, sum_by_more
 use Rattle.std.proofs.lemmas.Slice.Eq.{bytes_eq-Decides}
 use Rattle.design_model.specs.declared.diagnostic.DiagLine.{DiagLine}
 use Rattle.design_model.specs.Order.{byte_cmp, put_in_order, texts}
-use Rattle.design_model.proofs.SortUnique.{count-cons, count-put}
+use Rattle.kept_lines.proofs.Counts.{count-cons, count-put}
 use Rattle.line_laws.specs.Lines.{SameLines, times}
 use Rattle.line_laws.proofs.PairSums.{times-append}
 use Rattle.kept_lines.proofs.OrderLemmas.{hits, times_is}
