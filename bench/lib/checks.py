@@ -95,7 +95,7 @@ def unread(crate, edits, said, texts):
     return f"{others[0]} isn't proved, and no edit changes it" if others else ""
 
 
-OF_NAMES = re.compile(r"has no field|is not in scope|has no `|that can be named from here|was not admitted")
+OF_NAMES = re.compile(r"has no field|is not in scope|has no `|that can be named from here|was not admitted|\(nearest: ")
 PLACED = re.compile(r"(?:note: )?(?:\./)?(\S+?):(\d+):\d+: (.*)")
 OPEN = re.compile(r"it is not proved|.*may overflow|.*not proved")
 
@@ -109,7 +109,7 @@ def complaints(edit, text):
             continue
         in_body = line.startswith("note: ") and at[1] == edit.path and edit.first <= int(at[2]) <= edit.last
         if in_body and OPEN.match(at[3]) or at[1].startswith(folder) and at[3].startswith("error"):
-            yield line[:200]
+            yield line
 
 
 def judge(edit, text):
@@ -126,9 +126,9 @@ def judge(edit, text):
     goals = [it for it in own if it.startswith("note: ") or not OF_NAMES.search(it)]
     search = re.search(r"`search` did not prove .*?(?=; it calls|$)", line[1])
     if goals or search:
-        return Verdict.REFUSED, goals[0] if goals else search[0][:200]
+        return Verdict.REFUSED, (goals[0] if goals else search[0])[:200]
     if own:
-        return Verdict.BY_NAMES, own[0]
+        return Verdict.BY_NAMES, own[0][:200]
     return Verdict.CALLER, line[1][:200]
 
 
