@@ -11,6 +11,9 @@ use crate::stretch::{Places, Stretch, length_shared};
 use std::alloc::{Allocator, Global};
 use std::marker::Model;
 
+/// How many steps a guess is mended by before it is given up.
+const STEPS: usize = 8;
+
 /// The lines of one axis of a grid, in order, each once, in database units. Those of columns are found by x, those of rows by y.
 #[derive(Drop)]
 pub struct GridLines<A: Allocator = Global> {
@@ -89,6 +92,21 @@ impl<A: Allocator> GridLines<A> {
         guess.min(self.lines.len())
     }
 
+    /// A guess that was mended by a few steps along the lines, as where grids of two spacings lie over each other.
+    fn mended(&self, guess: usize, place: i64) -> usize {
+        let mut count = guess;
+        for _ in 0..STEPS {
+            if self.is_before(count, place) {
+                count = count.saturating_add(1);
+            } else if count > 0 && !self.is_before(count - 1, place) {
+                count -= 1;
+            } else {
+                return count;
+            }
+        }
+        count
+    }
+
     /// Whether there is a line of a number, and it lies before a place.
     fn is_before(&self, number: usize, place: i64) -> bool
         ensures { result ≡ is_before self.now place number }
@@ -107,17 +125,13 @@ impl<A: Allocator> GridLines<A> {
         self.is_before(count - 1, place) && !self.is_before(count, place)
     }
 
-    /// How many lines lie before a place.
-    fn before(&self, place: i64) -> usize
+    /// How many lines lie before a place. It is looked for from a guess on.
+    fn before(&self, guess: usize, place: i64) -> usize
         ensures { AreBefore self.now place result }
     {
-        let guess = self.guess(place);
-        let next = guess.saturating_add(1);
-        if self.are_before(next, place) {
-            return next;
-        }
-        if self.are_before(guess, place) {
-            return guess;
+        let count = self.mended(guess, place);
+        if self.are_before(count, place) {
+            return count;
         }
         self.lines.partition_point(|line| *line < place)
     }
@@ -127,8 +141,8 @@ impl<A: Allocator> GridLines<A> {
         ensures covered { IsCovered self.now stretch.low stretch.high result.first result.end }
         ensures lines { AreLines self.now }
     {
-        let behind = self.before(stretch.low.saturating_add(1));
-        let before = self.before(stretch.high);
+        let behind = self.before(self.guess(stretch.low), stretch.low.saturating_add(1));
+        let before = self.before(self.guess(stretch.high), stretch.high);
         let first = behind.saturating_sub(1);
         let end = before.min(self.lines.len().saturating_sub(1));
         Places {

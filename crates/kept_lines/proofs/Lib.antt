@@ -1,4 +1,5 @@
 mod Counts
+mod ExchangeLemmas
 mod OrderLemmas
 mod PlaceLemmas
 mod TurnLemmas

@@ -1,11 +1,12 @@
 //! Lines in the order of their bytes, which others take the place of.
 
-ghost use Rattle.std.specs.Prelude.{◌≡◌, ◌+◌, ◌++◌, ◌∷◌, [], ◌≤◌, ◌<◌, IfOk, List, OnOk, length, ℕ};
+ghost use Rattle.std.specs.Prelude.{◌≡◌, ◌+◌, ◌++◌, ◌∷◌, [], ◌≤◌, ◌<◌, IfOk, List, OnErr, OnOk, length, ℕ};
 ghost use Rattle.std.specs.List.{prefix_len};
 ghost use Rattle.design_model.specs.Lines.{IsOfItsKind};
 ghost use Rattle.design_model.specs.Order.{put_in_order, sorted_by_bytes, texts};
 ghost use Rattle.report_lines.specs.Kinds.{HaveTheirKinds};
 ghost use Rattle.line_laws.specs.Lines.{SameLines, times};
+ghost use Rattle.following_laws.specs.Following.{LinesFollow};
 ghost use Rattle.kept_lines.specs.Kept.{is_below};
 
 use design_model::diagnostic::{DiagLine, DiagLines};
@@ -145,5 +146,22 @@ impl<A: Allocator + Copy> KeptLines<A> {
         while let Some(line) = put.pop() {
             self.put(line);
         }
+    }
+
+    /// Takes lines out, each as often as it stands in `out`, and puts others in, each in its place. Where there is neither room for
+    /// these nor memory to make some, no line changes.
+    pub fn exchange(&mut self, out: Lines<A>, put: Lines<A>) -> Result<(), AllocError>
+        requires { (q : List ℕ) → times q out ≤ times q self.old.lines }
+        ensures follow { OnOk result (LinesFollow self.old.lines self.new.lines out put) }
+        ensures in_order { OnOk result (sorted_by_bytes self.new.lines ≡ self.new.lines) }
+        ensures refused { OnErr result (self.new.lines ≡ self.old.lines) }
+    {
+        let out = out.into_sorted();
+        let mut put = put.into_sorted().into_vec();
+        self.reserve(put.len())?;
+        self.take_all(out.as_slice());
+        self.put_all(&mut put);
+        let _ = &self.lines;
+        Ok(())
     }
 }
