@@ -7,6 +7,10 @@ use Rattle.connection_rules.specs.NetLines.{net_lines}
 use Rattle.design_rules.specs.Boxes.{scale}
 use Rattle.net_checks.specs.Drawings.{Drawing, IsDrawingOf}
 use Rattle.kept_lines.specs.Kept.{Kept}
+use Rattle.edit_rules.specs.Edits.{Change, applied, of_net}
+use Rattle.edit_rules.specs.NetEdits.{NetChange}
+use Rattle.following_laws.specs.Following.{LinesFollow}
+use Rattle.staying_laws.specs.NetStatements.{lines_on_net}
 use Rattle.staying_laws.specs.Staying.{lines_on_places, lines_on_statements}
 use Rattle.edit_session.specs.declared.known_lines.KnownLines.{KnownLines}
 
@@ -33,3 +37,20 @@ pub record AllKnown {A : Type 0} (known : KnownLines A) : Type 0 where
 -- nets with their shapes are those of what a text reads as
 abbrev pub IsDrawingOfText : Library → List ℕ → Drawing → Type 0
 IsDrawingOfText library text nets = (design : List Record) → read_def text ≡ Ok design → IsDrawingOf library design nets
+
+-- where a change is of a net, lines are those on its entries in a design
+abbrev pub AreBefore : Library → List Record → Change → List (List ℕ) → Type 0
+AreBefore library design change lines = (name : List ℕ) (net_change : NetChange) → change ≡ of_net name net_change → lines ≡ lines_on_net library name design
+
+-- lines on statements that are kept are those of a design once some go and those on the entries of a net come
+pub record Awaits (library : Library) (name : List ℕ) (design : List Record) (kept : Kept) (out : List (List ℕ)) : Type 0 where
+  pub before : List (List ℕ)
+  pub kept_are : AreKept before kept
+  pub follow : LinesFollow before (lines_on_statements library design) out (lines_on_net library name design)
+
+-- a change led from a design whose lines are known to what a text reads as; the lines on its net's entries before are told, or not
+pub record Led {A : Type 0} (library : Library) (text : List ℕ) (change : Change) (known : KnownLines A) (out : Option (List (List ℕ))) : Type 0 where
+  pub before : List Record
+  pub reads : read_def text ≡ Ok (applied change before)
+  pub known : AreKnown library before known
+  pub out : IfSome out (AreBefore library before change)

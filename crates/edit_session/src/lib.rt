@@ -15,6 +15,7 @@
 
 mod known_lines;
 mod measures;
+mod net_statements;
 mod report;
 pub mod session;
 pub mod view;

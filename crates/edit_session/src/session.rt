@@ -125,11 +125,15 @@ impl<'s, 'l, A: Allocator + Copy> Session<'s, 'l, A> {
         ensures library { self.new.library ≡ self.old.library }
         ensures reads { IsOk (read_def self.new.text) }
     {
+        let out = self
+            .known
+            .before(self.alloc, self.library, &self.text, edit);
         let edited = self.text.edit(self.alloc, self.library, edit);
         self.text.text_reads();
         let reads = edited?;
         self.reports = None;
-        self.known.stay_behind(edit);
+        self.known
+            .follow(self.alloc, self.library, &self.text, edit, out);
         Ok(Done { reads, tests: 0 })
     }
 
