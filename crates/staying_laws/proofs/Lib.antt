@@ -1,5 +1,7 @@
+mod EditedNets
 mod MappedLists
 mod MovedComponents
 mod NetEdits
+mod PartedNets
 mod PlacedComponents
 mod ReportParts

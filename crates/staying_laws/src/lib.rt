@@ -2,12 +2,14 @@
 //!
 //! Each law is an empty function that ensures it; call it to use it. A report has the lines on headers, single statements and the
 //! library (`lines_on_statements` of `specs/Staying`), those on components (`lines_on_places`), and those on nets. An edit of a net
-//! leaves the second part, an edit that places or unplaces a component the first, line by line in the same order.
+//! leaves the second part, an edit that places or unplaces a component the first, line by line in the same order. Of the first part an
+//! edit of a net exchanges the lines on the net's entries, and no others (`specs/NetStatements`).
 #![tactic(auto)]
 
+ghost use Rattle.staying_laws.specs.NetStatements.{NetEditsFollow};
 ghost use Rattle.staying_laws.specs.Staying.{NetEditsKeepPlaces, PartsAreAll, PlacingKeepsStatements, UnplacingKeepsStatements};
 
-use agreement_laws::same_outline_same_counts;
+use agreement_laws::{same_outline_same_counts, same_shown_same_lines};
 
 /// The parts of a report are all its lines.
 pub fn parts_are_all()
@@ -18,6 +20,14 @@ pub fn parts_are_all()
 pub fn net_edits_keep_places()
     ensures { NetEditsKeepPlaces }
 {}
+
+/// The lines on headers, on single statements and on the library follow an edit of a net by those on the net's entries.
+pub fn net_edits_follow()
+    ensures { NetEditsFollow }
+{
+    same_outline_same_counts();
+    same_shown_same_lines();
+}
 
 /// Placing a component leaves the lines on headers, on single statements and on the library.
 pub fn placing_keeps_statements()
