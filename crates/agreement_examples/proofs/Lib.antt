@@ -1,2 +1,3 @@
 pub mod AgreementRows
+pub mod NetRows
 pub mod PartRows
