@@ -1,12 +1,9 @@
--- What was looked up for statements before is known to this library and this design, or found in them.
-use Rattle.std.specs.Prelude.{List}
-use Rattle.def_grammar.specs.Records.{Record}
-use Rattle.lef_grammar.specs.Library.{Library}
-use Rattle.entry_rules.specs.Unknown.{known_by}
+-- What was looked up for statements before is known to these definitions, or found in them.
+use Rattle.entry_checks.specs.Definitions.{Definitions, known_in}
 use Rattle.entry_checks.specs.FoundVias.{AreFound}
 use Rattle.entry_checks.specs.Views.{AreSeen}
 use Rattle.entry_checks.specs.declared.statement_lines.Kept.{Kept}
 
-pub record AreKept (library : Library) (design : List Record) (kept : Kept) : Type 0 where
-  pub seen : AreSeen (known_by library design) kept.seen
-  pub vias : AreFound library design kept.vias
+pub record AreKept (d : Definitions) (kept : Kept) : Type 0 where
+  pub seen : AreSeen (known_in d) kept.seen
+  pub vias : AreFound d kept.vias

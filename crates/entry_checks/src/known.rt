@@ -1,50 +1,58 @@
 //! What a library and a design define (LEF/DEF 5.8 Language Reference, "DEF Syntax").
 
-ghost use Rattle.std.specs.Prelude.{◌≡◌};
+ghost use Rattle.std.specs.Prelude.{◌≡◌, MatchOption, None};
 ghost use Rattle.lef_grammar.specs.Library.{macro_named};
-ghost use Rattle.entry_rules.specs.Unknown.{Known as TheKnown, is_lacking, known_by};
+ghost use Rattle.entry_rules.specs.Unknown.{is_lacking};
+ghost use Rattle.entry_checks.specs.Definitions.{Definitions, known_in, layers_in};
+ghost use Rattle.entry_checks.specs.JoinedLayers.{JoinsThose};
 ghost use Rattle.entry_checks.specs.Views.{lacks_if_there};
 
+use crate::joined_layers::JoinedLayers;
+use crate::via_layers::joined_layers;
 use cell_library::library::Library;
 use design_model::mode::Section;
 use design_names::names::Names;
 use std::alloc::{Allocator, Global};
 
-/// What is defined, kind by kind and name by name.
+/// What a library and a design define, kind by kind and name by name.
 pub trait Known {
-    ghost known: { Self → TheKnown };
+    ghost defined: { Self → Definitions };
 
     fn has_macro(&self, name: &[u8]) -> bool
-        ensures { result ≡ (known self.now).macro name.now };
+        ensures { result ≡ (known_in (defined self.now)).macro name.now };
 
     fn has_region(&self, name: &[u8]) -> bool
-        ensures { result ≡ (known self.now).region name.now };
+        ensures { result ≡ (known_in (defined self.now)).region name.now };
 
     fn has_site(&self, name: &[u8]) -> bool
-        ensures { result ≡ (known self.now).site name.now };
+        ensures { result ≡ (known_in (defined self.now)).site name.now };
 
     fn has_layer(&self, name: &[u8]) -> bool
-        ensures { result ≡ (known self.now).layer name.now };
+        ensures { result ≡ (known_in (defined self.now)).layer name.now };
 
     /// A via of either text.
     fn has_via(&self, name: &[u8]) -> bool
-        ensures { result ≡ (known self.now).via name.now };
+        ensures { result ≡ (known_in (defined self.now)).via name.now };
 
     /// A nondefault rule of either text.
     fn has_rule(&self, name: &[u8]) -> bool
-        ensures { result ≡ (known self.now).rule name.now };
+        ensures { result ≡ (known_in (defined self.now)).rule name.now };
 
     /// An entry of NETS or SPECIALNETS.
     fn has_net(&self, name: &[u8]) -> bool
-        ensures { result ≡ (known self.now).net name.now };
+        ensures { result ≡ (known_in (defined self.now)).net name.now };
 
     /// A pin of the design.
     fn has_design_pin(&self, name: &[u8]) -> bool
-        ensures { result ≡ (known self.now).design_pin name.now };
+        ensures { result ≡ (known_in (defined self.now)).design_pin name.now };
 
     /// Whether the macro of a component is known and has no such pin; `None` where there is no such component.
     fn lacks(&self, component: &[u8], pin: &[u8]) -> Option<bool>
-        ensures { result ≡ lacks_if_there (known self.now) component.now pin.now };
+        ensures { result ≡ lacks_if_there (known_in (defined self.now)) component.now pin.now };
+
+    /// The layers that the via of a name joins, if there is one.
+    fn joined_layers(&self, via: &[u8]) -> Option<JoinedLayers<'_>>
+        ensures { MatchOption result (layers_in (defined self.now) via.now ≡ None) (λ joined. JoinsThose (defined self.now).library joined (layers_in (defined self.now) via.now)) };
 }
 
 /// The definitions of a library, and the entries of a design by their names.
@@ -55,7 +63,7 @@ pub struct Defined<'a, 'l, 'r, 't, A: Allocator = Global> {
 }
 
 /// Whether a macro is known and has no such pin.
-fn is_lacking<A: Allocator + Copy>(library: &Library<'_, A>, cell: &[u8], pin: &[u8]) -> bool
+pub fn is_lacking<A: Allocator + Copy>(library: &Library<'_, A>, cell: &[u8], pin: &[u8]) -> bool
     ensures { result ≡ is_lacking pin.now (macro_named library.now cell.now) }
 {
     match library.macro_of(cell) {
@@ -65,7 +73,7 @@ fn is_lacking<A: Allocator + Copy>(library: &Library<'_, A>, cell: &[u8], pin: &
 }
 
 impl<'a, 'l, 'r, 't, A: Allocator + Copy> Known for Defined<'a, 'l, 'r, 't, A> {
-    ghost known = { λ d. known_by d.library.now d.names.now };
+    ghost defined = { λ d. record { library = d.library.now; design = d.names.now } };
 
     fn has_macro(&self, name: &[u8]) -> bool {
         self.library.macro_of(name).is_some()
@@ -102,5 +110,9 @@ impl<'a, 'l, 'r, 't, A: Allocator + Copy> Known for Defined<'a, 'l, 'r, 't, A> {
     fn lacks(&self, component: &[u8], pin: &[u8]) -> Option<bool> {
         let component = self.names.component(component)?;
         Some(is_lacking(self.library, component.cell.bytes, pin))
+    }
+
+    fn joined_layers(&self, via: &[u8]) -> Option<JoinedLayers<'_>> {
+        joined_layers(self.library, self.names, via)
     }
 }

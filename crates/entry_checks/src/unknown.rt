@@ -3,6 +3,7 @@
 ghost use Rattle.std.specs.Prelude.{◌≡◌, ◌∷◌, ◌++◌, [], OnOk, map, true};
 ghost use Rattle.entry_rules.specs.Unknown.{Known as TheKnown, reference_lines, unknown_of, unknown_terminal, unless};
 ghost use Rattle.entry_references.specs.ReferenceViews.{reference_view, references_view};
+ghost use Rattle.entry_checks.specs.Definitions.{known_in};
 ghost use Rattle.entry_checks.specs.Views.{AreSeen, unknown_text, unknown_words, words_of_all};
 
 use crate::known::Known;
@@ -73,7 +74,7 @@ fn unless<'n>(known: bool, unknown: Unknown<'n>) -> Option<Unknown<'n>>
 
 /// What of a terminal isn't defined: the pin of the design, the component, or its pin.
 fn unknown_terminal<'n, K: Known>(known: &K, owner: &'n [u8], pin: &'n [u8]) -> Option<Unknown<'n>>
-    ensures { words_of_all result ≡ unknown_terminal (K.known known.now) owner.entry.now pin.entry.now }
+    ensures { words_of_all result ≡ unknown_terminal (known_in (K.defined known.now)) owner.entry.now pin.entry.now }
 {
     let terminal = Unknown::Pin(owner, pin);
     if is_word(owner, b"PIN") {
@@ -87,7 +88,7 @@ fn unknown_terminal<'n, K: Known>(known: &K, owner: &'n [u8], pin: &'n [u8]) -> 
 
 /// What of a reference isn't defined.
 fn unknown_of<'n, K: Known>(known: &K, reference: Reference<'n>) -> Option<Unknown<'n>>
-    ensures { words_of_all result ≡ unknown_of (K.known known.now) (reference_view reference.entry) }
+    ensures { words_of_all result ≡ unknown_of (known_in (K.defined known.now)) (reference_view reference.entry) }
 {
     match reference {
         Reference::Macro(name) => unless(known.has_macro(name), Unknown::Name(b"MACRO", name)),
@@ -133,9 +134,9 @@ fn pass_reference<'n, K: Known, A: Allocator + Copy>(
     reference: Reference<'n>,
     lines: &mut Lines<A>,
 ) -> Result<(), AllocError>
-    requires { AreSeen (K.known known.now) seen.old }
-    ensures lines { OnOk result (lines.new ≡ lines.old ++ map (unknown_text section.now entry.now) (unknown_of (K.known known.now) (reference_view reference.entry))) }
-    ensures seen { AreSeen (K.known known.now) seen.new }
+    requires { AreSeen (known_in (K.defined known.now)) seen.old }
+    ensures lines { OnOk result (lines.new ≡ lines.old ++ map (unknown_text section.now entry.now) (unknown_of (known_in (K.defined known.now)) (reference_view reference.entry))) }
+    ensures seen { AreSeen (known_in (K.defined known.now)) seen.new }
 {
     if seen.has(reference) {
         return Ok(());
@@ -158,9 +159,9 @@ pub(crate) fn put_references<'n, K: Known, A: Allocator + Copy>(
     references: &[Reference<'n>],
     lines: &mut Lines<A>,
 ) -> Result<(), AllocError>
-    requires { AreSeen (K.known known.now) seen.old }
-    ensures lines { OnOk result (lines.new ≡ lines.old ++ reference_lines (K.known known.now) section.now entry.now (references_view references.now)) }
-    ensures seen { AreSeen (K.known known.now) seen.new }
+    requires { AreSeen (known_in (K.defined known.now)) seen.old }
+    ensures lines { OnOk result (lines.new ≡ lines.old ++ reference_lines (known_in (K.defined known.now)) section.now entry.now (references_view references.now)) }
+    ensures seen { AreSeen (known_in (K.defined known.now)) seen.new }
 {
     for reference in references {
         pass_reference(known, section, entry, seen, *reference, lines)?;

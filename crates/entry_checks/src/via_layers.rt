@@ -1,6 +1,7 @@
 //! What a via of a design does in a path on a layer (LEF/DEF 5.8 Language Reference, "Vias").
 
-ghost use Rattle.std.specs.Prelude.{◌≡◌, ◌∷◌, [], is_some, map, None, MatchOption};
+ghost use Rattle.std.specs.Prelude.{◌≡◌, ◌∷◌, [], is_some, List, map, None, MatchOption};
+ghost use Rattle.def_grammar.specs.Records.{Record};
 ghost use Rattle.std.specs.List.{filter_map};
 ghost use Rattle.std.specs.Option.{option_map};
 ghost use Rattle.form_meanings.specs.Firsts.{first_of};
@@ -9,7 +10,8 @@ ghost use Rattle.cell_library.specs.ShapeViews.{shapes_view};
 ghost use Rattle.cell_library.specs.ViaViews.{body_view};
 ghost use Rattle.lefdef_tokens.specs.Views.{word_view};
 ghost use Rattle.def_grammar.specs.DefVias.{layer_of_shape, layers_of_clause};
-ghost use Rattle.entry_rules.specs.ViaLayers.{body_layers, def_via_layers, layers_named, rule_of_via};
+ghost use Rattle.entry_rules.specs.ViaLayers.{body_layers, def_via_layers, def_via_named, layers_named, rule_of_via};
+ghost use Rattle.design_names.specs.NameViews.{lent_via};
 ghost use Rattle.entry_checks.specs.JoinedLayers.{Joins, JoinsThose, layer_of};
 
 use crate::joined_layers::JoinedLayers;
@@ -141,7 +143,23 @@ fn joined_in_lef<'l, A: Allocator + Copy>(
     }
 }
 
-/// The layers that the via of a name joins, if there is one. Vias of DEF come before those of LEF. It takes no memory.
+/// The layers that the via of a name joins, if there is one, where the via of that name of DEF is told. Vias of DEF come before those
+/// of LEF. It takes no memory.
+pub fn joined_by<'a, 't: 'a, A: Allocator + Copy>(
+    library: &'a Library<'_, A>,
+    in_def: Option<&ViaParts<'t>>,
+    via: &[u8],
+) -> Option<JoinedLayers<'a>>
+    ensures { (design : List Record) → option_map lent_via in_def.entry ≡ def_via_named design via.now → MatchOption result (layers_named library.now design via.now ≡ None) (λ joined. JoinsThose library.now joined (layers_named library.now design via.now)) }
+{
+    if let Some(parts) = in_def {
+        return Some(joined_in_def(library, parts));
+    }
+    let found = library.via(via)?;
+    Some(joined_in_lef(library, found))
+}
+
+/// The layers that the via of a name joins, if there is one. It takes no memory.
 pub fn joined_layers<'a, A: Allocator + Copy>(
     library: &'a Library<'_, A>,
     names: &'a Names<'_, '_, A>,
@@ -149,9 +167,5 @@ pub fn joined_layers<'a, A: Allocator + Copy>(
 ) -> Option<JoinedLayers<'a>>
     ensures { MatchOption result (layers_named library.now names.now via.now ≡ None) (λ joined. JoinsThose library.now joined (layers_named library.now names.now via.now)) }
 {
-    if let Some(parts) = names.via(via) {
-        return Some(joined_in_def(library, parts));
-    }
-    let found = library.via(via)?;
-    Some(joined_in_lef(library, found))
+    joined_by(library, names.via(via), via)
 }

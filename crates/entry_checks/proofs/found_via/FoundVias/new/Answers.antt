@@ -5,4 +5,4 @@ use Rattle.entry_checks.specs.FoundVias.{IsFound}
 use Rattle.entry_checks.proofs.found_via.FoundVias.new.Goals as goal
 
 pub returns : goal.returns
-returns c library design = record { each = All-replicate (λ o. IfSome o (IsFound library design)) 32 None tt }
+returns c d = record { each = All-replicate (λ o. IfSome o (IsFound d)) 32 None tt }
