@@ -7,6 +7,7 @@ mod FoundStatements
 mod KeptDesigns
 mod KeptKeys
 mod KeyedTexts
+mod NamedEntries
 mod Opened
 mod Pushing
 mod ReadPieces

@@ -23,6 +23,10 @@ pub record Content : Type 0 where
 abbrev pub text_of : Content → List ℕ
 text_of c = pieces.text_of c.pieces
 
+-- what its statements say, one after the other
+abbrev pub design_of : Content → List Record
+design_of c = map (λ x. x.1) (statements_of (text_of c))
+
 -- the numbers of the statements, in their order
 abbrev pub numbers_of : Content → List StmtId
 numbers_of c = ids_of c.pieces.table

@@ -2,5 +2,6 @@ pub mod DesignTexts
 pub mod Editing
 pub mod EntryBytes
 pub mod FewReads
+pub mod NamedEntries
 pub mod Steps
 pub mod ToldStatements

@@ -10,7 +10,7 @@ ghost use Rattle.lefdef_tokens.specs.Views.{pieces_of, words_of};
 ghost use Rattle.def_reader.specs.Lent.{StatementAt};
 ghost use Rattle.def_reader.specs.StatementViews.{record_view};
 ghost use Rattle.def_splice.specs.Lying.{LiesIn, lying_statement};
-ghost use Rattle.design_text.specs.DesignTexts.{IsNumbered, statement_under, text_of};
+ghost use Rattle.design_text.specs.DesignTexts.{IsNumbered, design_of, statement_under, text_of};
 
 use crate::statements::statement_of;
 use def_reader::statement::Statement;
@@ -61,6 +61,16 @@ impl<A: Allocator + Copy> DesignText<A> {
     {
         let _ = &self.pieces;
         let _ = &self.tables;
+    }
+
+    /// A law: what its statements say is the design that the text reads as.
+    pub fn design_is_read(&self)
+        ensures reads { read_def (text_of self.now) ≡ Ok (design_of self.now) }
+        ensures alone { (design : List Record) → read_def (text_of self.now) ≡ Ok design → design ≡ design_of self.now }
+    {
+        let _ = &self.pieces;
+        let _ = &self.tables;
+        self.statements_are_known();
     }
 
     /// The statement of a number. It alone is read.
