@@ -1,2 +1,2 @@
-mod NameLemmas
+pub mod NameLemmas
 mod TableLemmas
