@@ -8,5 +8,4 @@
 //! from their text. The one error is `AllocError`, of `names_of` alone.
 #![tactic(auto)]
 
-pub mod entry_names;
 pub mod names;

@@ -17,7 +17,6 @@ use crate::text::DesignText;
 use def_reader::entry::Entry;
 use def_splice::lookups::LookUps;
 use design_model::mode::Section;
-use design_names::entry_names::EntryNames;
 use place_parts::component_parts::ComponentParts;
 use std::alloc::Allocator;
 use via_parts::rules::RuleParts;
@@ -65,11 +64,9 @@ impl<A: Allocator + Copy> DesignText<A> {
     }
 }
 
-impl<A: Allocator + Copy> EntryNames for DesignText<A> {
-    ghost design = { design_of };
-
-    // No statement is read: the tables have each name that stands.
-    fn has(&self, section: Section, name: &[u8]) -> bool
+impl<A: Allocator + Copy> DesignText<A> {
+    /// Whether an entry of this section has this name. No statement is read: the tables have each name that stands.
+    pub fn has(&self, section: Section, name: &[u8]) -> bool
         ensures { result ≡ stands_in (design_of self.now) section name.now }
     {
         self.statements_are_known();
@@ -77,23 +74,26 @@ impl<A: Allocator + Copy> EntryNames for DesignText<A> {
         self.tables.find(section, name).is_some()
     }
 
+    /// The component with this name.
     #[tactic(auto, using(design_names::proofs::NameLemmas::component_picked))]
-    fn component(&self, name: &[u8]) -> Option<ComponentParts<'_>>
+    pub fn component_named(&self, name: &[u8]) -> Option<ComponentParts<'_>>
         ensures gives { option_map component_view result ≡ component_named (design_of self.now) name.now }
         ensures there { is_some result ≡ stands_in (design_of self.now) Components name.now }
     {
         component_of(self.named(Section::Components, name)?)
     }
 
+    /// The via with this name.
     #[tactic(auto, using(design_names::proofs::NameLemmas::via_picked))]
-    fn via(&self, name: &[u8]) -> Option<ViaParts<'_>>
+    pub fn via_named(&self, name: &[u8]) -> Option<ViaParts<'_>>
         ensures { option_map via_view result ≡ def_via_named (design_of self.now) name.now }
     {
         via_of(self.named(Section::Vias, name)?)
     }
 
+    /// The nondefault rule with this name.
     #[tactic(auto, using(design_names::proofs::NameLemmas::rule_picked))]
-    fn rule(&self, name: &[u8]) -> Option<RuleParts<'_>>
+    pub fn rule_named(&self, name: &[u8]) -> Option<RuleParts<'_>>
         ensures { option_map rule_view result ≡ def_rule_named (design_of self.now) name.now }
     {
         rule_of(self.named(Section::NonDefaultRules, name)?)

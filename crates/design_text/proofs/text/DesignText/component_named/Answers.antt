@@ -7,7 +7,7 @@ use Rattle.design_names.specs.NameViews.{component_of_entry}
 use Rattle.design_names.proofs.NameLemmas.{component_picked}
 use Rattle.design_text.specs.DesignTexts.{design_of}
 use Rattle.design_text.proofs.NamedEntries.{component_there}
-use Rattle.design_text.proofs.entry_names.DesignTextEntryNames.component.Goals as goal
+use Rattle.design_text.proofs.text.DesignText.component_named.Goals as goal
 
 pub returns-in_err-named-clause-there : goal.returns-in_err-named-clause-there
 returns-in_err-named-clause-there g c =

@@ -2,7 +2,7 @@ use Rattle.std.proofs.Common.{◌≡◌, ◌∙◌, is_some, rules, sym, ap}
 use Rattle.std.specs.List.{zip}
 use Rattle.design_text.specs.DesignTexts.{Content, design_of, numbers_of}
 use Rattle.design_text.proofs.NamedEntries.{has_is}
-use Rattle.design_text.proofs.entry_names.DesignTextEntryNames.has.Goals as goal
+use Rattle.design_text.proofs.text.DesignText.has.Goals as goal
 
 pub returns : goal.returns
 returns g c =
