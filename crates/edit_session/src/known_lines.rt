@@ -12,10 +12,10 @@ ghost use Rattle.staying_laws.specs.Staying.{lines_on_statements};
 ghost use Rattle.design_text.specs.DesignTexts.{text_of};
 ghost use Rattle.edit_session.specs.Known.{AllKnown, AreBefore, AreKnown, Led};
 
-use design_model::diagnostic::{DiagLine, DiagLines, sort_lines};
-use design_model::sequence::Sequence;
 use crate::net_statements::{followed_if_known, lines_before};
 use cell_library::library::Library;
+use design_model::diagnostic::{DiagLine, DiagLines, sort_lines};
+use design_model::sequence::Sequence;
 use design_text::text::DesignText;
 use edit_model::edit::Edit;
 use kept_lines::KeptLines;

@@ -13,6 +13,7 @@
 //! bytes from 0, with the end after the last byte.
 #![tactic(auto)]
 
+mod defined_text;
 mod known_lines;
 mod measures;
 mod net_statements;

@@ -1,8 +1,7 @@
 //! The lines on statements while a net is edited: those on its entries go, and those on them as they are then come.
 
-ghost use Rattle.std.specs.Prelude.{◌≡◌, ◌++◌, IfOk, IfSome, List, MatchOption, Ok, OnOk, Unit, map};
+ghost use Rattle.std.specs.Prelude.{◌≡◌, ◌++◌, IfOk, IfSome, List, Ok, OnOk, flat_map};
 ghost use Rattle.std.specs.Option.{option_map, option_to_list};
-ghost use Rattle.std.specs.List.{flat_map};
 ghost use Rattle.def_grammar.specs.Located.{entry_at, located};
 ghost use Rattle.def_grammar.specs.Records.{Record, read_def};
 ghost use Rattle.edit_rules.specs.Edits.{change_of, of_net};
@@ -11,11 +10,14 @@ ghost use Rattle.report_rules.specs.Diagnostics.{statement_lines};
 ghost use Rattle.staying_laws.specs.NetStatements.{lines_on_net};
 ghost use Rattle.staying_laws.specs.Staying.{lines_on_statements};
 ghost use Rattle.design_text.specs.DesignTexts.{text_of};
-ghost use Rattle.edit_session.specs.Known.{AreKept, Awaits};
+ghost use Rattle.edit_session.specs.Known.{AreBefore, AreKept, Awaits};
 
+use crate::defined_text::DefinedText;
+use crate::report::put_statement;
 use cell_library::library::Library;
 use def_splice::lookups::LookUps;
 use design_model::mode::Section;
+use design_text::laws::named_once;
 use design_text::text::DesignText;
 use edit_model::edit::Edit;
 use entry_checks::statement_lines::StatementChecks;
@@ -60,8 +62,9 @@ fn put_entry<A: Allocator + Copy>(
     let Some((statement, _)) = text.entry(section, name) else {
         return Ok(());
     };
-    let mut checks = StatementChecks::new(alloc, library, text);
-    checks.put(&statement, lines)
+    let defined = DefinedText { library, text };
+    let mut checks = StatementChecks::new(alloc, &defined);
+    put_statement(&mut checks, &statement, lines)
 }
 
 /// The lines on the entries of a net by themselves.
@@ -73,7 +76,7 @@ pub(crate) fn lines_on_net<A: Allocator + Copy>(
 ) -> Result<Lines<A>, AllocError>
     ensures { (design : List Record) → read_def (text_of text.now) ≡ Ok design → IfOk result (λ lines. lines ≡ lines_on_net library.now net.now design) }
 {
-    nets_are_named_once();
+    named_once();
     let mut lines = Lines::new(alloc);
     put_entry(alloc, library, text, Section::Nets, net, &mut lines)?;
     put_entry(alloc, library, text, Section::SpecialNets, net, &mut lines)?;

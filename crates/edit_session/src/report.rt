@@ -20,6 +20,7 @@ use cell_library::library::Library;
 use def_reader::statement::Statement;
 use design_names::names::{Names, names_of};
 use design_text::text::DesignText;
+use entry_checks::known::{Defined, Known};
 use entry_checks::statement_lines::StatementChecks;
 use entry_checks::unchecked::unchecked_in_library;
 use kept_lines::KeptLines;
@@ -40,8 +41,8 @@ use report_lines::Lines;
 use std::alloc::{AllocError, Allocator};
 
 /// Puts the lines on one statement by itself behind others.
-fn put_statement<'t, A: Allocator + Copy>(
-    checks: &mut StatementChecks<'_, '_, '_, 't, A>,
+pub(crate) fn put_statement<'t, K: Known, A: Allocator + Copy>(
+    checks: &mut StatementChecks<'_, 't, K, A>,
     statement: &Statement<'t>,
     lines: &mut Lines<A>,
 ) -> Result<(), AllocError>
@@ -62,7 +63,8 @@ fn put_each<'t, A: Allocator + Copy>(
 ) -> Result<(), AllocError>
     ensures { OnOk result (lines.new ≡ lines.old ++ flat_map (statement_lines library.now names.now) (map record_view records.now)) }
 {
-    let mut checks = StatementChecks::new(alloc, library, names);
+    let defined = Defined { library, names };
+    let mut checks = StatementChecks::new(alloc, &defined);
     for statement in records {
         put_statement(&mut checks, statement, lines)?;
     }

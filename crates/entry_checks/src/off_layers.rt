@@ -124,14 +124,7 @@ fn put_special_items<'a, 't: 'a, K: Known, A: Allocator + Copy>(
     let mut left = items;
     while let Some(item) = left.next() {
         if let PathItem::Via(special) = item {
-            layer = pass_via(
-                known,
-                owner,
-                special.via.name.bytes,
-                layer,
-                vias,
-                lines,
-            )?;
+            layer = pass_via(known, owner, special.via.name.bytes, layer, vias, lines)?;
         }
     }
     Ok(())
@@ -178,13 +171,7 @@ pub(crate) fn off_layers_in<'a, 't: 'a, K: Known, A: Allocator + Copy>(
     };
     match entry {
         Entry::Net(_) => put_net(known, owner, references, vias, lines),
-        Entry::SpecialNet(parts) => put_special_wires(
-            known,
-            owner,
-            parts.paths(),
-            vias,
-            lines,
-        ),
+        Entry::SpecialNet(parts) => put_special_wires(known, owner, parts.paths(), vias, lines),
         _ => Ok(()),
     }
 }
