@@ -33,7 +33,7 @@ module _ (old : Lines) where
   }
 
 -- the sorted lines have each line as often
-sorted_same : SortingIsByLines → (q : List ℕ) (lines : Lines) → times q (sorted_by_bytes lines) ≡ times q lines
+pub sorted_same : SortingIsByLines → (q : List ℕ) (lines : Lines) → times q (sorted_by_bytes lines) ≡ times q lines
 sorted_same law q lines = sum_by-IsPermutation (λ x. cond (bytes_eq q x) 1 0) lines (sorted_by_bytes lines) (law.0 lines).same
 
 -- copies of lines that are known, behind others

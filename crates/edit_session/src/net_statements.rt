@@ -23,7 +23,7 @@ use edit_model::edit::Edit;
 use entry_checks::statement_lines::StatementChecks;
 use following_laws::kept_lines_follow;
 use kept_lines::KeptLines;
-use line_laws::sorting::same_lines_sort_alike;
+use line_laws::sorting::{same_lines_sort_alike, sorting_is_by_lines};
 use report_lines::Lines;
 use std::alloc::{AllocError, Allocator};
 
@@ -32,10 +32,10 @@ pub(crate) fn net_of<'e>(edit: &Edit<'e>) -> Option<&'e [u8]>
     ensures { IfSome result (λ net. (change : NetChange) × (change_of edit.now ≡ of_net net.now change)) }
 {
     match edit {
-        Edit::Connect { net, .. }
-        | Edit::Disconnect { net, .. }
-        | Edit::Route { net, .. }
-        | Edit::Unroute { net } => Some(*net),
+        Edit::Connect { net, .. } => Some(*net),
+        Edit::Disconnect { net, .. } => Some(*net),
+        Edit::Route { net, .. } => Some(*net),
+        Edit::Unroute { net } => Some(*net),
         Edit::Place { .. }
         | Edit::Unplace { .. }
         | Edit::Remaster { .. }
@@ -108,9 +108,10 @@ fn followed<A: Allocator + Copy>(
     requires { (new : List Record) → read_def (text_of text.now) ≡ Ok new → Awaits library.now net.now new kept out }
     ensures { (new : List Record) → read_def (text_of text.now) ≡ Ok new → IfOk result (AreKept (lines_on_statements library.now new)) }
 {
+    sorting_is_by_lines();
     same_lines_sort_alike();
     kept_lines_follow();
-    text.text_reads();
+    text.design_is_read();
     let put = lines_on_net(alloc, library, text, net)?;
     let mut kept = kept;
     kept.exchange(out, put)?;

@@ -1,11 +1,10 @@
 use Rattle.std.proofs.Common.{ℕ, List, refl, subst, sym}
 use Rattle.std.specs.Prelude.{IfSome, IsOk}
 use Rattle.def_grammar.specs.Records.{read_def}
-use Rattle.edit_rules.specs.Edits.{applied, change_of}
-use Rattle.edit_session.specs.Known.{AreKnown, AreKnownOf}
+use Rattle.edit_rules.specs.Edits.{change_of}
+use Rattle.edit_session.specs.Known.{AreKnownOf}
 use Rattle.edit_session.specs.Sessions.{AnswersOn}
 use Rattle.edit_session.proofs.EditLemmas.{edits_nothing}
-use Rattle.edit_session.proofs.ReportLemmas.{of_this}
 use Rattle.edit_session.proofs.session.Session.edit.Goals as goal
 
 pub returns-clause-answer : goal.returns-clause-answer
@@ -25,9 +24,10 @@ invariant_of-self g c =
     let same = edits_nothing ℕ library _ (change_of c.args.edit.now) c.in_err-reads.field-0.0 _ c.in_err-reads.ensures.edits in
     subst (λ (text : List ℕ). IsOk (read_def text) × IfSome c.self.inside.reports (AnswersOn library text) × AreKnownOf library text c.self.inside.known) (sym same) c.self.invariant
 
-pub invariant_of-self-2 : goal.invariant_of-self-2
-invariant_of-self-2 g c =
-    let library = c.self.inside.library.now in
+pub follow-requires : goal.follow-requires
+follow-requires g c =
     let edited = c.in_ok-reads.ensures.applied in
-    let known = c.stay_behind.ensures library edited.0 (c.self.invariant.2 edited.0 edited.1) in
-    (c.text_reads.ensures.reads, tt, λ design reads. of_this (λ d. AreKnown library d c.stay_behind.new.self) _ (applied (change_of c.args.edit.now) edited.0) design edited.2 reads known)
+    record { before = edited.0; reads = edited.2; known = c.self.invariant.2 edited.0 edited.1; out = c.before.ensures edited.0 edited.1 }
+
+pub invariant_of-self-2 : goal.invariant_of-self-2
+invariant_of-self-2 g c = (c.text_reads.ensures.reads, tt, c.follow.ensures)

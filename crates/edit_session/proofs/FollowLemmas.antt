@@ -1,0 +1,90 @@
+-- Lines on statements that follow an edit of a net.
+use Rattle.std.proofs.Common.{◌≡◌, ◌≤◌, ℕ, List, [], ◌∷◌, ◌++◌, filter, flat_map, Option, Some, None, refl, sym, ap, ap₂, ◌∙◌, append-nil, option_to_list, Ok}
+use Rattle.std.specs.Prelude.{IfSome}
+use Rattle.std.specs.Option.{option_map}
+use Rattle.std.proofs.lemmas.Grind.{flat_map-append}
+use Rattle.design_model.specs.Order.{sorted_by_bytes}
+use Rattle.design_model.specs.declared.mode.Section.{Section}
+use Rattle.design_model.specs.declared.mode.Section.TheVariants.{Nets, SpecialNets}
+use Rattle.statement_model.specs.Tokens.{Token}
+use Rattle.def_grammar.specs.Located.{entry_at, located}
+use Rattle.def_grammar.specs.Records.{Record, read_def}
+use Rattle.lef_grammar.specs.Library.{Library}
+use Rattle.edit_rules.specs.Edits.{Change, applied, of_component, of_net, of_section}
+use Rattle.edit_rules.specs.NetEdits.{NetChange}
+use Rattle.report_rules.specs.Diagnostics.{statement_lines}
+use Rattle.line_laws.specs.Lines.{SameLines, times}
+use Rattle.line_laws.specs.SortingLaws.{SameLinesSortAlike, SortingIsByLines}
+use Rattle.following_laws.specs.FamilyLaws.{CanFollow, KeptLinesFollow}
+use Rattle.following_laws.specs.Following.{LinesFollow}
+use Rattle.staying_laws.specs.NetStatements.{NetEditsFollow, entries_of_net, is_named_in, lines_on_net}
+use Rattle.staying_laws.specs.Staying.{lines_on_statements}
+use Rattle.design_text.specs.NamedEntries.{NamedOnce}
+use Rattle.kept_lines.specs.Kept.{Kept}
+use Rattle.edit_session.specs.Known.{AreBefore, AreKept, Awaits}
+use Rattle.edit_session.proofs.ReportLemmas.{of_this, sorted_same}
+
+abbrev Lines : Type 0
+Lines = List (List ℕ)
+
+-- the lines on a statement that was found, or of none
+abbrev pub lines_if : (Record → Lines) → Option (List Token × Record) → Lines
+lines_if f found = flat_map f (option_to_list (option_map (λ (x : List Token × Record). x.1) found))
+
+pub lines_of_found : (f : Record → Lines) (old new : Lines) (found : Option (List Token × Record)) (ps : List Token) (r : Record) → Some (ps, r) ≡ found → new ≡ old ++ f r → new ≡ old ++ lines_if f found
+lines_of_found f old new found ps r is put = put ∙ ap (λ (l : Lines). old ++ l) (sym (append-nil (f r)) ∙ ap (lines_if f) is)
+
+pub lines_of_none : (f : Record → Lines) (old : Lines) (found : Option (List Token × Record)) → None ≡ found → old ≡ old ++ lines_if f found
+lines_of_none f old found is = sym (append-nil old) ∙ ap (λ (o : Option (List Token × Record)). old ++ lines_if f o) is
+
+-- the lines on the entries of a net are those on the ones that are found
+pub net_lines_are : NamedOnce → (library : Library) (text : List ℕ) (design : List Record) (name : List ℕ) (none first second : Lines) → read_def text ≡ Ok design → none ≡ []
+    → first ≡ none ++ lines_if (statement_lines library design) (entry_at Nets name (located text design))
+    → second ≡ first ++ lines_if (statement_lines library design) (entry_at SpecialNets name (located text design))
+    → second ≡ lines_on_net library name design
+net_lines_are once library text design name none first second reads empty one two =
+    let f = statement_lines library design in
+    let each : (s : Section) → lines_if f (entry_at s name (located text design)) ≡ flat_map f (filter (is_named_in s name) design) = λ (s : Section). ap (flat_map f) (sym (once text design reads s name)) in
+    two
+    ∙ ap₂ (λ (a b : Lines). a ++ b) (one ∙ ap₂ (λ (a b : Lines). a ++ b) empty (each Nets)) (each SpecialNets)
+    ∙ sym (flat_map-append f (filter (is_named_in Nets name) design) (filter (is_named_in SpecialNets name) design))
+
+-- a change is of one net
+net_named : Change → List ℕ
+net_named (of_net name change) = name
+net_named (of_component name change) = []
+net_named (of_section change) = []
+
+pub before_are : (library : Library) (design : List Record) (change : Change) (name : List ℕ) (net_change : NetChange) (lines : Lines) → change ≡ of_net name net_change → lines ≡ lines_on_net library name design → AreBefore library design change lines
+before_are library design change name net_change lines is told = λ other other_change also.
+    told ∙ ap (λ (n : List ℕ). lines_on_net library n design) (sym (ap net_named is) ∙ ap net_named also)
+
+-- kept lines await those on the entries of the net that was edited
+pub awaits : NetEditsFollow → (library : Library) (name : List ℕ) (change : NetChange) (before : List Record) (text : List ℕ) (new : List Record) (kept : Option Kept) (out : Option Lines)
+    → read_def text ≡ Ok (applied (of_net name change) before) → read_def text ≡ Ok new
+    → IfSome kept (AreKept (lines_on_statements library before)) → IfSome out (AreBefore library before (of_net name change))
+    → IfSome kept (λ k. IfSome out (Awaits library name new k))
+awaits law library name change before text new None out reads also known told = tt
+awaits law library name change before text new (Some k) None reads also known told = tt
+awaits law library name change before text new (Some k) (Some o) reads also known told =
+    of_this (λ (d : List Record). Awaits library name d k o) text (applied (of_net name change) before) new reads also
+    (record { before = lines_on_statements library before; kept_are = known; follow = out_is (told name change refl) })
+    where
+      out_is : o ≡ lines_on_net library name before → LinesFollow (lines_on_statements library before) (lines_on_statements library (applied (of_net name change) before)) o (lines_on_net library name (applied (of_net name change) before))
+      out_is is = rw is (law library name change before)
+
+-- the kept lines of lines, as often
+sorted_are : SortingIsByLines → (kept before : Lines) → kept ≡ sorted_by_bytes before → SameLines kept before
+sorted_are law kept before is = record { often = λ q. ap (times q) is ∙ sorted_same law q before }
+
+can_follow : SortingIsByLines → KeptLinesFollow → (kept before lines out put : Lines) → kept ≡ sorted_by_bytes before → LinesFollow before lines out put → CanFollow kept lines out put
+can_follow sorting law kept before lines out put is follow = law kept before lines out put (sorted_are sorting kept before is) follow
+
+pub out_stands : SortingIsByLines → KeptLinesFollow → (kept before lines out put : Lines) → kept ≡ sorted_by_bytes before → LinesFollow before lines out put → (q : List ℕ) → times q out ≤ times q kept
+out_stands sorting law kept before lines out put is follow = (can_follow sorting law kept before lines out put is follow).stand
+
+pub followed_are : SortingIsByLines → SameLinesSortAlike → KeptLinesFollow → (kept now before lines out put : Lines) → kept ≡ sorted_by_bytes before → LinesFollow before lines out put
+    → LinesFollow kept now out put → sorted_by_bytes now ≡ now → now ≡ sorted_by_bytes lines
+followed_are sorting alike law kept now before lines out put is follow exchanged in_order =
+    let left = (can_follow sorting law kept before lines out put is follow).follow exchanged.stay exchanged.old_is in
+    sym in_order ∙ alike now lines (record { often = λ q. exchanged.new_is.often q ∙ left.often q })

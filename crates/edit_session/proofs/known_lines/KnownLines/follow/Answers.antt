@@ -1,0 +1,34 @@
+use Rattle.edit_rules.specs.Edits.{applied, change_of}
+use Rattle.edit_rules.specs.NetEdits.{connect_to, disconnect_from, route_by, unroute_all}
+use Rattle.edit_session.specs.Known.{AreKnown}
+use Rattle.edit_session.proofs.ReportLemmas.{of_this}
+use Rattle.edit_session.proofs.known_lines.KnownLines.follow.Goals as goal
+
+pub returns-in-Place : goal.returns-in-Place
+returns-in-Place g c = λ new reads.
+    let library = c.args.library.now in
+    let before = c.requires.before in
+    let stay = rw (c.in-Place.is) (c.placing_keeps_statements.ensures library c.in-Place.component.now c.in-Place.x c.in-Place.y c.in-Place.orient before) in
+    of_this (λ d. AreKnown library d c.keep_statements.new.self) _ (applied (change_of c.args.edit.now) before) new c.requires.reads reads (c.keep_statements.ensures library before _ stay c.requires.known)
+
+pub returns-in-Unplace : goal.returns-in-Unplace
+returns-in-Unplace g c = λ new reads.
+    let library = c.args.library.now in
+    let before = c.requires.before in
+    let stay = rw (c.in-Unplace.is) (c.unplacing_keeps_statements.ensures library c.in-Unplace.component.now before) in
+    of_this (λ d. AreKnown library d c.keep_statements-in-Unplace.new.self) _ (applied (change_of c.args.edit.now) before) new c.requires.reads reads (c.keep_statements-in-Unplace.ensures library before _ stay c.requires.known)
+
+pub follow_net-requires : goal.follow_net-requires
+follow_net-requires g c = (connect_to c.in-Connect.owner.now c.in-Connect.pin.now, rw (c.in-Connect.is) at c.requires)
+
+pub follow_net-in-Disconnect-requires : goal.follow_net-in-Disconnect-requires
+follow_net-in-Disconnect-requires g c = (disconnect_from c.in-Disconnect.owner.now c.in-Disconnect.pin.now, rw (c.in-Disconnect.is) at c.requires)
+
+pub follow_net-in-Route-requires : goal.follow_net-in-Route-requires
+follow_net-in-Route-requires g c = (route_by c.in-Route.wiring.now, rw (c.in-Route.is) at c.requires)
+
+pub follow_net-in-Unroute-requires : goal.follow_net-in-Unroute-requires
+follow_net-in-Unroute-requires g c = (unroute_all, rw (c.in-Unroute.is) at c.requires)
+
+pub returns-in-Remaster : goal.returns-in-Remaster
+returns-in-Remaster g c = λ new reads. c.none.ensures c.args.library.now new
