@@ -3,8 +3,8 @@
 //! Begin with `DesignText::open`. It keeps the pieces of a text's statements under numbers, and tables of what each statement has to
 //! do with names. A `DesignText` answers the look-ups of an edit (`def_splice::lookups::LookUps`) by the tables, and reads no
 //! statement for them but those that it gives. What it gives lies in the text, with tokens over the bytes of the statement alone.
-//! By the same tables it gives the entries of the design by their names (`design_names::entry_names::EntryNames`); `design_is_read`
-//! says that this design is the one that the text reads as, and `laws` that a name stands once in its section.
+//! By the same tables it gives the entries of the design by their names (`has`, `component_named`, `via_named`, `rule_named`);
+//! `design_is_read` says that this design is the one that the text reads as, and `laws` that a name stands once in its section.
 //!
 //! It is seen as `Content` of `specs/DesignTexts`. Its invariant is `IsDesignText`: the text reads as a design, and the tables are
 //! those of its statements under their numbers.
