@@ -41,8 +41,8 @@ use report_lines::Lines;
 use std::alloc::{AllocError, Allocator};
 
 /// Puts the lines on one statement by itself behind others.
-pub(crate) fn put_statement<'t, K: Known, A: Allocator + Copy>(
-    checks: &mut StatementChecks<'_, 't, K, A>,
+pub(crate) fn put_statement<'a, 't: 'a, K: Known, A: Allocator + Copy>(
+    checks: &mut StatementChecks<'a, 't, K, A>,
     statement: &Statement<'t>,
     lines: &mut Lines<A>,
 ) -> Result<(), AllocError>
