@@ -1,6 +1,7 @@
 -- Lines on statements that follow an edit of a net.
-use Rattle.std.proofs.Common.{◌≡◌, ◌≤◌, ℕ, List, [], ◌∷◌, ◌++◌, filter, flat_map, Option, Some, None, refl, sym, ap, ap₂, ◌∙◌, append-nil, option_to_list, Ok}
-use Rattle.std.specs.Prelude.{IfSome}
+use Rattle.std.proofs.Common.{◌≡◌, ◌≤◌, ℕ, List, [], ◌++◌, filter, flat_map, Option, Some, None, refl, sym, ap, ap₂, ◌∙◌, append-nil, option_to_list, Result, Ok, Err}
+use Rattle.std.specs.Prelude.{IfOk, IfSome}
+use Rattle.std.specs.Result.{result_ok}
 use Rattle.std.specs.Option.{option_map}
 use Rattle.std.proofs.lemmas.Grind.{flat_map-append}
 use Rattle.design_model.specs.Order.{sorted_by_bytes}
@@ -17,7 +18,7 @@ use Rattle.line_laws.specs.Lines.{SameLines, times}
 use Rattle.line_laws.specs.SortingLaws.{SameLinesSortAlike, SortingIsByLines}
 use Rattle.following_laws.specs.FamilyLaws.{CanFollow, KeptLinesFollow}
 use Rattle.following_laws.specs.Following.{LinesFollow}
-use Rattle.staying_laws.specs.NetStatements.{NetEditsFollow, entries_of_net, is_named_in, lines_on_net}
+use Rattle.staying_laws.specs.NetStatements.{NetEditsFollow, is_named_in, lines_on_net}
 use Rattle.staying_laws.specs.Staying.{lines_on_statements}
 use Rattle.design_text.specs.NamedEntries.{NamedOnce}
 use Rattle.kept_lines.specs.Kept.{Kept}
@@ -56,8 +57,19 @@ net_named (of_component name change) = []
 net_named (of_section change) = []
 
 pub before_are : (library : Library) (design : List Record) (change : Change) (name : List ℕ) (net_change : NetChange) (lines : Lines) → change ≡ of_net name net_change → lines ≡ lines_on_net library name design → AreBefore library design change lines
+unfolding net_named
 before_are library design change name net_change lines is told = λ other other_change also.
     told ∙ ap (λ (n : List ℕ). lines_on_net library n design) (sym (ap net_named is) ∙ ap net_named also)
+
+pub before_if : {E : Type 0} (library : Library) (design : List Record) (change : Change) (name : List ℕ) (net_change : NetChange) (r : Result Lines E) (found : Option Lines) → found ≡ result_ok r → change ≡ of_net name net_change
+    → IfOk r (λ l. l ≡ lines_on_net library name design) → IfSome found (AreBefore library design change)
+before_if library design change name net_change (Ok l) found is change_is told = rw is (before_are library design change name net_change l change_is told)
+before_if library design change name net_change (Err e) found is change_is told = rw is tt
+
+-- what holds where a result is there, of the value that is taken from it
+pub value_if : {A E : Type 0} (P : A → Type 0) (r : Result A E) (value : Option A) → value ≡ result_ok r → IfOk r P → IfSome value P
+value_if P (Ok a) value is holds = rw is holds
+value_if P (Err e) value is holds = rw is tt
 
 -- kept lines await those on the entries of the net that was edited
 pub awaits : NetEditsFollow → (library : Library) (name : List ℕ) (change : NetChange) (before : List Record) (text : List ℕ) (new : List Record) (kept : Option Kept) (out : Option Lines)
@@ -69,9 +81,9 @@ awaits law library name change before text new (Some k) None reads also known to
 awaits law library name change before text new (Some k) (Some o) reads also known told =
     of_this (λ (d : List Record). Awaits library name d k o) text (applied (of_net name change) before) new reads also
     (record { before = lines_on_statements library before; kept_are = known; follow = out_is (told name change refl) })
-    where
-      out_is : o ≡ lines_on_net library name before → LinesFollow (lines_on_statements library before) (lines_on_statements library (applied (of_net name change) before)) o (lines_on_net library name (applied (of_net name change) before))
-      out_is is = rw is (law library name change before)
+  where
+    out_is : o ≡ lines_on_net library name before → LinesFollow (lines_on_statements library before) (lines_on_statements library (applied (of_net name change) before)) o (lines_on_net library name (applied (of_net name change) before))
+    out_is is = rw is (law library name change before)
 
 -- the kept lines of lines, as often
 sorted_are : SortingIsByLines → (kept before : Lines) → kept ≡ sorted_by_bytes before → SameLines kept before

@@ -1,5 +1,5 @@
 -- Lines of a report that are known from one question to the next.
-use Rattle.std.specs.Prelude.{◌≡◌, ℕ, List, Option, Some, IfSome, IsSome, Ok}
+use Rattle.std.specs.Prelude.{◌≡◌, ℕ, List, Option, IfSome, IsSome, Ok}
 use Rattle.design_model.specs.Order.{sorted_by_bytes}
 use Rattle.def_grammar.specs.Records.{Record, read_def}
 use Rattle.lef_grammar.specs.Library.{Library}
@@ -52,5 +52,5 @@ pub record Awaits (library : Library) (name : List ℕ) (design : List Record) (
 pub record Led {A : Type 0} (library : Library) (text : List ℕ) (change : Change) (known : KnownLines A) (out : Option (List (List ℕ))) : Type 0 where
   pub before : List Record
   pub reads : read_def text ≡ Ok (applied change before)
-  pub known : AreKnown library before known
-  pub out : IfSome out (AreBefore library before change)
+  pub knew : AreKnown library before known
+  pub told : IfSome out (AreBefore library before change)

@@ -27,7 +27,7 @@ invariant_of-self g c =
 pub follow-requires : goal.follow-requires
 follow-requires g c =
     let edited = c.in_ok-reads.ensures.applied in
-    record { before = edited.0; reads = edited.2; known = c.self.invariant.2 edited.0 edited.1; out = c.before.ensures edited.0 edited.1 }
+    record { before = edited.0; reads = edited.2; knew = c.self.invariant.2 edited.0 edited.1; told = c.before-out.ensures edited.0 edited.1 }
 
 pub invariant_of-self-2 : goal.invariant_of-self-2
 invariant_of-self-2 g c = (c.text_reads.ensures.reads, tt, c.follow.ensures)
