@@ -4,9 +4,9 @@ ghost use Rattle.std.specs.Prelude.{◌≡◌, ◌++◌, ◌∷◌, ◌<◌, ◌
 ghost use Rattle.std.specs.List.{filter_map, sum_by};
 ghost use Rattle.design_rules.specs.Boxes.{scale};
 ghost use Rattle.net_entries.specs.NetEntries.{entry_lent};
-ghost use Rattle.connection_rules.specs.NetParts.{all_nets, net_names, net_of, wired_of};
+ghost use Rattle.connection_rules.specs.NetParts.{all_nets, net_of, wired_of};
 ghost use Rattle.connection_rules.specs.Terminals.{pins_by_name};
-ghost use Rattle.measure_rules.specs.Lengths.{length_of, wired_length};
+ghost use Rattle.measure_rules.specs.Lengths.{wired_length};
 ghost use Rattle.drawn_parts.specs.DrawnLengths.{capped};
 
 use cell_library::library::Library;
@@ -16,18 +16,11 @@ use drawn_parts::{PartWalk, put_drawn};
 use net_entries::{LentEntry, entries_by_net, is_power};
 use net_lists::{NetList, building_a_net};
 use net_pins::{PinWalk, Pins};
-use std::alloc::{AllocError, Allocator, Global};
+use std::alloc::{AllocError, Allocator};
 
-/// The nets of a design, and the length of each.
-#[derive(Drop)]
-pub struct MeasuredNets<'t, A: Allocator = Global> {
-    pub nets: NetList<'t, A>,
-    /// Along the centres of wires, in database units: 2^64 - 1 where it is more.
-    pub lengths: Vec<u64, A>,
-}
-
-/// Puts the net of a name and of its entries behind the others, and gives its length.
-fn put_net<'v, 'a, 'l: 'a, 'r: 'a, 't: 'a, A: Allocator + Copy>(
+/// Puts the net of a name and of its entries behind the others, and gives the length of its wires along their centres, in database
+/// units: 2^64 - 1 where it is more.
+pub fn put_net<'v, 'a, 'l: 'a, 'r: 'a, 't: 'a, A: Allocator + Copy>(
     pins: &Pins<'v, 'a, 'l, 'r, 't, A>,
     wires: &DesignWires<'a, 'l, 'r, 't, A>,
     name: &'t [u8],
@@ -53,43 +46,8 @@ fn put_net<'v, 'a, 'l: 'a, 'r: 'a, 't: 'a, A: Allocator + Copy>(
     Ok(length)
 }
 
-/// The nets of a design, in the order in which their names come first, and their lengths in the same order. The vias are those of
-/// the same library and the same design, whose text reads, so that its scale is in range.
-pub fn measured_nets<'a, 'l: 'a, 'r: 'a, 't: 'a, A: Allocator + Copy>(
-    alloc: A,
-    library: &'a Library<'l, A>,
-    names: &'a Names<'r, 't, A>,
-    wires: &DesignWires<'a, 'l, 'r, 't, A>,
-) -> Result<MeasuredNets<'t, A>, AllocError>
-    requires some { 0 < scale names.now }
-    requires few { scale names.now ≤ 100000 }
-    requires same { wires.now ≡ record { library = library.now; design = names.now } }
-    ensures nets { IfOk result (λ m. m.nets ≡ all_nets library.entry.now names.entry.now (scale names.entry.now)) }
-    ensures lengths { let u = scale names.entry.now in IfOk result (λ m. m.lengths.items ≡ map (λ name. capped (length_of library.entry.now names.entry.now u name)) (net_names library.entry.now names.entry.now u)) }
-{
-    let groups = entries_by_net(alloc, names.hash_builder(), names.records())?;
-    let pins = Pins::new(alloc, library, names, wires)?;
-    let mut pin_walk = pins.walk(alloc);
-    let mut part_walk = PartWalk::new(library);
-    let mut nets = NetList::new(alloc);
-    let mut lengths = Vec::new(alloc);
-    for place in 0..groups.len() {
-        let (name, entries) = groups.at(place);
-        let length = put_net(
-            &pins,
-            wires,
-            name,
-            entries,
-            &mut pin_walk,
-            &mut part_walk,
-            &mut nets,
-        )?;
-        lengths.push(length)?;
-    }
-    Ok(MeasuredNets { nets, lengths })
-}
-
-/// The nets of a design, as `measured_nets` gives them.
+/// The nets of a design, in the order in which their names come first. The vias are those of the same library and the same design,
+/// whose text reads, so that its scale is in range.
 pub fn nets_of<'a, 'l: 'a, 'r: 'a, 't: 'a, A: Allocator + Copy>(
     alloc: A,
     library: &'a Library<'l, A>,
@@ -101,6 +59,22 @@ pub fn nets_of<'a, 'l: 'a, 'r: 'a, 't: 'a, A: Allocator + Copy>(
     requires same { wires.now ≡ record { library = library.now; design = names.now } }
     ensures { IfOk result (λ nets. nets ≡ all_nets library.entry.now names.entry.now (scale names.entry.now)) }
 {
-    let measured = measured_nets(alloc, library, names, wires)?;
-    Ok(measured.nets)
+    let groups = entries_by_net(alloc, names.hash_builder(), names.records())?;
+    let pins = Pins::new(alloc, library, names, wires)?;
+    let mut pin_walk = pins.walk(alloc);
+    let mut part_walk = PartWalk::new(library);
+    let mut nets = NetList::new(alloc);
+    for place in 0..groups.len() {
+        let (name, entries) = groups.at(place);
+        put_net(
+            &pins,
+            wires,
+            name,
+            entries,
+            &mut pin_walk,
+            &mut part_walk,
+            &mut nets,
+        )?;
+    }
+    Ok(nets)
 }

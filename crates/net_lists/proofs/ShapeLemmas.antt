@@ -17,7 +17,7 @@ use Rattle.net_lists.proofs.CutLemmas.{others_counted}
 abbrev pub shapes_in : Part → List Shape
 shapes_in p = p.shapes
 
-abbrev bare : net_lines.NetShape → Shape
+abbrev pub bare : net_lines.NetShape → Shape
 bare s = s.shape
 
 module _ (n : Net) where
@@ -25,7 +25,7 @@ module _ (n : Net) where
   of_part is_pin [] = refl
   of_part is_pin (s ∷ ss) = ap (λ xs. s ∷ xs) (of_part is_pin ss)
 
-  of_parts : (ps : List Part) → map bare (flat_map (shapes_of_part n) ps) ≡ flat_map shapes_in ps
+  pub of_parts : (ps : List Part) → map bare (flat_map (shapes_of_part n) ps) ≡ flat_map shapes_in ps
   of_parts [] = refl
   of_parts (p ∷ ps) =
       map-append bare (shapes_of_part n p) (flat_map (shapes_of_part n) ps)

@@ -47,6 +47,15 @@ impl<'t, A: Allocator + Copy> NetList<'t, A> {
         }
     }
 
+    /// Takes all nets out. The room that they had stays for others.
+    pub fn clear(&mut self)
+        ensures { self.new ≡ [] }
+    {
+        self.nets.clear();
+        self.parts.clear();
+        self.shapes.clear();
+    }
+
     /// Puts a net without parts behind the others. A refused growth leaves the list as it was.
     pub fn begin_net(&mut self, name: &'t [u8], is_power: bool) -> Result<(), AllocError>
         ensures ok { OnOk result (self.new ≡ self.old ++ bare_net name.now is_power ∷ []) }

@@ -4,4 +4,3 @@ pub mod DensitySteps
 pub mod MeasuredSteps
 pub mod NetAnswers
 pub mod TableLemmas
-pub mod TotalSteps

@@ -1,5 +1,5 @@
 -- Sums that are the densities of cells.
-use Rattle.std.specs.Prelude.{◌≡◌, ℕ, List, length, Option, Some, ℤ}
+use Rattle.std.specs.Prelude.{◌≡◌, ℕ, List, ◌++◌, Option, Some, ℤ}
 use Rattle.std.specs.Option.{option_map}
 use Rattle.design_model.specs.Geometry.{Rectangle}
 use Rattle.design_model.specs.Views.{rectangle_of}
@@ -13,8 +13,11 @@ use Rattle.cell_sums.specs.Tables.{CellTable, sums}
 pub record HoldsDensities (columns rows : List ℤ) (shapes : List Shape) (t : CellTable) : Type 0 where
   pub columns_are : t.columns ≡ columns
   pub rows_are : t.rows ≡ rows
-  pub count : t.added ≡ length shapes
   pub densities : (layer i j : ℕ) (cell : Rectangle) → cell_among columns rows i j ≡ Some cell → sums t layer i j ≡ density shapes layer cell
+
+-- whatever shapes the sums were densities of, they are those of these shapes as well
+pub record HoldsMore (more : List Shape) (old new : CellTable) : Type 0 where
+  pub holds : (columns rows : List ℤ) (shapes : List Shape) → HoldsDensities columns rows shapes old → HoldsDensities columns rows (shapes ++ more) new
 
 -- the box of a component as a shape on layer 0
 abbrev pub place_shape : PlacedBox → Shape

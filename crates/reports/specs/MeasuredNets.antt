@@ -1,10 +1,15 @@
 -- What is kept of each net.
-use Rattle.std.specs.Prelude.{ℕ, List, [], ◌∷◌, Option}
+use Rattle.std.specs.Prelude.{◌≡◌, ℕ, List, [], ◌∷◌, flat_map, length, map, sum, Option, ℤ}
 use Rattle.std.specs.Option.{option_map}
 use Rattle.design_model.specs.Geometry.{Rectangle}
 use Rattle.design_model.specs.Views.{rectangle_of}
 use Rattle.form_meanings.specs.Firsts.{with_all}
+use Rattle.connection_rules.specs.NetLines as net_lines
+use Rattle.connection_rules.specs.NetLines.{shapes_of_net}
 use Rattle.connection_rules.specs.NetParts.{Net}
+use Rattle.drawn_parts.specs.DrawnLengths.{capped}
+use Rattle.cell_sums.specs.Tables.{CellTable}
+use Rattle.reports.specs.Densities.{HoldsDensities}
 use Rattle.net_lists.specs.declared.parts.NetShape.{NetShape}
 use Rattle.measure_rules.specs.NetBoxes.{box_round, rectangles_of}
 use Rattle.reports.specs.declared.net_table.Measures.{Measures}
@@ -37,3 +42,10 @@ entry_view e = measures_view e.0 e.1
 -- the rectangle of a shape
 abbrev pub shape_box : NetShape → Rectangle
 shape_box s = rectangle_of s.rect
+
+-- what was measured of nets of these lengths: the first of each name, the lengths together, and the densities of their shapes
+pub record AreMeasured (columns rows : List ℤ) (nets : List Net) (lengths : List ℕ) (table : List MeasuredNet) (total : ℕ) (cells : CellTable) : Type 0 where
+  pub each : length nets ≡ length lengths
+  pub by_name : table ≡ firsts (measured nets lengths)
+  pub together : total ≡ capped (sum lengths)
+  pub densities : HoldsDensities columns rows (map (λ (s : net_lines.NetShape). s.shape) (flat_map shapes_of_net nets)) cells

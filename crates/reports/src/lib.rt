@@ -6,14 +6,14 @@
 //! `cell_sums`.
 //!
 //! `Reports` owns what it holds and lends nothing: a name, a length and a box for each net, and the sums of cells that are in use.
-//! While it is made it holds the design's nets with all their shapes. Making it is all that takes memory, and its one error is
-//! `AllocError`.
+//! While it is made it draws one net after the other, and holds the shapes of that net alone. Making it is all that takes memory, and
+//! its one error is `AllocError`.
 #![tactic(auto)]
 
 mod densities;
+mod measured_nets;
 mod net_box;
 mod net_table;
 mod reports;
-mod total;
 
 pub use reports::Reports;

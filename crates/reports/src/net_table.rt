@@ -1,15 +1,13 @@
 //! Nets by their names.
 
-ghost use Rattle.std.specs.Prelude.{◌≡◌, [], IfOk, OnOk, length};
+ghost use Rattle.std.specs.Prelude.{◌≡◌, [], OnOk};
 ghost use Rattle.std.specs.Option.{option_map};
 ghost use Rattle.form_meanings.specs.Firsts.{find_named, with_first};
-ghost use Rattle.reports.specs.MeasuredNets.{firsts, measured, measures_view, name_of};
+ghost use Rattle.reports.specs.MeasuredNets.{measures_view, name_of};
 
-use crate::net_box::box_round;
 use design_model::geometry::Rect;
 use indexmap::IndexMap;
 use name_keys::{Name, OwnName};
-use net_lists::NetList;
 use std::alloc::{AllocError, Allocator, Global};
 use std::hash::RandomState;
 use std::marker::Model;
@@ -38,7 +36,7 @@ impl<A: Allocator> Model for NetTable<A> {
 
 impl<A: Allocator + Copy> NetTable<A> {
     /// No nets. It takes no memory.
-    fn new(alloc: A, hash_builder: RandomState) -> NetTable<A>
+    pub(crate) fn new(alloc: A, hash_builder: RandomState) -> NetTable<A>
         ensures { result ≡ [] }
     {
         NetTable {
@@ -47,7 +45,7 @@ impl<A: Allocator + Copy> NetTable<A> {
     }
 
     /// Puts a net behind the others, unless its name is taken. The name is copied.
-    fn add(&mut self, alloc: A, name: &[u8], measures: Measures) -> Result<(), AllocError>
+    pub(crate) fn add(&mut self, alloc: A, name: &[u8], measures: Measures) -> Result<(), AllocError>
         ensures { OnOk result (self.new ≡ with_first name_of self.old (measures_view name.now measures)) }
     {
         if self.nets.contains_key(Name { bytes: name }) {
@@ -64,28 +62,4 @@ impl<A: Allocator + Copy> NetTable<A> {
     {
         self.nets.get(Name { bytes: name }).copied()
     }
-}
-
-/// Nets by their names, with these lengths.
-pub(crate) fn table_of<A: Allocator + Copy>(
-    alloc: A,
-    hash_builder: RandomState,
-    nets: &NetList<'_, A>,
-    lengths: &[u64],
-) -> Result<NetTable<A>, AllocError>
-    requires { length lengths.now ≡ length nets.now }
-    ensures { IfOk result (λ t. t ≡ firsts (measured nets.now lengths.now)) }
-{
-    let mut table = NetTable::new(alloc, hash_builder);
-    let mut left = nets.nets();
-    let mut lengths_left = lengths;
-    while let Some(net) = left.next() {
-        let measures = Measures {
-            length: lengths_left[0],
-            bounds: box_round(net.shapes),
-        };
-        table.add(alloc, net.head.name, measures)?;
-        lengths_left = &lengths_left[1..];
-    }
-    Ok(table)
 }

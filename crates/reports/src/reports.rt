@@ -1,27 +1,23 @@
 //! What is measured of a design.
 
-ghost use Rattle.std.specs.Prelude.{◌≡◌, ◌<◌, ◌≤◌, ◌^◌, IfOk, flat_map, map};
+ghost use Rattle.std.specs.Prelude.{◌≡◌, ◌<◌, ◌≤◌, ◌^◌, IfOk, flat_map};
 ghost use Rattle.std.specs.List.{All};
 ghost use Rattle.std.specs.Option.{option_map};
 ghost use Rattle.design_model.specs.Ranges.{IsWithin};
 ghost use Rattle.design_model.specs.Views.{rectangle_of};
-ghost use Rattle.connection_rules.specs.NetParts.{all_nets, net_names};
 ghost use Rattle.design_rules.specs.Boxes.{scale};
-ghost use Rattle.drawn_parts.specs.DrawnLengths.{capped};
 ghost use Rattle.measure_rules.specs.GridCells.{lines_along_x, lines_along_y};
-ghost use Rattle.measure_rules.specs.Lengths.{length_of, total_length};
+ghost use Rattle.measure_rules.specs.Lengths.{total_length};
 ghost use Rattle.reports.specs.Answers.{ReportsOn, box_in, cell_in, length_in, place_cell_in};
 
-use crate::densities::{cells_of, place_cells_of};
-use crate::net_table::{NetTable, table_of};
-use crate::total::total_of;
+use crate::densities::{add_boxes, no_densities};
+use crate::measured_nets::measured_nets;
+use crate::net_table::NetTable;
 use cell_library::library::Library;
 use cell_sums::CellSums;
 use design_model::geometry::Rect;
 use design_model::identifier::LayerId;
 use design_names::names::Names;
-use design_nets::{MeasuredNets, measured_nets};
-use design_wires::wires::DesignWires;
 use measure_laws::lengths::none_is_longer;
 use place_checks::boxes::boxes_of;
 use std::alloc::{AllocError, Allocator, Global};
@@ -45,22 +41,6 @@ impl<A: Allocator> Model for Reports<A> {
     ghost view = { λ r. record { layers = r.layers; nets = r.nets; total_length = r.total; cells = r.cells; place_cells = r.place_cells } };
 }
 
-/// The nets of a design and their lengths. The vias that they are made by are kept no longer than that.
-fn measured_of<'t, A: Allocator + Copy>(
-    alloc: A,
-    library: &Library<'_, A>,
-    names: &Names<'_, 't, A>,
-) -> Result<MeasuredNets<'t, A>, AllocError>
-    requires some { 0 < scale names.now }
-    requires few { scale names.now ≤ 100000 }
-    ensures nets { IfOk result (λ m. m.nets ≡ all_nets library.entry.now names.entry.now (scale names.entry.now)) }
-    ensures lengths { let u = scale names.entry.now in IfOk result (λ m. m.lengths.items ≡ map (λ name. capped (length_of library.entry.now names.entry.now u name)) (net_names library.entry.now names.entry.now u)) }
-{
-    let wires = DesignWires::new(alloc, library, names)?;
-    let measured = measured_nets(alloc, library, names, &wires)?;
-    Ok(measured)
-}
-
 impl<A: Allocator + Copy> Reports<A> {
     /// Measures a design whose text reads, so that its scale, its lengths and the lines of its grid are in range.
     pub fn open<'t>(
@@ -77,22 +57,15 @@ impl<A: Allocator + Copy> Reports<A> {
     {
         none_is_longer();
         let layers = library.layer_count();
-        let measured = measured_of(alloc, library, names)?;
+        let measured = measured_nets(alloc, library, names)?;
         let boxes = boxes_of(alloc, library, names.records())?;
-        let nets = table_of(
-            alloc,
-            names.hash_builder(),
-            &measured.nets,
-            &measured.lengths,
-        )?;
-        let cells = cells_of(alloc, names, measured.nets.shapes())?;
-        let place_cells = place_cells_of(alloc, names, &boxes)?;
-        let total = total_of(&measured.lengths);
+        let mut place_cells = no_densities(alloc, names)?;
+        add_boxes(&mut place_cells, &boxes)?;
         Ok(Reports {
             layers,
-            nets,
-            total,
-            cells,
+            nets: measured.table,
+            total: measured.total,
+            cells: measured.cells,
             place_cells,
         })
     }

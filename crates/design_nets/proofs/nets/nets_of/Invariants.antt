@@ -2,8 +2,8 @@ use Rattle.std.proofs.Common.{◌≡◌, ◌++◌, drop, map}
 use Rattle.design_rules.specs.Boxes.{scale}
 use Rattle.name_groups.specs.GroupViews.{group_view}
 use Rattle.net_entries.specs.NetEntries.{wired_group}
-use Rattle.design_nets.specs.NetGroups.{length_of_group, net_of_group}
-use Rattle.design_nets.proofs.nets.measured_nets.Given as goal
+use Rattle.design_nets.specs.NetGroups.{net_of_group}
+use Rattle.design_nets.proofs.nets.nets_of.Given as goal
 
 abbrev pub invariant-loop-place : goal.invariant-loop-place
 invariant-loop-place g l = record {
@@ -12,7 +12,4 @@ invariant-loop-place g l = record {
   nets :
       l.nets ++ map (λ x. net_of_group l.library l.names (scale l.names) (wired_group l.library l.names (scale l.names) x)) (drop l.place (map group_view l.groups-inside.groups.entries))
       ≡ map (λ x. net_of_group l.library l.names (scale l.names) (wired_group l.library l.names (scale l.names) x)) (map group_view l.groups-inside.groups.entries);
-  lengths :
-      l.lengths.items ++ map (λ x. length_of_group (wired_group l.library l.names (scale l.names) x)) (drop l.place (map group_view l.groups-inside.groups.entries))
-      ≡ map (λ x. length_of_group (wired_group l.library l.names (scale l.names) x)) (map group_view l.groups-inside.groups.entries);
 }

@@ -1,0 +1,6 @@
+use Rattle.std.proofs.Common.{rules}
+use Rattle.reports.proofs.MeasuredSteps.{none_measured}
+use Rattle.reports.proofs.measured_nets.MeasuredNets.new.Goals as goal
+
+pub returns : goal.returns
+returns g c = rw (c.new.ensures) (none_measured _ _ _ c.in_ok-no_densities.ensures)
