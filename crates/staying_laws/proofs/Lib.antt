@@ -1,4 +1,5 @@
 mod EditedNets
+mod FloorStatements
 mod MappedLists
 mod MovedComponents
 mod NetEdits

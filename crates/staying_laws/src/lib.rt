@@ -7,9 +7,11 @@
 #![tactic(auto)]
 
 ghost use Rattle.staying_laws.specs.NetStatements.{NetEditsFollow};
+ghost use Rattle.staying_laws.specs.PlaceStatements.{FloorTellsSurroundings, StatementsLeaveTheFloor};
 ghost use Rattle.staying_laws.specs.Staying.{NetEditsKeepPlaces, PartsAreAll, PlacingKeepsStatements, UnplacingKeepsStatements};
 
 use agreement_laws::{same_outline_same_counts, same_shown_same_lines};
+use following_laws::component_lines_follow;
 
 /// The parts of a report are all its lines.
 pub fn parts_are_all()
@@ -41,4 +43,16 @@ pub fn unplacing_keeps_statements()
     ensures { UnplacingKeepsStatements }
 {
     same_outline_same_counts();
+}
+
+/// What components stand in is told by the statements of the floor alone: rows, the die, regions, groups, blockages and UNITS.
+pub fn floor_tells_surroundings()
+    ensures { FloorTellsSurroundings }
+{}
+
+/// Where the floor stays, the lines on components follow an exchange of statements by those on the components among them.
+pub fn statements_leave_the_floor()
+    ensures { StatementsLeaveTheFloor }
+{
+    component_lines_follow();
 }

@@ -1,0 +1,178 @@
+-- What components stand in is told by some statements, and the others are exchanged with the components that they are.
+use Rattle.std.proofs.Common.{◌≡◌, ◌+◌, ℕ, Bool, true, false, List, [], ◌∷◌, ◌++◌, filter, flat_map, map, sum_by, Option, Some, None, refl, sym, ap, ap₂, ◌∙◌, arith, subst, if◌then◌else◌}
+use Rattle.std.specs.List.{cons_option, filter_map}
+use Rattle.std.proofs.lemmas.List.Elements.{filter_map-append}
+use Rattle.std.proofs.lemmas.List.Sums.{sum_by-append, sum_by-cons}
+use Rattle.design_model.specs.Geometry.{Rectangle}
+use Rattle.form_meanings.specs.Words.{first}
+use Rattle.def_grammar.specs.Records as records
+use Rattle.def_grammar.specs.Records.{Record, end_section, entry, in_properties, top, units_of}
+use Rattle.lef_grammar.specs.Library.{Library}
+use Rattle.design_rules.specs.Boxes.{Boxed, box_of, boxes, scale, units_or_1}
+use Rattle.design_rules.specs.Surroundings.{assignment_of, assignments, die, die_of, fence_of, fences, keep_out_of, keep_outs, placed_row, placed_rows, row_of, surroundings}
+use Rattle.line_laws.specs.Lines.{SameThings}
+use Rattle.line_laws.proofs.OneOfAll.{design_has_component_lines}
+use Rattle.following_laws.specs.DesignLaws.{ComponentLinesFollow}
+use Rattle.following_laws.specs.Following.{Exchange, LinesFollow}
+use Rattle.staying_laws.specs.PlaceStatements.{FloorTellsSurroundings, PlacesFollow, StatementsLeaveTheFloor, TellsSurroundings, boxes_among, is_floor}
+
+-- what is selected of statements of which some say nothing
+module _ {A B : Type 0} (says : A → Bool) (select : A → Option B) where
+  kept_or_not : (b : Bool) (a : A) (kept all : List A) → (b ≡ false → select a ≡ None) → filter_map select kept ≡ filter_map select all
+      → filter_map select (if b then a ∷ kept else kept) ≡ filter_map select (a ∷ all)
+  kept_or_not true a kept all none later = ap (cons_option (select a)) later
+  kept_or_not false a kept all none later = later ∙ ap (λ (b : Option B). cons_option b (filter_map select all)) (sym (none refl))
+
+  pub selected_of_those : ((a : A) → says a ≡ false → select a ≡ None) → (all : List A) → filter_map select (filter says all) ≡ filter_map select all
+  selected_of_those none [] = refl
+  selected_of_those none (a ∷ all) = kept_or_not (says a) a (filter says all) all (none a) (selected_of_those none all)
+
+module _ {A B : Type 0} (says : A → Bool) (parts : A → List B) where
+  listed_or_not : (b : Bool) (a : A) (kept all : List A) → (b ≡ false → parts a ≡ []) → flat_map parts kept ≡ flat_map parts all
+      → flat_map parts (if b then a ∷ kept else kept) ≡ flat_map parts (a ∷ all)
+  listed_or_not true a kept all none later = ap (λ bs. parts a ++ bs) later
+  listed_or_not false a kept all none later = later ∙ ap (λ bs. bs ++ flat_map parts all) (sym (none refl))
+
+  pub listed_of_those : ((a : A) → says a ≡ false → parts a ≡ []) → (all : List A) → flat_map parts (filter says all) ≡ flat_map parts all
+  listed_of_those none [] = refl
+  listed_of_those none (a ∷ all) = listed_or_not (says a) a (filter says all) all (none a) (listed_of_those none all)
+
+no_units : (r : Record) → is_floor r ≡ false → units_of r ≡ None
+no_units (top t) h = absurd (cc)
+no_units (entry e) h = refl
+no_units (in_properties p) h = refl
+no_units (end_section s) h = refl
+
+no_row : (r : Record) → is_floor r ≡ false → row_of r ≡ None
+no_row (top t) h = absurd (cc)
+no_row (entry e) h = refl
+no_row (in_properties p) h = refl
+no_row (end_section s) h = refl
+
+no_die : (r : Record) → is_floor r ≡ false → die_of r ≡ None
+no_die (top t) h = absurd (cc)
+no_die (entry e) h = refl
+no_die (in_properties p) h = refl
+no_die (end_section s) h = refl
+
+no_fence : (r : Record) → is_floor r ≡ false → fence_of r ≡ None
+no_fence (top t) h = refl
+no_fence (entry (records.component x)) h = refl
+no_fence (entry (records.pin x)) h = refl
+no_fence (entry (records.region x)) h = absurd (cc)
+no_fence (entry (records.group x)) h = refl
+no_fence (entry (records.blockage x)) h = refl
+no_fence (entry (records.net x)) h = refl
+no_fence (entry (records.special_net x)) h = refl
+no_fence (entry (records.via x)) h = refl
+no_fence (entry (records.rule x)) h = refl
+no_fence (entry (records.skipped s x)) h = refl
+no_fence (in_properties p) h = refl
+no_fence (end_section s) h = refl
+
+no_assignment : (r : Record) → is_floor r ≡ false → assignment_of r ≡ None
+no_assignment (top t) h = refl
+no_assignment (entry (records.component x)) h = refl
+no_assignment (entry (records.pin x)) h = refl
+no_assignment (entry (records.region x)) h = refl
+no_assignment (entry (records.group x)) h = absurd (cc)
+no_assignment (entry (records.blockage x)) h = refl
+no_assignment (entry (records.net x)) h = refl
+no_assignment (entry (records.special_net x)) h = refl
+no_assignment (entry (records.via x)) h = refl
+no_assignment (entry (records.rule x)) h = refl
+no_assignment (entry (records.skipped s x)) h = refl
+no_assignment (in_properties p) h = refl
+no_assignment (end_section s) h = refl
+
+no_keep_out : (r : Record) → is_floor r ≡ false → keep_out_of r ≡ []
+no_keep_out (top t) h = refl
+no_keep_out (entry (records.component x)) h = refl
+no_keep_out (entry (records.pin x)) h = refl
+no_keep_out (entry (records.region x)) h = refl
+no_keep_out (entry (records.group x)) h = refl
+no_keep_out (entry (records.blockage x)) h = absurd (cc)
+no_keep_out (entry (records.net x)) h = refl
+no_keep_out (entry (records.special_net x)) h = refl
+no_keep_out (entry (records.via x)) h = refl
+no_keep_out (entry (records.rule x)) h = refl
+no_keep_out (entry (records.skipped s x)) h = refl
+no_keep_out (in_properties p) h = refl
+no_keep_out (end_section s) h = refl
+
+module _ (library : Library) (design : List Record) where
+  abbrev floor : List Record
+  floor = filter is_floor design
+
+  same_scale : scale floor ≡ scale design
+  same_scale = ap (λ ns. units_or_1 (first ns)) (selected_of_those is_floor units_of no_units design)
+
+  same_rows : placed_rows library floor ≡ placed_rows library design
+  same_rows = ap₂ (λ u rs. map (placed_row library u) rs) same_scale (selected_of_those is_floor row_of no_row design)
+
+  same_die : die floor ≡ die design
+  same_die = ap first (selected_of_those is_floor die_of no_die design)
+
+  pub floor_tells : TellsSurroundings library design
+  floor_tells = record {
+    surroundings = rw (same_rows, same_die, selected_of_those is_floor fence_of no_fence design, selected_of_those is_floor assignment_of no_assignment design) refl;
+    keep_outs = listed_of_those is_floor keep_out_of no_keep_out design;
+    scale = same_scale;
+  }
+
+pub floor_tells_surroundings : FloorTellsSurroundings
+floor_tells_surroundings library design = floor_tells library design
+
+-- what is selected of things in another order
+module _ {A B : Type 0} (select : A → Option B) where
+  abbrev weight : (B → ℕ) → Option B → ℕ
+  weight w None = 0
+  weight w (Some b) = w b
+
+  one_more : (w : B → ℕ) (b : Option B) (bs : List B) → sum_by w (cons_option b bs) ≡ weight w b + sum_by w bs
+  one_more w None bs = omega arith
+  one_more w (Some b) bs = sum_by-cons w b bs
+
+  sum_of_selected : (w : B → ℕ) (xs : List A) → sum_by w (filter_map select xs) ≡ sum_by (λ a. weight w (select a)) xs
+  sum_of_selected w [] = refl
+  sum_of_selected w (a ∷ xs) =
+      let later = sum_of_selected w xs in
+      omega (arith, later, one_more w (select a) (filter_map select xs), sum_by-cons (λ a. weight w (select a)) a xs)
+
+  selected_parts : (all some rest : List A) → SameThings all (some ++ rest) → SameThings (filter_map select all) (filter_map select some ++ filter_map select rest)
+  selected_parts all some rest same = record {
+    sums = λ w.
+        let v = λ (a : A). weight w (select a) in
+        sum_of_selected w all ∙ same.sums v ∙ sym (sum_of_selected w (some ++ rest)) ∙ ap (sum_by w) (filter_map-append select some rest);
+  }
+
+module _ (component_lines_follow : ComponentLinesFollow) (library : Library) (old new out put stay : List Record) (exchange : Exchange old new out put stay) (same : filter is_floor old ≡ filter is_floor new) where
+  scales : scale new ≡ scale old
+  scales = sym (same_scale library new) ∙ ap scale (sym same) ∙ same_scale library old
+
+  surroundings_stay : surroundings library new ≡ surroundings library old
+  surroundings_stay = sym (floor_tells library new).surroundings ∙ ap (surroundings library) (sym same) ∙ (floor_tells library old).surroundings
+
+  keep_outs_stay : keep_outs new ≡ keep_outs old
+  keep_outs_stay = sym (floor_tells library new).keep_outs ∙ ap keep_outs (sym same) ∙ (floor_tells library old).keep_outs
+
+  boxes_exchanged : Exchange (boxes library old) (boxes library new) (boxes_among library old out) (boxes_among library old put) (boxes_among library old stay)
+  boxes_exchanged = record {
+    old_is = selected_parts (box_of library (scale old)) old out stay exchange.old_is;
+    new_is = rw (ap (λ u. filter_map (box_of library u) new) scales) (selected_parts (box_of library (scale old)) new put stay exchange.new_is);
+  }
+
+  none_exchanged : (rs : List Rectangle) → Exchange rs rs [] [] rs
+  none_exchanged rs = record { old_is = record { sums = λ w. refl }; new_is = record { sums = λ w. refl } }
+
+  pub places_follow : PlacesFollow library old new out put stay
+  places_follow =
+      let follow = component_lines_follow (surroundings library old) (boxes library old) (boxes library new) (boxes_among library old out) (boxes_among library old put) (boxes_among library old stay)
+            (keep_outs old) (keep_outs old) [] [] (keep_outs old) boxes_exchanged (none_exchanged (keep_outs old)) in
+      record {
+        boxes = boxes_exchanged;
+        lines = rw (design_has_component_lines library old, design_has_component_lines library new, surroundings_stay, keep_outs_stay) follow;
+      }
+
+pub statements_leave_the_floor : ComponentLinesFollow → StatementsLeaveTheFloor
+statements_leave_the_floor follow library old new out put stay exchange same = places_follow follow library old new out put stay exchange same
