@@ -1,6 +1,6 @@
 //! Edits of the text of a design.
 
-ghost use Rattle.std.specs.Prelude.{◌≡◌, ◌+◌, ◌≤◌, ◌∷◌, [], Err, IfOk, IfSome, None, false, length, map};
+ghost use Rattle.std.specs.Prelude.{◌≡◌, ◌+◌, ◌≤◌, ◌∷◌, [], Err, IfOk, IfSome, None, OnErr, false, length, map};
 ghost use Rattle.design_model.specs.declared.fault.Fault as fault;
 ghost use Rattle.def_grammar.specs.Records.{read_def};
 ghost use Rattle.edit_rules.specs.Edits.{change_of, is_long};
@@ -11,9 +11,11 @@ ghost use Rattle.text_pieces.specs.Covering.{cover_of, cut_of};
 ghost use Rattle.text_pieces.specs.declared.prepared.PrepareError.TheVariants.{Memory as IsMemory};
 ghost use Rattle.def_splice.specs.SpliceViews.{cut_view};
 ghost use Rattle.design_text.specs.DesignTexts.{text_of};
+ghost use Rattle.design_text.specs.Exchanges.{IsExchange, records_in};
 ghost use Rattle.design_text.specs.FewReads.{ReadsFew, most_reads, new_in};
 ghost use Rattle.design_text.specs.Editing.{EditsText, IsRefused, KeepsTheRest, MakesCuts, MakesTwo, ReadsEdited, ReplacesIn};
 
+use crate::made::Made;
 use crate::replacing::replaced_text;
 use crate::text::DesignText;
 use cell_library::library::Library;
@@ -52,18 +54,20 @@ fn not_made(error: PrepareError) -> Result<Option<u64>, AllocError>
 }
 
 impl<A: Allocator + Copy> DesignText<A> {
-    /// Makes cuts as one change, and says how many statements were read for it; or leaves the text as it was. It is a fault where
+    /// Makes cuts as one change, and says how many statements were read for it and which went and came; or leaves the text as it was. It is a fault where
     /// the text with the cuts made doesn't read.
-    fn make(&mut self, alloc: A, cuts: &[TextCut<'_>]) -> Result<u64, PrepareError>
+    fn make(&mut self, alloc: A, cuts: &[TextCut<'_>]) -> Result<Made<A>, PrepareError>
         ensures makes { MakesCuts (text_of self.old) (map cut_of cuts.now) result (text_of self.new) }
-        ensures few { IfOk result (λ n. n ≤ new_in (text_of self.old) (cover_of (text_of self.old) (map cut_of cuts.now))) }
+        ensures few { IfOk result (λ made. made.reads ≤ new_in (text_of self.old) (cover_of (text_of self.old) (map cut_of cuts.now))) }
+        ensures exchanged { IfOk result (λ made. IfSome made.exchanged (IsExchange self.old self.new)) }
+        ensures same { OnErr result (records_in self.new ≡ records_in self.old) }
     {
         match self.prepare(alloc, cuts) {
             Ok(mut step) => {
                 let reads = step.reads();
                 self.commit(&mut step);
-                self.let_go(step);
-                Ok(reads)
+                let change = Some(step);
+                Ok(Made { reads, change })
             }
             Err(error) => {
                 self.let_go_unused();
@@ -83,6 +87,8 @@ impl<A: Allocator + Copy> DesignText<A> {
         requires { AreInOrder 0 (cut_of first ∷ cut_of last ∷ []) (length (text_of self.old)) }
         ensures makes { MakesTwo (text_of self.old) (cut_of first.entry) (cut_of last.entry) result (text_of self.new) }
         ensures few { IfOk result (λ made. IfSome made (λ n. n ≤ new_in (text_of self.old) (cut_of last.entry) + new_in (with_cuts (cut_of last.entry ∷ []) (text_of self.old)) (cut_of first.entry))) }
+        ensures same { IfOk result (λ made. made ≡ None → records_in self.new ≡ records_in self.old) }
+        ensures refused { OnErr result (records_in self.new ≡ records_in self.old) }
     {
         let mut later = match self.prepare(alloc, &[last]) {
             Ok(step) => step,
@@ -97,13 +103,13 @@ impl<A: Allocator + Copy> DesignText<A> {
             Ok(mut step) => {
                 let first_reads = step.reads();
                 self.commit(&mut step);
-                self.let_go(step);
-                self.let_go(later);
+                self.let_go_of(step);
+                self.let_go_of(later);
                 Ok(Some(last_reads.saturating_add(first_reads)))
             }
             Err(error) => {
                 self.commit(&mut later);
-                self.let_go(later);
+                self.let_go_of(later);
                 self.let_go_unused();
                 not_made(error)
             }
@@ -111,15 +117,23 @@ impl<A: Allocator + Copy> DesignText<A> {
     }
 
     /// Makes cuts that stand in order; two of them apart, if the text reads between.
-    fn make_apart(&mut self, alloc: A, cuts: &[TextCut<'_>]) -> Result<u64, PrepareError>
+    fn make_apart(&mut self, alloc: A, cuts: &[TextCut<'_>]) -> Result<Made<A>, PrepareError>
         requires { AreInOrder 0 (map cut_of cuts.now) (length (text_of self.old)) }
         ensures makes { MakesCuts (text_of self.old) (map cut_of cuts.now) result (text_of self.new) }
-        ensures few { IfOk result (λ n. n ≤ most_reads (text_of self.old) (map cut_of cuts.now)) }
+        ensures few { IfOk result (λ made. made.reads ≤ most_reads (text_of self.old) (map cut_of cuts.now)) }
+        ensures exchanged { IfOk result (λ made. IfSome made.exchanged (IsExchange self.old self.new)) }
+        ensures same { OnErr result (records_in self.new ≡ records_in self.old) }
     {
         match cuts {
-            [] => Ok(0),
+            [] => Ok(Made {
+                reads: 0,
+                change: None,
+            }),
             [first, last] => match self.make_two(alloc, *first, *last)? {
-                Some(reads) => Ok(reads),
+                Some(reads) => Ok(Made {
+                    reads,
+                    change: None,
+                }),
                 None => {
                     let made = self.make(alloc, cuts);
                     self.text_reads();
@@ -130,17 +144,20 @@ impl<A: Allocator + Copy> DesignText<A> {
         }
     }
 
-    /// Makes an edit, and says how many statements were read for the new text; or refuses it and leaves the text as it was.
+    /// Makes an edit, and says how many statements were read for the new text and which went and came; or refuses it and leaves the
+    /// text as it was.
     pub fn edit(
         &mut self,
         alloc: A,
         library: &Library<'_, A>,
         edit: &Edit<'_>,
-    ) -> Result<u64, EditRefusal>
+    ) -> Result<Made<A>, EditRefusal>
         ensures edits { EditsText library.now (text_of self.old) (change_of edit.now) result (text_of self.new) }
         ensures applied { IfOk result (λ _. ReadsEdited (text_of self.old) (change_of edit.now) (text_of self.new)) }
         ensures keeps { IfOk result (λ _. KeepsTheRest library.now (text_of self.old) (change_of edit.now) (text_of self.new)) }
-        ensures few { IfOk result (ReadsFew library.now (text_of self.old) (change_of edit.now)) }
+        ensures few { IfOk result (λ made. ReadsFew library.now (text_of self.old) (change_of edit.now) made.reads) }
+        ensures exchanged { IfOk result (λ made. IfSome made.exchanged (IsExchange self.old self.new)) }
+        ensures same { OnErr result (records_in self.new ≡ records_in self.old) }
     {
         edits_are_applied();
         edits_keep_the_rest();
@@ -148,7 +165,7 @@ impl<A: Allocator + Copy> DesignText<A> {
         let splices = looked_up_splices(alloc, library, self, edit)?;
         let cuts = text_cuts(alloc, splices.as_slice())?;
         match self.make_apart(alloc, &cuts) {
-            Ok(reads) => Ok(reads),
+            Ok(made) => Ok(made),
             // The cuts of an edit stand in order, and the text with them made reads: what is left is want of memory.
             Err(_) => Err(EditRefusal::Memory),
         }
@@ -172,17 +189,19 @@ impl<A: Allocator + Copy> DesignText<A> {
         }
     }
 
-    /// Puts bytes in the place of those from `lo` up to `hi`, and says how many statements were read for the new text; or refuses it
-    /// and leaves the text as it was.
+    /// Puts bytes in the place of those from `lo` up to `hi`, and says how many statements were read for the new text and which went and
+    /// came; or refuses it and leaves the text as it was.
     pub fn replace(
         &mut self,
         alloc: A,
         lo: usize,
         hi: usize,
         put: &[u8],
-    ) -> Result<u64, EditRefusal>
+    ) -> Result<Made<A>, EditRefusal>
         ensures replaces { ReplacesIn (text_of self.old) lo hi put.now result (text_of self.new) }
-        ensures few { IfOk result (λ n. n ≤ new_in (text_of self.old) (record { lo = lo; hi = hi; put = put.now })) }
+        ensures exchanged { IfOk result (λ made. IfSome made.exchanged (IsExchange self.old self.new)) }
+        ensures same { OnErr result (records_in self.new ≡ records_in self.old) }
+        ensures few { IfOk result (λ made. made.reads ≤ new_in (text_of self.old) (record { lo = lo; hi = hi; put = put.now })) }
     {
         if lo > hi || hi > self.pieces.len() {
             return Err(EditRefusal::Refused(EditCode::Range));
@@ -191,9 +210,9 @@ impl<A: Allocator + Copy> DesignText<A> {
             return Err(EditRefusal::Refused(EditCode::TooLong));
         }
         match self.make(alloc, &[TextCut { lo, hi, put }]) {
-            Ok(reads) => {
+            Ok(made) => {
                 self.text_reads();
-                Ok(reads)
+                Ok(made)
             }
             Err(PrepareError::Memory) => Err(EditRefusal::Memory),
             Err(PrepareError::Fault) => Err(self.refusal(alloc, lo, hi, put)),

@@ -1,6 +1,8 @@
 //! Changes of the text of a design: its pieces and its tables are changed together, or neither is.
 
 ghost use Rattle.std.specs.Prelude.{◌≡◌, ◌≤◌, ◌⊎◌, ℕ, List, IfErr, IfOk, OnOk, map};
+ghost use Rattle.design_model.specs.declared.identifier.StmtId.{StmtId as Number};
+ghost use Rattle.def_grammar.specs.Records.{Record};
 ghost use Rattle.text_pieces.specs.Changes.{IsBetween};
 ghost use Rattle.text_pieces.specs.Content as content;
 ghost use Rattle.text_pieces.specs.Covering.{cover_of, cut_of};
@@ -12,6 +14,7 @@ ghost use Rattle.design_tables.specs.Prepared as prepared;
 ghost use Rattle.design_tables.specs.Prepared.{AreKeyed};
 ghost use Rattle.design_tables.specs.TableViews.{numbered_view};
 ghost use Rattle.design_text.specs.DesignTexts.{text_of};
+ghost use Rattle.design_text.specs.Exchanges.{IsExchange, LeadsToRecords, exchanged_by, records_in};
 ghost use Rattle.design_text.specs.FewReads.{new_in};
 ghost use Rattle.design_text.specs.Steps.{Both, LeadsTo, PreparesCuts};
 
@@ -52,10 +55,24 @@ impl<A: Allocator + Copy> Step<A> {
     {
         self.text.reads()
     }
+
+    /// Of a change that was made, the numbers of the statements that went out, in their order.
+    pub(crate) fn went(&self) -> &[StmtId]
+        ensures { result.now ≡ self.now.text.put }
+    {
+        self.text.put()
+    }
+
+    /// And of those that came in for them.
+    pub(crate) fn came(&self) -> &[StmtId]
+        ensures { result.now ≡ self.now.text.out }
+    {
+        self.text.out()
+    }
 }
 
 /// The statements that are kept under some numbers, each read from its piece alone.
-fn numbered<'t, A: Allocator + Copy>(
+pub(crate) fn numbered<'t, A: Allocator + Copy>(
     alloc: A,
     pieces: &'t TextPieces<A>,
     ids: &[StmtId],
@@ -109,8 +126,10 @@ impl<A: Allocator + Copy> DesignText<A> {
     ) -> Result<Step<A>, PrepareError>
         ensures prepares { PreparesCuts (text_of self.old) (map cut_of cuts.now) result self.new }
         ensures still { text_of self.new ≡ text_of self.old }
+        ensures records { records_in self.new ≡ records_in self.old }
         ensures few { IfOk result (λ s. s.text.reads ≤ new_in (text_of self.old) (cover_of (text_of self.old) (map cut_of cuts.now))) }
         ensures lasts { (change : Both) (text : List ℕ) → LeadsTo self.old change text → LeadsTo self.new change text }
+        ensures lasts_too { (change : Both) (records : List (Number × Record)) → LeadsToRecords self.old change records → LeadsToRecords self.new change records }
     {
         records_are_read::<Statement<'_>>();
         keys_are_apart();
@@ -137,6 +156,9 @@ impl<A: Allocator + Copy> DesignText<A> {
         requires { (new : List ℕ) × LeadsTo self.old step.old new }
         ensures made { (new : List ℕ) → LeadsTo self.old step.old new → text_of self.new ≡ new }
         ensures back { LeadsTo self.new step.new (text_of self.old) }
+        ensures made_too { (records : List (Number × Record)) → LeadsToRecords self.old step.old records → records_in self.new ≡ records }
+        ensures back_too { LeadsToRecords self.new step.new (records_in self.old) }
+        ensures exchanged { IsExchange self.old self.new (exchanged_by step.new) }
     {
         records_are_read::<Statement<'_>>();
         contents_stand_still();
@@ -144,11 +166,13 @@ impl<A: Allocator + Copy> DesignText<A> {
         self.text_reads();
         self.pieces.commit(&mut step.text);
         self.tables.commit(&mut step.tables);
+        self.pieces.statements_are_parted(&step.text);
     }
 
     /// Lets go of a change, with what is kept for it alone. Where other changes lead isn't known from then on.
-    pub(crate) fn let_go(&mut self, step: Step<A>)
-        ensures { text_of self.new ≡ text_of self.old }
+    pub(crate) fn let_go_of(&mut self, step: Step<A>)
+        ensures text { text_of self.new ≡ text_of self.old }
+        ensures records { records_in self.new ≡ records_in self.old }
     {
         records_are_read::<Statement<'_>>();
         self.text_reads();
@@ -159,7 +183,8 @@ impl<A: Allocator + Copy> DesignText<A> {
 
     /// Lets go of what is kept for a change that wasn't prepared to its end.
     pub(crate) fn let_go_unused(&mut self)
-        ensures { text_of self.new ≡ text_of self.old }
+        ensures text { text_of self.new ≡ text_of self.old }
+        ensures records { records_in self.new ≡ records_in self.old }
     {
         records_are_read::<Statement<'_>>();
         self.text_reads();

@@ -1,5 +1,5 @@
 mod EditedNets
-mod FloorStatements
+mod ComponentExchanges
 mod MappedLists
 mod MovedComponents
 mod NetEdits

@@ -4,6 +4,7 @@ use Rattle.std.specs.List.{filter_map}
 use Rattle.design_model.specs.Geometry.{Rectangle}
 use Rattle.def_grammar.specs.Records as records
 use Rattle.def_grammar.specs.Records.{Record, entry, top}
+use Rattle.def_grammar.specs.Top.{floor, units}
 use Rattle.lef_grammar.specs.Library.{Library}
 use Rattle.design_rules.specs.Boxes.{Boxed, box_of, boxes, scale}
 use Rattle.design_rules.specs.Surroundings.{keep_outs, surroundings}
@@ -11,26 +12,27 @@ use Rattle.following_laws.specs.DesignLaws.{lines_of_components}
 use Rattle.following_laws.specs.Following.{Exchange, LinesFollow}
 use Rattle.staying_laws.specs.Staying.{lines_on_places}
 
--- a statement of what components stand in: rows, the die, regions and groups; of what keeps them out; or of what all is measured by
-abbrev pub is_floor : Record → Bool
-is_floor (top t) = true
-is_floor (entry (records.region r)) = true
-is_floor (entry (records.group g)) = true
-is_floor (entry (records.blockage b)) = true
-is_floor _ = false
+-- a statement of what stands round components: rows and the die, regions, groups and blockages; or of what all is measured by
+abbrev pub is_surrounding : Record → Bool
+is_surrounding (top (units n)) = true
+is_surrounding (top (floor f)) = true
+is_surrounding (entry (records.region r)) = true
+is_surrounding (entry (records.group g)) = true
+is_surrounding (entry (records.blockage b)) = true
+is_surrounding _ = false
 
 -- the components among statements that take part, measured as in a design
 abbrev pub boxes_among : Library → List Record → List Record → List Boxed
 boxes_among library design statements = filter_map (box_of library (scale design)) statements
 
--- What components stand in is told by those statements alone.
+-- What stands round components is told by those statements alone.
 pub record TellsSurroundings (library : Library) (design : List Record) : Type 0 where
-  pub surroundings : surroundings library (filter is_floor design) ≡ surroundings library design
-  pub keep_outs : keep_outs (filter is_floor design) ≡ keep_outs design
-  pub scale : scale (filter is_floor design) ≡ scale design
+  pub surroundings : surroundings library (filter is_surrounding design) ≡ surroundings library design
+  pub keep_outs : keep_outs (filter is_surrounding design) ≡ keep_outs design
+  pub scale : scale (filter is_surrounding design) ≡ scale design
 
-abbrev pub FloorTellsSurroundings : Type 0
-FloorTellsSurroundings = (library : Library) (design : List Record) → TellsSurroundings library design
+abbrev pub SurroundingsAreTold : Type 0
+SurroundingsAreTold = (library : Library) (design : List Record) → TellsSurroundings library design
 
 -- The lines on components follow an exchange of statements that leaves those: by those on the components that go out, with one another and
 -- with the rest, and by those on the components that come in.
@@ -40,6 +42,6 @@ pub record PlacesFollow (library : Library) (old new out put stay : List Record)
     (lines_of_components (surroundings library old) (boxes_among library old out) (boxes_among library old stay) (keep_outs old) [])
     (lines_of_components (surroundings library old) (boxes_among library old put) (boxes_among library old stay) (keep_outs old) [])
 
-abbrev pub StatementsLeaveTheFloor : Type 0
-StatementsLeaveTheFloor = (library : Library) (old new out put stay : List Record) → Exchange old new out put stay → filter is_floor old ≡ filter is_floor new
+abbrev pub ComponentsAreExchanged : Type 0
+ComponentsAreExchanged = (library : Library) (old new out put stay : List Record) → Exchange old new out put stay → filter is_surrounding old ≡ filter is_surrounding new
     → PlacesFollow library old new out put stay

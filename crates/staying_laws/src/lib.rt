@@ -3,11 +3,12 @@
 //! Each law is an empty function that ensures it; call it to use it. A report has the lines on headers, single statements and the
 //! library (`lines_on_statements` of `specs/Staying`), those on components (`lines_on_places`), and those on nets. An edit of a net
 //! leaves the second part, an edit that places or unplaces a component the first, line by line in the same order. Of the first part an
-//! edit of a net exchanges the lines on the net's entries, and no others (`specs/NetStatements`).
+//! edit of a net exchanges the lines on the net's entries, and no others (`specs/NetStatements`). The second part follows any exchange
+//! of statements that leaves those of what stands round components (`specs/PlaceStatements`).
 #![tactic(auto)]
 
 ghost use Rattle.staying_laws.specs.NetStatements.{NetEditsFollow};
-ghost use Rattle.staying_laws.specs.PlaceStatements.{FloorTellsSurroundings, StatementsLeaveTheFloor};
+ghost use Rattle.staying_laws.specs.PlaceStatements.{SurroundingsAreTold, ComponentsAreExchanged};
 ghost use Rattle.staying_laws.specs.Staying.{NetEditsKeepPlaces, PartsAreAll, PlacingKeepsStatements, UnplacingKeepsStatements};
 
 use agreement_laws::{same_outline_same_counts, same_shown_same_lines};
@@ -45,14 +46,14 @@ pub fn unplacing_keeps_statements()
     same_outline_same_counts();
 }
 
-/// What components stand in is told by the statements of the floor alone: rows, the die, regions, groups, blockages and UNITS.
-pub fn floor_tells_surroundings()
-    ensures { FloorTellsSurroundings }
+/// What stands round components is told by some statements alone: rows, the die, regions, groups, blockages and UNITS.
+pub fn surroundings_are_told()
+    ensures { SurroundingsAreTold }
 {}
 
-/// Where the floor stays, the lines on components follow an exchange of statements by those on the components among them.
-pub fn statements_leave_the_floor()
-    ensures { StatementsLeaveTheFloor }
+/// Where those statements stay, the lines on components follow an exchange of others by the lines on the components among them.
+pub fn components_are_exchanged()
+    ensures { ComponentsAreExchanged }
 {
     component_lines_follow();
 }

@@ -7,6 +7,7 @@ use Rattle.design_model.specs.Geometry.{Rectangle}
 use Rattle.form_meanings.specs.Words.{first}
 use Rattle.def_grammar.specs.Records as records
 use Rattle.def_grammar.specs.Records.{Record, end_section, entry, in_properties, top, units_of}
+use Rattle.def_grammar.specs.Top.{end_design, extension, floor, header, kept, properties, units}
 use Rattle.lef_grammar.specs.Library.{Library}
 use Rattle.design_rules.specs.Boxes.{Boxed, box_of, boxes, scale, units_or_1}
 use Rattle.design_rules.specs.Surroundings.{assignment_of, assignments, die, die_of, fence_of, fences, keep_out_of, keep_outs, placed_row, placed_rows, row_of, surroundings}
@@ -14,48 +15,66 @@ use Rattle.line_laws.specs.Lines.{SameThings}
 use Rattle.line_laws.proofs.OneOfAll.{design_has_component_lines}
 use Rattle.following_laws.specs.DesignLaws.{ComponentLinesFollow}
 use Rattle.following_laws.specs.Following.{Exchange, LinesFollow}
-use Rattle.staying_laws.specs.PlaceStatements.{FloorTellsSurroundings, PlacesFollow, StatementsLeaveTheFloor, TellsSurroundings, boxes_among, is_floor}
+use Rattle.staying_laws.specs.PlaceStatements.{SurroundingsAreTold, PlacesFollow, ComponentsAreExchanged, TellsSurroundings, boxes_among, is_surrounding}
 
 -- what is selected of statements of which some say nothing
 module _ {A B : Type 0} (says : A → Bool) (select : A → Option B) where
-  kept_or_not : (b : Bool) (a : A) (kept all : List A) → (b ≡ false → select a ≡ None) → filter_map select kept ≡ filter_map select all
-      → filter_map select (if b then a ∷ kept else kept) ≡ filter_map select (a ∷ all)
-  kept_or_not true a kept all none later = ap (cons_option (select a)) later
-  kept_or_not false a kept all none later = later ∙ ap (λ (b : Option B). cons_option b (filter_map select all)) (sym (none refl))
+  kept_or_not : (b : Bool) (a : A) (left all : List A) → (b ≡ false → select a ≡ None) → filter_map select left ≡ filter_map select all
+      → filter_map select (if b then a ∷ left else left) ≡ filter_map select (a ∷ all)
+  kept_or_not true a left all none later = ap (cons_option (select a)) later
+  kept_or_not false a left all none later = later ∙ ap (λ (b : Option B). cons_option b (filter_map select all)) (sym (none refl))
 
   pub selected_of_those : ((a : A) → says a ≡ false → select a ≡ None) → (all : List A) → filter_map select (filter says all) ≡ filter_map select all
   selected_of_those none [] = refl
   selected_of_those none (a ∷ all) = kept_or_not (says a) a (filter says all) all (none a) (selected_of_those none all)
 
 module _ {A B : Type 0} (says : A → Bool) (parts : A → List B) where
-  listed_or_not : (b : Bool) (a : A) (kept all : List A) → (b ≡ false → parts a ≡ []) → flat_map parts kept ≡ flat_map parts all
-      → flat_map parts (if b then a ∷ kept else kept) ≡ flat_map parts (a ∷ all)
-  listed_or_not true a kept all none later = ap (λ bs. parts a ++ bs) later
-  listed_or_not false a kept all none later = later ∙ ap (λ bs. bs ++ flat_map parts all) (sym (none refl))
+  listed_or_not : (b : Bool) (a : A) (left all : List A) → (b ≡ false → parts a ≡ []) → flat_map parts left ≡ flat_map parts all
+      → flat_map parts (if b then a ∷ left else left) ≡ flat_map parts (a ∷ all)
+  listed_or_not true a left all none later = ap (λ bs. parts a ++ bs) later
+  listed_or_not false a left all none later = later ∙ ap (λ bs. bs ++ flat_map parts all) (sym (none refl))
 
   pub listed_of_those : ((a : A) → says a ≡ false → parts a ≡ []) → (all : List A) → flat_map parts (filter says all) ≡ flat_map parts all
   listed_of_those none [] = refl
   listed_of_those none (a ∷ all) = listed_or_not (says a) a (filter says all) all (none a) (listed_of_those none all)
 
-no_units : (r : Record) → is_floor r ≡ false → units_of r ≡ None
-no_units (top t) h = absurd (cc)
+no_units : (r : Record) → is_surrounding r ≡ false → units_of r ≡ None
+no_units (top (units n)) h = absurd (cc)
+no_units (top end_design) h = refl
+no_units (top properties) h = refl
+no_units (top (extension ws)) h = refl
+no_units (top (floor f)) h = absurd (cc)
+no_units (top (header s n)) h = refl
+no_units (top (kept w ws)) h = refl
 no_units (entry e) h = refl
 no_units (in_properties p) h = refl
 no_units (end_section s) h = refl
 
-no_row : (r : Record) → is_floor r ≡ false → row_of r ≡ None
-no_row (top t) h = absurd (cc)
+no_row : (r : Record) → is_surrounding r ≡ false → row_of r ≡ None
+no_row (top (units n)) h = absurd (cc)
+no_row (top end_design) h = refl
+no_row (top properties) h = refl
+no_row (top (extension ws)) h = refl
+no_row (top (floor f)) h = absurd (cc)
+no_row (top (header s n)) h = refl
+no_row (top (kept w ws)) h = refl
 no_row (entry e) h = refl
 no_row (in_properties p) h = refl
 no_row (end_section s) h = refl
 
-no_die : (r : Record) → is_floor r ≡ false → die_of r ≡ None
-no_die (top t) h = absurd (cc)
+no_die : (r : Record) → is_surrounding r ≡ false → die_of r ≡ None
+no_die (top (units n)) h = absurd (cc)
+no_die (top end_design) h = refl
+no_die (top properties) h = refl
+no_die (top (extension ws)) h = refl
+no_die (top (floor f)) h = absurd (cc)
+no_die (top (header s n)) h = refl
+no_die (top (kept w ws)) h = refl
 no_die (entry e) h = refl
 no_die (in_properties p) h = refl
 no_die (end_section s) h = refl
 
-no_fence : (r : Record) → is_floor r ≡ false → fence_of r ≡ None
+no_fence : (r : Record) → is_surrounding r ≡ false → fence_of r ≡ None
 no_fence (top t) h = refl
 no_fence (entry (records.component x)) h = refl
 no_fence (entry (records.pin x)) h = refl
@@ -70,7 +89,7 @@ no_fence (entry (records.skipped s x)) h = refl
 no_fence (in_properties p) h = refl
 no_fence (end_section s) h = refl
 
-no_assignment : (r : Record) → is_floor r ≡ false → assignment_of r ≡ None
+no_assignment : (r : Record) → is_surrounding r ≡ false → assignment_of r ≡ None
 no_assignment (top t) h = refl
 no_assignment (entry (records.component x)) h = refl
 no_assignment (entry (records.pin x)) h = refl
@@ -85,7 +104,7 @@ no_assignment (entry (records.skipped s x)) h = refl
 no_assignment (in_properties p) h = refl
 no_assignment (end_section s) h = refl
 
-no_keep_out : (r : Record) → is_floor r ≡ false → keep_out_of r ≡ []
+no_keep_out : (r : Record) → is_surrounding r ≡ false → keep_out_of r ≡ []
 no_keep_out (top t) h = refl
 no_keep_out (entry (records.component x)) h = refl
 no_keep_out (entry (records.pin x)) h = refl
@@ -101,27 +120,27 @@ no_keep_out (in_properties p) h = refl
 no_keep_out (end_section s) h = refl
 
 module _ (library : Library) (design : List Record) where
-  abbrev floor : List Record
-  floor = filter is_floor design
+  abbrev around : List Record
+  around = filter is_surrounding design
 
-  same_scale : scale floor ≡ scale design
-  same_scale = ap (λ ns. units_or_1 (first ns)) (selected_of_those is_floor units_of no_units design)
+  same_scale : scale around ≡ scale design
+  same_scale = ap (λ ns. units_or_1 (first ns)) (selected_of_those is_surrounding units_of no_units design)
 
-  same_rows : placed_rows library floor ≡ placed_rows library design
-  same_rows = ap₂ (λ u rs. map (placed_row library u) rs) same_scale (selected_of_those is_floor row_of no_row design)
+  same_rows : placed_rows library around ≡ placed_rows library design
+  same_rows = ap₂ (λ u rs. map (placed_row library u) rs) same_scale (selected_of_those is_surrounding row_of no_row design)
 
-  same_die : die floor ≡ die design
-  same_die = ap first (selected_of_those is_floor die_of no_die design)
+  same_die : die around ≡ die design
+  same_die = ap first (selected_of_those is_surrounding die_of no_die design)
 
-  pub floor_tells : TellsSurroundings library design
-  floor_tells = record {
-    surroundings = rw (same_rows, same_die, selected_of_those is_floor fence_of no_fence design, selected_of_those is_floor assignment_of no_assignment design) refl;
-    keep_outs = listed_of_those is_floor keep_out_of no_keep_out design;
+  pub told : TellsSurroundings library design
+  told = record {
+    surroundings = rw (same_rows, same_die, selected_of_those is_surrounding fence_of no_fence design, selected_of_those is_surrounding assignment_of no_assignment design) refl;
+    keep_outs = listed_of_those is_surrounding keep_out_of no_keep_out design;
     scale = same_scale;
   }
 
-pub floor_tells_surroundings : FloorTellsSurroundings
-floor_tells_surroundings library design = floor_tells library design
+pub surroundings_are_told : SurroundingsAreTold
+surroundings_are_told library design = told library design
 
 -- what is selected of things in another order
 module _ {A B : Type 0} (select : A → Option B) where
@@ -146,15 +165,15 @@ module _ {A B : Type 0} (select : A → Option B) where
         sum_of_selected w all ∙ same.sums v ∙ sym (sum_of_selected w (some ++ rest)) ∙ ap (sum_by w) (filter_map-append select some rest);
   }
 
-module _ (component_lines_follow : ComponentLinesFollow) (library : Library) (old new out put stay : List Record) (exchange : Exchange old new out put stay) (same : filter is_floor old ≡ filter is_floor new) where
+module _ (component_lines_follow : ComponentLinesFollow) (library : Library) (old new out put stay : List Record) (exchange : Exchange old new out put stay) (same : filter is_surrounding old ≡ filter is_surrounding new) where
   scales : scale new ≡ scale old
   scales = sym (same_scale library new) ∙ ap scale (sym same) ∙ same_scale library old
 
   surroundings_stay : surroundings library new ≡ surroundings library old
-  surroundings_stay = sym (floor_tells library new).surroundings ∙ ap (surroundings library) (sym same) ∙ (floor_tells library old).surroundings
+  surroundings_stay = sym (told library new).surroundings ∙ ap (surroundings library) (sym same) ∙ (told library old).surroundings
 
   keep_outs_stay : keep_outs new ≡ keep_outs old
-  keep_outs_stay = sym (floor_tells library new).keep_outs ∙ ap keep_outs (sym same) ∙ (floor_tells library old).keep_outs
+  keep_outs_stay = sym (told library new).keep_outs ∙ ap keep_outs (sym same) ∙ (told library old).keep_outs
 
   boxes_exchanged : Exchange (boxes library old) (boxes library new) (boxes_among library old out) (boxes_among library old put) (boxes_among library old stay)
   boxes_exchanged = record {
@@ -174,5 +193,5 @@ module _ (component_lines_follow : ComponentLinesFollow) (library : Library) (ol
         lines = rw (design_has_component_lines library old, design_has_component_lines library new, surroundings_stay, keep_outs_stay) follow;
       }
 
-pub statements_leave_the_floor : ComponentLinesFollow → StatementsLeaveTheFloor
-statements_leave_the_floor follow library old new out put stay exchange same = places_follow follow library old new out put stay exchange same
+pub components_are_exchanged : ComponentLinesFollow → ComponentsAreExchanged
+components_are_exchanged follow library old new out put stay exchange same = places_follow follow library old new out put stay exchange same
