@@ -1,17 +1,14 @@
 //! Edits of the text of a design that were made.
 
-ghost use Rattle.std.specs.Prelude.{◌≡◌, IfOk, map};
+ghost use Rattle.std.specs.Prelude.{◌≡◌};
 ghost use Rattle.std.specs.Option.{option_map};
-ghost use Rattle.text_pieces.specs.KeptRecords.{AreKept, HavePieces, records_under};
-ghost use Rattle.design_tables.specs.TableViews.{numbered_view};
 ghost use Rattle.design_text.specs.DesignTexts.{text_of};
 ghost use Rattle.design_text.specs.Exchanges.{exchange_view, records_in};
 
-use crate::step::{Step, numbered};
+use crate::step::Step;
 use crate::text::DesignText;
 use design_model::identifier::StmtId;
-use design_tables::Numbered;
-use std::alloc::{AllocError, Allocator, Global};
+use std::alloc::{Allocator, Global};
 use std::marker::Model;
 
 /// The numbers of the statements that went out of a text by an edit, and of those that came in for them, each in their order.
@@ -69,22 +66,5 @@ impl<A: Allocator + Copy> DesignText<A> {
         if let Some(step) = made.change {
             self.let_go_of(step);
         }
-    }
-
-    /// A law: the statements of the text are kept under their numbers.
-    pub fn statements_are_kept(&self)
-        ensures { AreKept self.now.pieces }
-    {
-        self.pieces.statements_are_kept();
-        let _ = &self.tables;
-    }
-
-    /// The statements that are kept under some numbers, each read from its piece alone: those of the text, and those that went out by
-    /// an edit that wasn't let go of.
-    pub fn kept(&self, alloc: A, ids: &[StmtId]) -> Result<Vec<Numbered<'_>, A>, AllocError>
-        requires { HavePieces self.now.pieces.table.slots ids.now }
-        ensures { IfOk result (λ v. map numbered_view v.items ≡ records_under self.entry.now.pieces.table.slots ids.now) }
-    {
-        numbered(alloc, &self.pieces, ids)
     }
 }

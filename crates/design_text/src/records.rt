@@ -3,14 +3,18 @@
 ghost use Rattle.std.specs.Prelude.{◌≡◌, IfOk, Ok, map};
 ghost use Rattle.def_grammar.specs.Records.{read_def};
 ghost use Rattle.def_reader.specs.StatementViews.{record_view};
-ghost use Rattle.text_pieces.specs.KeptRecords.{HavePieces, record_of};
+ghost use Rattle.text_pieces.specs.KeptRecords.{AreKept, HavePieces, record_of, records_under};
 ghost use Rattle.text_pieces.specs.Tables.{kept_at};
-ghost use Rattle.design_text.specs.DesignTexts.{text_of};
+ghost use Rattle.design_tables.specs.TableViews.{numbered_view};
+ghost use Rattle.design_text.specs.DesignTexts.{design_of, text_of};
+ghost use Rattle.design_text.specs.Exchanges.{records_in};
 
 use crate::statements::kept_statement;
+use crate::step::numbered;
 use crate::text::DesignText;
 use def_reader::statement::Statement;
 use design_model::identifier::StmtId;
+use design_tables::Numbered;
 use std::alloc::{AllocError, Allocator};
 use text_pieces::text::TextPieces;
 
@@ -40,5 +44,49 @@ impl<A: Allocator + Copy> DesignText<A> {
         self.pieces.statements_are_kept();
         let ids = self.pieces.numbers(alloc)?;
         statements_under(alloc, &self.pieces, &ids)
+    }
+
+    /// All statements with their numbers, in the order of the text.
+    pub fn numbered_statements(&self, alloc: A) -> Result<Vec<Numbered<'_>, A>, AllocError>
+        ensures { IfOk result (λ v. map numbered_view v.items ≡ records_in self.entry.now) }
+    {
+        let _ = &self.tables;
+        self.pieces.statements_are_kept();
+        let ids = self.pieces.numbers(alloc)?;
+        numbered(alloc, &self.pieces, &ids)
+    }
+
+    /// A law: the statements of the text are kept under their numbers, and say what the text reads as.
+    pub fn statements_are_kept(&self)
+        ensures kept { AreKept self.now.pieces }
+        ensures said { map (λ x. x.1) (records_in self.now) ≡ design_of self.now }
+    {
+        self.text_reads();
+        self.statements_are_known();
+        self.pieces.statements_are_numbered();
+        self.pieces.statements_are_kept();
+    }
+
+    /// The statements that are kept under some numbers, each read from its piece alone: those of the text, and those that went out by
+    /// an edit that wasn't let go of.
+    pub fn kept(&self, alloc: A, ids: &[StmtId]) -> Result<Vec<Statement<'_>, A>, AllocError>
+        requires { HavePieces self.now.pieces.table.slots ids.now }
+        ensures { IfOk result (λ v. map record_view v.items ≡ map (λ id. record_of (kept_at self.entry.now.pieces.table.slots id)) ids.now) }
+    {
+        let _ = &self.tables;
+        statements_under(alloc, &self.pieces, ids)
+    }
+
+    /// The same with their numbers.
+    pub fn kept_numbered(
+        &self,
+        alloc: A,
+        ids: &[StmtId],
+    ) -> Result<Vec<Numbered<'_>, A>, AllocError>
+        requires { HavePieces self.now.pieces.table.slots ids.now }
+        ensures { IfOk result (λ v. map numbered_view v.items ≡ records_under self.entry.now.pieces.table.slots ids.now) }
+    {
+        let _ = &self.tables;
+        numbered(alloc, &self.pieces, ids)
     }
 }

@@ -1,6 +1,6 @@
 //! Lines in the order of their bytes, which others take the place of.
 
-ghost use Rattle.std.specs.Prelude.{◌≡◌, ◌+◌, ◌++◌, ◌∷◌, [], ◌≤◌, ◌<◌, IfOk, List, OnErr, OnOk, length, ℕ};
+ghost use Rattle.std.specs.Prelude.{◌≡◌, ◌+◌, ◌++◌, ◌∷◌, [], ◌≤◌, ◌<◌, IfOk, List, OnErr, OnOk, false, length, true, ℕ};
 ghost use Rattle.std.specs.List.{prefix_len};
 ghost use Rattle.design_model.specs.Lines.{IsOfItsKind};
 ghost use Rattle.design_model.specs.Order.{put_in_order, sorted_by_bytes, texts};
@@ -148,20 +148,32 @@ impl<A: Allocator + Copy> KeptLines<A> {
         }
     }
 
-    /// Takes lines out, each as often as it stands in `out`, and puts others in, each in its place. Where there is neither room for
-    /// these nor memory to make some, no line changes.
-    pub fn exchange(&mut self, out: Lines<A>, put: Lines<A>) -> Result<(), AllocError>
+    /// Takes lines out, each as often as it stands in `out`, and puts others in, each in its place, and says so; or leaves all lines as
+    /// they are where that would move more than so many. Where there is neither room for those that come nor memory to make some, no
+    /// line changes either.
+    pub fn exchange(
+        &mut self,
+        out: Lines<A>,
+        put: Lines<A>,
+        most_moved: usize,
+    ) -> Result<bool, AllocError>
         requires { (q : List ℕ) → times q out ≤ times q self.old.lines }
-        ensures follow { OnOk result (LinesFollow self.old.lines self.new.lines out put) }
-        ensures in_order { OnOk result (sorted_by_bytes self.new.lines ≡ self.new.lines) }
+        ensures follow { IfOk result (λ made. made ≡ true → LinesFollow self.old.lines self.new.lines out put) }
+        ensures in_order { IfOk result (λ made. made ≡ true → sorted_by_bytes self.new.lines ≡ self.new.lines) }
+        ensures same { IfOk result (λ made. made ≡ false → self.new.lines ≡ self.old.lines) }
         ensures refused { OnErr result (self.new.lines ≡ self.old.lines) }
     {
         let out = out.into_sorted();
         let mut put = put.into_sorted().into_vec();
+        let changed = out.len().saturating_add(put.len());
+        if changed.saturating_mul(self.lines.len()) > most_moved {
+            let _ = &self.lines;
+            return Ok(false);
+        }
         self.reserve(put.len())?;
         self.take_all(out.as_slice());
         self.put_all(&mut put);
         let _ = &self.lines;
-        Ok(())
+        Ok(true)
     }
 }

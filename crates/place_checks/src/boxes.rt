@@ -1,6 +1,7 @@
 //! The boxes of the components that take part in the place checks.
 
 ghost use Rattle.std.specs.Prelude.{◌≡◌, ◌≤◌, ◌<◌, IfOk, map, nat_abs};
+ghost use Rattle.std.specs.List.{filter_map};
 ghost use Rattle.std.specs.Option.{option_map};
 ghost use Rattle.design_model.specs.Geometry.{IsNearRectangle};
 ghost use Rattle.design_model.specs.Views.{rectangle_of};
@@ -115,8 +116,8 @@ fn component_box<'t, A: Allocator + Copy>(
     }
 }
 
-/// The box of a statement that is a component that takes part.
-fn box_of<'t, A: Allocator + Copy>(
+/// The box of a statement that is a component that takes part, by the scale of its design.
+pub fn box_of<'t, A: Allocator + Copy>(
     library: &'t Library<'_, A>,
     scale: u32,
     statement: &Statement<'t>,
@@ -131,6 +132,27 @@ fn box_of<'t, A: Allocator + Copy>(
     }
 }
 
+/// The boxes of the components among statements that take part, in their order, by the scale of their design.
+pub fn boxes_among<'t, A: Allocator + Copy>(
+    alloc: A,
+    library: &'t Library<'_, A>,
+    scale: u32,
+    records: &[Statement<'t>],
+) -> Result<Vec<PlacedBox<'t>, A>, AllocError>
+    requires some { 0 < scale }
+    requires few { scale ≤ 100000 }
+    ensures { IfOk result (λ v. map boxed_view v.items ≡ filter_map (box_of library.now scale) (records_view records.now)) }
+{
+    let mut boxes = Vec::with_capacity(alloc, records.len())?;
+    for statement in records {
+        let Some(placed) = box_of(library, scale, statement) else {
+            continue;
+        };
+        boxes.push(placed)?;
+    }
+    Ok(boxes)
+}
+
 /// The boxes of all components that take part, in the order of the text.
 pub fn boxes_of<'t, A: Allocator + Copy>(
     alloc: A,
@@ -141,13 +163,5 @@ pub fn boxes_of<'t, A: Allocator + Copy>(
     requires few { scale (records_view records.now) ≤ 100000 }
     ensures { IfOk result (λ v. map boxed_view v.items ≡ boxes library.now (records_view records.now)) }
 {
-    let scale = scale_of(records);
-    let mut boxes = Vec::with_capacity(alloc, records.len())?;
-    for statement in records {
-        let Some(placed) = box_of(library, scale, statement) else {
-            continue;
-        };
-        boxes.push(placed)?;
-    }
-    Ok(boxes)
+    boxes_among(alloc, library, scale_of(records), records)
 }

@@ -7,7 +7,8 @@
 //! `rows` looks rows up by their lower edge (`row_index`), and `fences` the groups of a component by its name
 //! (`assignment_table`), passing over fences whose hull is apart from its box (`hull`). `count::counts_of` puts a line for each
 //! section whose header says another number. Who follows a change asks for the lines of one component in what
-//! `surroundings::surroundings_of` gives, or of one rectangle: `place_lines::lines_in` and the calls of `one`.
+//! `surroundings::surroundings_of` gives, or of one rectangle: `place_lines::lines_in` and the calls of `one`; `boxes::boxes_among` has the
+//! components among some of the statements.
 //! What they say is defined in `design_rules/specs`: `Boxes`, `Surroundings`, `OverlapLines`, `PlaceLines` and `CountLines`;
 //! `specs/Views`, `PlaceViews` and `IndexViews` say how components and surroundings are seen there. No text is read here:
 //! statements come from `def_reader`.
@@ -39,6 +40,6 @@ pub mod placed_row;
 pub mod regions;
 pub mod row_index;
 mod rows;
-mod scale;
+pub mod scale;
 pub mod surroundings;
 pub mod sweep;

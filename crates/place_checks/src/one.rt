@@ -1,8 +1,9 @@
 //! The lines of one thing among others, for who follows a change of a design.
 
-ghost use Rattle.std.specs.Prelude.{◌≡◌, flat_map, map, IfOk};
+ghost use Rattle.std.specs.Prelude.{◌≡◌, ◌++◌, flat_map, map, IfOk, OnOk};
 ghost use Rattle.design_model.specs.Views.{rectangle_of};
 ghost use Rattle.design_rules.specs.PlaceLines.{blocked_of, row_lines};
+ghost use Rattle.line_laws.specs.OneLaws.{own_lines};
 ghost use Rattle.place_checks.specs.IndexViews.{rows_view, surroundings_view};
 ghost use Rattle.place_checks.specs.OneLines.{OwnLinesAreParted, lines_but_rows};
 ghost use Rattle.place_checks.specs.Views.{boxed_view};
@@ -10,6 +11,7 @@ ghost use Rattle.place_checks.specs.Views.{boxed_view};
 use crate::blocked::{put_all_blocked, put_blocked_by};
 use crate::fences::put_at_borders;
 use crate::overlap::put_overlaps_with;
+use crate::place_lines::lines_in;
 use crate::placed_box::PlacedBox;
 use crate::row_index::RowIndex;
 use crate::rows::put_in_rows;
@@ -49,6 +51,24 @@ pub fn of_component<'t, A: Allocator + Copy>(
     put_at_borders(alloc, surroundings, component, &mut lines)?;
     put_blocked_by(component, keep_outs, &mut lines)?;
     Ok(Checked { lines, tests: 0 })
+}
+
+/// Puts all lines of a component behind others: with each of the other components, in its surroundings, and with each rectangle where
+/// placement is blocked.
+pub fn put_own_lines<'t, A: Allocator + Copy>(
+    alloc: A,
+    surroundings: &Surroundings<'t, A>,
+    component: &PlacedBox<'t>,
+    others: &[PlacedBox<'t>],
+    keep_outs: &[Rect],
+    lines: &mut Lines<A>,
+) -> Result<(), AllocError>
+    ensures { OnOk result (lines.new ≡ lines.old ++ own_lines (surroundings_view surroundings.now) (map rectangle_of keep_outs.now) (boxed_view component.now) (map boxed_view others.now)) }
+{
+    put_overlaps_with(component, others, lines)?;
+    lines_in(alloc, surroundings, component, lines)?;
+    put_blocked_by(component, keep_outs, lines)?;
+    Ok(())
 }
 
 /// The lines of a rectangle where placement is blocked, with each of the boxes that lies on it.

@@ -8,7 +8,7 @@ use def_parts::number::int_of;
 use def_reader::statement::Statement;
 
 /// Database units per micron: those of `UNITS`.
-pub(crate) fn scale_of(records: &[Statement<'_>]) -> u32
+pub fn scale_of(records: &[Statement<'_>]) -> u32
     ensures { result ≡ scale (records_view records.now) }
 {
     for statement in records {

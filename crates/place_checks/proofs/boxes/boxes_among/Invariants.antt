@@ -3,7 +3,7 @@ use Rattle.std.specs.List.{filter_map}
 use Rattle.design_rules.specs.Boxes.{box_of}
 use Rattle.def_reader.specs.StatementViews.{records_view}
 use Rattle.place_checks.specs.Views.{boxed_view}
-use Rattle.place_checks.proofs.boxes.boxes_of.Given as goal
+use Rattle.place_checks.proofs.boxes.boxes_among.Given as goal
 
 abbrev pub invariant-loop-statement : goal.invariant-loop-statement
 invariant-loop-statement g l =

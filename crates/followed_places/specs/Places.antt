@@ -1,0 +1,42 @@
+-- The components of a text that take part, under the numbers of their statements.
+use Rattle.std.specs.Prelude.{◌≡◌, ℕ, List, [], filter, map, Option}
+use Rattle.std.specs.List.{filter_map}
+use Rattle.std.specs.Option.{option_map}
+use Rattle.design_model.specs.declared.identifier.StmtId.{StmtId}
+use Rattle.design_model.specs.Geometry.{Rectangle}
+use Rattle.design_model.specs.Order.{sorted_by_bytes}
+use Rattle.def_grammar.specs.Records.{Record}
+use Rattle.lef_grammar.specs.Library.{Library}
+use Rattle.design_rules.specs.Boxes.{Boxed, box_of, scale}
+use Rattle.line_laws.specs.Lines.{SameThings}
+use Rattle.staying_laws.specs.PlaceStatements.{is_surrounding}
+use Rattle.staying_laws.specs.Staying.{lines_on_places}
+use Rattle.kept_lines.specs.Kept.{Kept}
+
+-- the boxes of components under the numbers of their statements, and the numbers of the statements of what stands round components
+pub record Places : Type 0 where
+  pub boxes : List (StmtId × Rectangle)
+  pub around : List StmtId
+
+-- what numbered statements say
+abbrev pub said : List (StmtId × Record) → List Record
+said records = map (λ x. x.1) records
+
+-- the components among them that take part
+abbrev pub component_under : Library → ℕ → StmtId × Record → Option (StmtId × Boxed)
+component_under library u x = option_map (λ b. (x.0, b)) (box_of library u x.1)
+
+abbrev pub components_under : Library → ℕ → List (StmtId × Record) → List (StmtId × Boxed)
+components_under library u records = filter_map (component_under library u) records
+
+abbrev pub place_under : StmtId × Boxed → StmtId × Rectangle
+place_under c = (c.0, c.1.box)
+
+-- places are those of a text's numbered statements
+pub record HasPlaces (library : Library) (records : List (StmtId × Record)) (p : Places) : Type 0 where
+  pub boxes_are : SameThings p.boxes (map place_under (components_under library (scale (said records)) records))
+  pub around_are : p.around ≡ map (λ x. x.0) (filter (λ x. is_surrounding x.1) records)
+
+-- kept lines are those on the components of a design, in the order of their bytes
+abbrev pub AreOnPlaces : Library → List Record → Kept → Type 0
+AreOnPlaces library design kept = kept.lines ≡ sorted_by_bytes (lines_on_places library design)

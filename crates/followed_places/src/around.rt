@@ -1,0 +1,73 @@
+//! What stands round components (LEF/DEF 5.8 Language Reference, "Rows", "Die Area", "Regions", "Groups" and "Blockages").
+
+ghost use Rattle.std.specs.Prelude.{◌≡◌, ◌<◌, ◌≤◌, IfOk, map};
+ghost use Rattle.std.specs.List.{list_any};
+ghost use Rattle.design_model.specs.Views.{rectangle_of};
+ghost use Rattle.def_reader.specs.StatementViews.{record_view, records_view};
+ghost use Rattle.design_rules.specs.Boxes.{scale};
+ghost use Rattle.design_rules.specs.Surroundings.{keep_outs, surroundings};
+ghost use Rattle.design_tables.specs.TableViews.{numbered_view};
+ghost use Rattle.place_checks.specs.IndexViews.{surroundings_view};
+ghost use Rattle.place_checks.specs.SameSurroundings.{HaveSameLines};
+ghost use Rattle.staying_laws.specs.PlaceStatements.{is_surrounding};
+
+use cell_library::library::Library;
+use def_reader::entry::Entry;
+use def_reader::statement::Statement;
+use design_model::geometry::Rect;
+use design_tables::Numbered;
+use place_checks::keep_outs::keep_outs_of;
+use place_checks::surroundings::{Surroundings, surroundings_of};
+use std::alloc::{AllocError, Allocator};
+
+/// What stands round components, and the rectangles that keep them out.
+#[derive(Drop)]
+pub(crate) struct Around<'t, A: Allocator> {
+    pub(crate) surroundings: Surroundings<'t, A>,
+    pub(crate) keep_outs: Vec<Rect, A>,
+}
+
+/// Whether a statement is of what stands round components, or of what all is measured by.
+pub(crate) fn is_surrounding(statement: &Statement<'_>) -> bool
+    ensures { result ≡ is_surrounding (record_view statement.now) }
+{
+    match statement {
+        Statement::Units(_) | Statement::Floor(_) => true,
+        Statement::Entry(entry) => match entry {
+            Entry::Region(_) | Entry::Group(_) | Entry::Blockage(_) => true,
+            _ => false,
+        },
+        _ => false,
+    }
+}
+
+/// Whether one of these statements is.
+pub(crate) fn is_any_surrounding(statements: &[Numbered<'_>]) -> bool
+    ensures { result ≡ list_any (λ x. is_surrounding x.1) (map numbered_view statements.now) }
+{
+    for numbered in statements {
+        if is_surrounding(&numbered.statement) {
+            return true;
+        }
+    }
+    false
+}
+
+impl<'t, A: Allocator + Copy> Around<'t, A> {
+    /// That of these statements.
+    pub(crate) fn of(
+        alloc: A,
+        library: &Library<'_, A>,
+        statements: &[Statement<'t>],
+    ) -> Result<Around<'t, A>, AllocError>
+        requires some { 0 < scale (records_view statements.now) }
+        requires few { scale (records_view statements.now) ≤ 100000 }
+        ensures surroundings { IfOk result (λ a. HaveSameLines (surroundings_view a.surroundings) (surroundings library.now (records_view statements.now))) }
+        ensures keep_outs { IfOk result (λ a. map rectangle_of a.keep_outs.items ≡ keep_outs (records_view statements.now)) }
+    {
+        Ok(Around {
+            surroundings: surroundings_of(alloc, library, statements)?,
+            keep_outs: keep_outs_of(alloc, statements)?,
+        })
+    }
+}

@@ -1,0 +1,56 @@
+//! The components among numbered statements.
+
+ghost use Rattle.std.specs.Prelude.{◌≡◌, ◌<◌, ◌≤◌, ◌++◌, IfOk, OnOk, true, map};
+ghost use Rattle.design_model.specs.declared.identifier.StmtId.{StmtId as Number};
+ghost use Rattle.def_grammar.specs.Records.{Record};
+ghost use Rattle.design_tables.specs.TableViews.{numbered_view};
+ghost use Rattle.line_laws.specs.Lines.{SameThings};
+ghost use Rattle.followed_places.specs.Placed.{placed_view};
+ghost use Rattle.followed_places.specs.Places.{components_under, place_under};
+
+use cell_library::library::Library;
+use design_model::identifier::StmtId;
+use design_tables::Numbered;
+use place_checks::boxes::box_of;
+use place_checks::placed_box::PlacedBox;
+use statement_boxes::{StatementBox, StatementBoxes};
+use std::alloc::{AllocError, Allocator};
+
+/// A component that takes part, and the number of its statement.
+#[derive(Clone, Copy)]
+pub(crate) struct Placed<'t> {
+    pub(crate) id: StmtId,
+    pub(crate) component: PlacedBox<'t>,
+}
+
+impl<'t> Placed<'t> {
+    /// Its box.
+    pub(crate) fn place(&self) -> StatementBox {
+        StatementBox {
+            id: self.id,
+            rect: self.component.rect,
+        }
+    }
+}
+
+/// The components among statements that take part, in their order.
+pub(crate) fn components_of<'t, A: Allocator + Copy>(
+    alloc: A,
+    library: &'t Library<'_, A>,
+    scale: u32,
+    statements: &[Numbered<'t>],
+) -> Result<Vec<Placed<'t>, A>, AllocError>
+    requires some { 0 < scale }
+    requires few { scale ≤ 100000 }
+    ensures { IfOk result (λ v. map placed_view v.items ≡ components_under library.entry.now scale (map numbered_view statements.now)) }
+{
+    let mut components = Vec::new(alloc);
+    for numbered in statements {
+        let Some(component) = box_of(library, scale, &numbered.statement) else {
+            continue;
+        };
+        let id = numbered.id;
+        components.push(Placed { id, component })?;
+    }
+    Ok(components)
+}
