@@ -1,6 +1,6 @@
 //! What stands round components (LEF/DEF 5.8 Language Reference, "Rows", "Die Area", "Regions", "Groups" and "Blockages").
 
-ghost use Rattle.std.specs.Prelude.{◌≡◌, ◌<◌, ◌≤◌, IfOk, map};
+ghost use Rattle.std.specs.Prelude.{◌≡◌, ◌<◌, ◌≤◌, IfOk, filter, map};
 ghost use Rattle.std.specs.List.{list_any};
 ghost use Rattle.design_model.specs.Views.{rectangle_of};
 ghost use Rattle.def_reader.specs.StatementViews.{record_view, records_view};
@@ -15,6 +15,7 @@ use cell_library::library::Library;
 use def_reader::entry::Entry;
 use def_reader::statement::Statement;
 use design_model::geometry::Rect;
+use design_model::identifier::StmtId;
 use design_tables::Numbered;
 use place_checks::keep_outs::keep_outs_of;
 use place_checks::surroundings::{Surroundings, surroundings_of};
@@ -70,4 +71,20 @@ impl<'t, A: Allocator + Copy> Around<'t, A> {
             keep_outs: keep_outs_of(alloc, statements)?,
         })
     }
+}
+
+/// The numbers of those of these statements that are, in their order.
+pub(crate) fn numbers_around<A: Allocator + Copy>(
+    alloc: A,
+    statements: &[Numbered<'_>],
+) -> Result<Vec<StmtId, A>, AllocError>
+    ensures { IfOk result (λ v. v.items ≡ map (λ x. x.0) (filter (λ x. is_surrounding x.1) (map numbered_view statements.now))) }
+{
+    let mut numbers = Vec::new(alloc);
+    for numbered in statements {
+        if is_surrounding(&numbered.statement) {
+            numbers.push(numbered.id)?;
+        }
+    }
+    Ok(numbers)
 }

@@ -54,3 +54,54 @@ pub(crate) fn components_of<'t, A: Allocator + Copy>(
     }
     Ok(components)
 }
+
+/// The boxes of the components among statements that take part, in their order.
+pub(crate) fn places_of<A: Allocator + Copy>(
+    alloc: A,
+    library: &Library<'_, A>,
+    scale: u32,
+    statements: &[Numbered<'_>],
+) -> Result<Vec<StatementBox, A>, AllocError>
+    requires some { 0 < scale }
+    requires few { scale ≤ 100000 }
+    ensures { IfOk result (λ v. map box_view v.items ≡ map place_under (components_under library.now scale (map numbered_view statements.now))) }
+{
+    let mut places = Vec::new(alloc);
+    for numbered in statements {
+        let Some(component) = box_of(library, scale, &numbered.statement) else {
+            continue;
+        };
+        let id = numbered.id;
+        let rect = component.rect;
+        places.push(StatementBox { id, rect })?;
+    }
+    Ok(places)
+}
+
+/// Takes the boxes of components out, and says whether all of them were there.
+pub(crate) fn remove_all<A: Allocator + Copy>(
+    boxes: &mut StatementBoxes<A>,
+    components: &[Placed<'_>],
+) -> bool
+    ensures { result ≡ true → SameThings boxes.old (map (λ p. place_under (placed_view p)) components.now ++ boxes.new) }
+{
+    for placed in components {
+        if !boxes.remove(placed.place()) {
+            return false;
+        }
+    }
+    true
+}
+
+/// Puts the boxes of components in.
+pub(crate) fn insert_all<A: Allocator + Copy>(
+    boxes: &mut StatementBoxes<A>,
+    components: &[Placed<'_>],
+) -> Result<(), AllocError>
+    ensures { OnOk result (SameThings boxes.new (map (λ p. place_under (placed_view p)) components.now ++ boxes.old)) }
+{
+    for placed in components {
+        boxes.insert(placed.place())?;
+    }
+    Ok(())
+}

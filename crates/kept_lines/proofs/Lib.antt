@@ -1,5 +1,6 @@
 mod Counts
 mod ExchangeLemmas
+mod FollowLemmas
 mod OrderLemmas
 mod PlaceLemmas
 mod TurnLemmas

@@ -1,6 +1,6 @@
 //! Lines in the order of their bytes, which others take the place of.
 
-ghost use Rattle.std.specs.Prelude.{◌≡◌, ◌+◌, ◌++◌, ◌∷◌, [], ◌≤◌, ◌<◌, IfOk, List, OnErr, OnOk, false, length, true, ℕ};
+ghost use Rattle.std.specs.Prelude.{◌≡◌, ◌+◌, ◌++◌, ◌∷◌, [], ◌≤◌, ◌<◌, IfOk, IfSome, List, OnErr, OnOk, false, length, true, ℕ};
 ghost use Rattle.std.specs.List.{prefix_len};
 ghost use Rattle.design_model.specs.Lines.{IsOfItsKind};
 ghost use Rattle.design_model.specs.Order.{put_in_order, sorted_by_bytes, texts};
@@ -11,6 +11,8 @@ ghost use Rattle.kept_lines.specs.Kept.{is_below};
 
 use design_model::diagnostic::{DiagLine, DiagLines};
 use design_model::sequence::{Bytes, Sequence};
+use following_laws::kept_lines_follow;
+use line_laws::sorting::{same_lines_sort_alike, sorting_is_by_lines};
 use report_lines::Lines;
 use std::alloc::{AllocError, Allocator, Global};
 use std::marker::Model;
@@ -175,5 +177,26 @@ impl<A: Allocator + Copy> KeptLines<A> {
         self.put_all(&mut put);
         let _ = &self.lines;
         Ok(true)
+    }
+
+    /// The lines after a change by which these go and those come, unless that would move more than so many lines.
+    pub fn followed(
+        self,
+        out: Lines<A>,
+        put: Lines<A>,
+        most_moved: usize,
+    ) -> Result<Option<KeptLines<A>>, AllocError>
+        requires { (before : List (List ℕ)) × (after : List (List ℕ)) × (self.lines ≡ sorted_by_bytes before) × LinesFollow before after out put }
+        ensures { (before after : List (List ℕ)) → self.lines ≡ sorted_by_bytes before → LinesFollow before after out put → IfOk result (λ found. IfSome found (λ k. k.lines ≡ sorted_by_bytes after)) }
+    {
+        sorting_is_by_lines();
+        same_lines_sort_alike();
+        kept_lines_follow();
+        let mut kept = self;
+        if kept.exchange(out, put, most_moved)? {
+            Ok(Some(kept))
+        } else {
+            Ok(None)
+        }
     }
 }
