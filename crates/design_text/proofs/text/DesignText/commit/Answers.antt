@@ -3,7 +3,7 @@ use Rattle.def_grammar.specs.Records.{read_def}
 use Rattle.text_pieces.specs.Lent.{numbered_records}
 use Rattle.design_tables.specs.Listings.{AreTablesOf}
 use Rattle.design_tables.specs.Prepared as tables
-use Rattle.design_text.proofs.StepLemmas.{made_text, still_records}
+use Rattle.design_text.proofs.StepLemmas.{exchange_is, made_text, still_records}
 use Rattle.design_text.proofs.text.DesignText.commit.Goals as goal
 
 pub invariant_of-self : goal.invariant_of-self
@@ -27,3 +27,15 @@ returns-clause-back g c =
       text = rw (← c.self.view_is) refl;
       reads = c.text_reads.ensures.reads;
     }
+
+pub returns-clause-back_too : goal.returns-clause-back_too
+returns-clause-back_too g c =
+    let l = rw (← c.self.view_is, ← c.step.view_is) at c.requires.1 in
+    let p = c.commit.ensures.leads l.other l.leads in
+    record { other = c.self.inside.pieces; leads = p.1; says = rw (← c.self.view_is) refl }
+
+pub returns-clause-exchanged : goal.returns-clause-exchanged
+returns-clause-exchanged g c =
+    let l = rw (← c.self.view_is, ← c.step.view_is) at c.requires.1 in
+    let p = c.commit.ensures.leads l.other l.leads in
+    rw (← c.self.view_is) (exchange_is (record { pieces = c.self.inside.pieces; names = c.self.inside.tables }) (record { pieces = c.commit.new.self; names = c.commit-2.new.self }) (record { text = c.commit.new.change; names = c.commit-2.new.change }) p.1 c.statements_are_parted.ensures)

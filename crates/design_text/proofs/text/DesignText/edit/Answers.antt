@@ -1,4 +1,4 @@
-use Rattle.std.proofs.Common.{◌≡◌, ◌∙◌, ◌≤◌, ℕ, Ok, length, map, refl, sym, ap, subst}
+use Rattle.std.proofs.Common.{◌≡◌, ◌∙◌, ◌≤◌, Ok, length, map, refl, sym, ap, subst}
 use Rattle.std.proofs.lemmas.Result.{err_from_is_err_and}
 use Rattle.statement_model.specs.Cuts.{with_cuts}
 use Rattle.edit_rules.specs.Edits.{change_of}
@@ -7,6 +7,7 @@ use Rattle.splicing_laws.specs.KeepingLaws.{AreInOrder}
 use Rattle.text_pieces.specs.Covering.{cut_of}
 use Rattle.def_splice.specs.SpliceViews.{cut_view}
 use Rattle.design_text.specs.DesignTexts.{text_of}
+use Rattle.design_text.specs.Exchanges.{MadeEdit}
 use Rattle.design_text.specs.FewReads.{most_reads}
 use Rattle.design_text.specs.Editing.{KeepsTheRest, ReadsEdited}
 use Rattle.design_text.proofs.ReadTexts.{made_applied, made_keeps, not_made}
@@ -59,7 +60,7 @@ returns-clause-edits g c =
     let old = text_of c.args.self.now in
     let cuts = map cut_view c.in_ok-splices.splices in
     let made : Makes c.args.library.now old (change_of c.args.edit.now) (Ok cuts) = c.in_ok-splices.ensures.makes in
-    (not_made ℕ old (text_of c.make_apart.new.self) (map cut_of c.deref.result.now) c.in-Err.field-0 c.in-Err.ensures.makes, (Ok cuts, made, tt))
+    (not_made MadeEdit old (text_of c.make_apart.new.self) (map cut_of c.deref.result.now) c.in-Err.field-0 c.in-Err.ensures.makes, (Ok cuts, made, tt))
 
 pub returns-in-Ok-clause-few : goal.returns-in-Ok-clause-few
 returns-in-Ok-clause-few g c =
@@ -67,4 +68,4 @@ returns-in-Ok-clause-few g c =
     let cuts = map cut_view c.in_ok-splices.splices in
     let made : Makes c.args.library.now old (change_of c.args.edit.now) (Ok cuts) = c.in_ok-splices.ensures.makes in
     let are : map cut_of c.deref.result.now ≡ cuts = ap (map cut_of) c.deref.ensures.value ∙ c.in_ok-cuts.ensures ∙ ap (map cut_view) c.as_slice.ensures in
-    (cuts, made, subst (λ cs. c.in-Ok.reads ≤ most_reads old cs) are c.in-Ok.ensures.few)
+    (cuts, made, subst (λ cs. c.in-Ok.made.reads ≤ most_reads old cs) are c.in-Ok.ensures.few)

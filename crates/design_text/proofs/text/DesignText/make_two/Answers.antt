@@ -4,8 +4,10 @@ use Rattle.statement_model.specs.Cuts.{with_cuts}
 use Rattle.def_grammar.specs.Records.{read_def}
 use Rattle.text_pieces.specs.Covering.{cut_of}
 use Rattle.design_text.specs.DesignTexts.{text_of}
+use Rattle.design_text.specs.Exchanges.{records_in}
 use Rattle.design_text.specs.Steps.{PreparesCuts}
 use Rattle.design_text.proofs.FewMade.{not_made_two, only_memory, two_few}
+use Rattle.design_text.proofs.StepLemmas.{always_err, always_ok}
 use Rattle.design_text.proofs.TwoCuts.{both_made, first_in_order, last_in_order}
 use Rattle.design_text.proofs.text.DesignText.make_two.Goals as goal
 
@@ -14,7 +16,7 @@ returns-in-Err-clause-makes g c =
     let t = text_of c.args.self.now in
     let f = cut_of c.args.first in
     let l = cut_of c.args.last in
-    not_made_two t _ f l c.in-Err.error c.not_made.result c.not_made.ensures (c.let_go_unused.ensures ∙ c.prepare.ensures.still)
+    not_made_two t _ f l c.in-Err.error c.not_made.result c.not_made.ensures (c.let_go_unused.ensures.text ∙ c.prepare.ensures.still)
     (λ one both. only_memory t (l ∷ []) c.in-Err.error _ (last_in_order t f l c.requires) c.in-Err.ensures.prepares one)
 
 pub returns-in-Ok-prepare-clause-makes : goal.returns-in-Ok-prepare-clause-makes
@@ -22,8 +24,8 @@ returns-in-Ok-prepare-clause-makes g c =
     let t = text_of c.args.self.now in
     let f = cut_of c.args.first in
     let l = cut_of c.args.last in (
-      c.let_go-in-Ok-prepare.ensures
-          ∙ c.let_go.ensures
+      c.let_go_of-in-Ok-prepare.ensures.text
+          ∙ c.let_go_of.ensures.text
           ∙ c.commit-in-Ok-prepare.ensures.made (with_cuts (f ∷ []) (text_of c.commit.new.self)) c.in-Ok-prepare.ensures.prepares
           ∙ ap (with_cuts (f ∷ [])) (c.commit.ensures.made (with_cuts (l ∷ []) t) c.in-Ok.ensures.prepares)
           ∙ both_made t f l c.requires,
@@ -47,6 +49,16 @@ returns-in-Err-prepare-clause-makes g c =
     let l = cut_of c.args.last in
     let made = c.commit.ensures.made (with_cuts (l ∷ []) t) c.in-Ok.ensures.prepares in
     let why = subst (λ u. PreparesCuts u (f ∷ []) (Err c.in-Err-prepare.error) c.prepare-2.new.self) made c.in-Err-prepare.ensures.prepares in
-    let same = c.let_go_unused-in-Err-prepare.ensures ∙ c.let_go-in-Err-prepare.ensures ∙ c.commit-in-Err-prepare.ensures.made (text_of c.prepare.new.self) (c.prepare-2.ensures.lasts _ _ c.commit.ensures.back) ∙ c.prepare.ensures.still in
+    let same = c.let_go_unused-in-Err-prepare.ensures.text ∙ c.let_go_of-in-Err-prepare.ensures.text ∙ c.commit-in-Err-prepare.ensures.made (text_of c.prepare.new.self) (c.prepare-2.ensures.lasts _ _ c.commit.ensures.back) ∙ c.prepare.ensures.still in
     not_made_two t _ f l c.in-Err-prepare.error c.not_made-in-Err-prepare.result c.not_made-in-Err-prepare.ensures same
     (λ one both. only_memory (with_cuts (l ∷ []) t) (f ∷ []) c.in-Err-prepare.error _ (first_in_order t f l c.requires) why (subst (λ u. IsOk (read_def u)) (sym (both_made t f l c.requires)) both))
+
+pub returns-in-Err-prepare-clause-same : goal.returns-in-Err-prepare-clause-same
+returns-in-Err-prepare-clause-same g c =
+    always_ok _ c.not_made-in-Err-prepare.result
+    (c.let_go_unused-in-Err-prepare.ensures.records ∙ c.let_go_of-in-Err-prepare.ensures.records ∙ c.commit-in-Err-prepare.ensures.made_too (records_in c.prepare.new.self) (c.prepare-2.ensures.lasts_too _ _ c.commit.ensures.back_too) ∙ c.prepare.ensures.records)
+
+pub returns-in-Err-prepare-clause-refused : goal.returns-in-Err-prepare-clause-refused
+returns-in-Err-prepare-clause-refused g c =
+    always_err _ c.not_made-in-Err-prepare.result
+    (c.let_go_unused-in-Err-prepare.ensures.records ∙ c.let_go_of-in-Err-prepare.ensures.records ∙ c.commit-in-Err-prepare.ensures.made_too (records_in c.prepare.new.self) (c.prepare-2.ensures.lasts_too _ _ c.commit.ensures.back_too) ∙ c.prepare.ensures.records)

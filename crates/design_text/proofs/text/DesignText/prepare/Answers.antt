@@ -8,7 +8,7 @@ use Rattle.text_pieces.specs.Covering.{cut_of}
 use Rattle.design_text.specs.DesignTexts.{text_of}
 use Rattle.design_text.specs.Steps.{PreparesCuts}
 use Rattle.design_text.proofs.ReadTexts.{is_read}
-use Rattle.design_text.proofs.StepLemmas.{leads_on, leads_still, made_text, not_keyed, not_prepared, own_keys, own_tables, still_records}
+use Rattle.design_text.proofs.StepLemmas.{leads_on, leads_still, made_text, not_keyed, not_prepared, own_keys, own_tables, records_still, still_records}
 use Rattle.design_text.proofs.text.DesignText.prepare.Goals as goal
 
 pub prepare_tables-requires-clause-tables : goal.prepare_tables-requires-clause-tables
@@ -66,3 +66,12 @@ returns-in-Ok-clause-prepares g c =
 pub returns-in-Ok-clause-lasts : goal.returns-in-Ok-clause-lasts
 returns-in-Ok-clause-lasts g c = λ change text l.
     leads_still _ _ change text c.prepare_all.ensures.still c.changes_last.ensures.lasts (c.prepare_tables.ensures.lasts change.names) (rw (← c.self.view_is) at l)
+
+pub returns-in_err-text-clause-lasts_too : goal.returns-in_err-text-clause-lasts_too
+returns-in_err-text-clause-lasts_too g c = λ change records l. records_still _ _ change records c.prepare_all.ensures.still c.changes_last.ensures.lasts (rw (← c.self.view_is) at l)
+
+pub returns-in-Err-clause-lasts_too : goal.returns-in-Err-clause-lasts_too
+returns-in-Err-clause-lasts_too g c = λ change records l. records_still _ _ change records c.prepare_all.ensures.still c.changes_last.ensures.lasts (rw (← c.self.view_is) at l)
+
+pub returns-in-Ok-clause-lasts_too : goal.returns-in-Ok-clause-lasts_too
+returns-in-Ok-clause-lasts_too g c = λ change records l. records_still _ _ change records c.prepare_all.ensures.still c.changes_last.ensures.lasts (rw (← c.self.view_is) at l)

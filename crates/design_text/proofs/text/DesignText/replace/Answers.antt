@@ -39,4 +39,4 @@ refusal-requires-clause-short g c =
     subst (λ t. is_long (new_text t lo hi put) ≡ false) (sym (rw c.in-Err-Fault.field-0-is at c.in-Err-Fault.ensures.makes).0) short
 
 pub returns-in-Ok-clause-few : goal.returns-in-Ok-clause-few
-returns-in-Ok-clause-few g c = one_few (text_of c.args.self.now) (record { lo = c.args.lo; hi = c.args.hi; put = c.args.put.now }) c.in-Ok.reads c.in-Ok.ensures.few
+returns-in-Ok-clause-few g c = one_few (text_of c.args.self.now) (record { lo = c.args.lo; hi = c.args.hi; put = c.args.put.now }) c.in-Ok.made.reads c.in-Ok.ensures.few

@@ -4,7 +4,7 @@ use Rattle.design_model.specs.declared.identifier.StmtId.{StmtId}
 use Rattle.def_grammar.specs.Records.{read_def}
 use Rattle.text_pieces.specs.Tables.{ids_of}
 use Rattle.design_tables.specs.Listings.{AreTablesOf}
-use Rattle.design_text.proofs.text.DesignText.let_go.Goals as goal
+use Rattle.design_text.proofs.text.DesignText.let_go_of.Goals as goal
 
 pub invariant_of-self : goal.invariant_of-self
 invariant_of-self g c =
