@@ -7,3 +7,5 @@ pub mod EntryOrder
 pub mod TileSearch
 pub mod OrderChanges
 pub mod TileFloors
+pub mod KeyOrder
+pub mod AllListed

@@ -12,7 +12,7 @@ use design_model::identifier::{LayerId, ShapeId};
 const LARGEST: u64 = 9223372036854775808;
 
 /// Where a shape stands among others: by its layer, its size, the tile of its lower left corner, and its number.
-#[derive(Clone, Copy)]
+#[derive(Clone, Copy, PartialEq, Eq, PartialOrd, Ord)]
 pub(crate) struct TileKey {
     pub(crate) layer: usize,
     pub(crate) size: u64,
