@@ -54,10 +54,10 @@ sum_listed w s (k ∷ keys) =
     ] refl
 
 -- entries of the slab
-abbrev Stands : Slab Shape → ℕ × Shape → Type 0
+abbrev pub Stands : Slab Shape → ℕ × Shape → Type 0
 Stands s e = get s e.0 ≡ Some e.1
 
-all_stand : (s : Slab Shape) → All (Stands s) (entries s)
+pub all_stand : (s : Slab Shape) → All (Stands s) (entries s)
 all_stand s = All-weaker (Contains (entries s)) (Stands s) (λ e c. (Contains-entries s e.0 e.1).0 c) (entries s) (All-contains_itself (entries s))
 
 listed_entries : (s : Slab Shape) (es : List (ℕ × Shape)) → All (Stands s) es → listed s (map number (map key (numbered es))) ≡ numbered es

@@ -9,3 +9,4 @@ pub mod OrderChanges
 pub mod TileFloors
 pub mod KeyOrder
 pub mod AllListed
+pub mod Finding

@@ -1,11 +1,11 @@
 //! A set of shapes that is searched by tiles.
 
-ghost use Rattle.std.specs.Prelude.{◌≡◌, [], IfOk, map};
+ghost use Rattle.std.specs.Prelude.{◌≡◌, [], All, IfNone, IfOk, IfSome, Some, map};
 ghost use Rattle.slab.specs.Slab.{entries};
 ghost use Rattle.line_laws.specs.Lines.{SameThings};
-ghost use Rattle.shape_index.specs.Shapes.{numbered};
+ghost use Rattle.shape_index.specs.Shapes.{AreSame, at, numbered};
 
-use crate::shape::{Shape, ShapeSet};
+use crate::shape::{Shape, ShapeSet, are_same};
 use crate::tile::key_of;
 use crate::tile_order::{first_from, order_of, search};
 use design_model::geometry::Rect;
@@ -55,6 +55,34 @@ impl<A: Allocator + Copy> TiledShapes<A> {
         let shapes = slab_of(alloc, shapes)?;
         let order = order_of(alloc, &shapes)?;
         Ok(TiledShapes { shapes, order })
+    }
+
+    /// The number of a shape that is the same as this one, if the set has some.
+    pub fn find(&self, shape: Shape) -> Option<ShapeId>
+        ensures found { IfSome result (λ id. (s : _) × (at id self.now.entries ≡ Some s) × AreSame s shape) }
+        ensures absent { IfNone result (All (λ e. ¬ AreSame e.1 shape) self.now.entries) }
+    {
+        let (found, _) = search(
+            &self.shapes,
+            &self.order,
+            shape.layer,
+            shape.rect,
+            None,
+            |found, id, met| same_or(&shape, found, id, met),
+        );
+        found
+    }
+}
+
+/// The number of a shape that is the same as one that is sought, else what was found before.
+fn same_or(sought: &Shape, found: Option<ShapeId>, id: ShapeId, shape: &Shape) -> Option<ShapeId>
+    ensures same { AreSame shape.now sought.now → result ≡ Some id }
+    ensures other { ¬ AreSame shape.now sought.now → result ≡ found }
+{
+    if are_same(shape, sought) {
+        Some(id)
+    } else {
+        found
     }
 }
 
