@@ -1,6 +1,6 @@
 //! Tests that are run and not proved: of sessions and of runs of scripts, of libraries and LEF texts, of names, of tokens, of pins, of
 //! texts that are read again, kept in pieces or asked for their statements, of the pieces of wires, rectangles that meet, sets of
-//! shapes, sums of areas by the cells of a grid, and lines that are kept, and of a design whose names were made to collide.
+//! shapes and of boxes, sums of areas by the cells of a grid, and lines that are kept, and of a design whose names were made to collide.
 //! They try what no case folder can hold and what no program calls.
 #![tactic(auto)]
 
@@ -24,6 +24,7 @@ mod reread_texts;
 mod session_calls;
 mod shape_sets;
 mod spoilt_texts;
+mod statement_boxes;
 mod text_in_pieces;
 mod text_look_ups;
 mod texts;

@@ -7,3 +7,6 @@ pub mod EntryOrder
 pub mod TileSearch
 pub mod OrderChanges
 pub mod TileFloors
+pub mod KeyOrder
+pub mod AllListed
+pub mod Finding

@@ -55,10 +55,10 @@ after_insert s t ids n p x o u free place =
     }
 
 -- an entry of a number
-abbrev is_of : ℕ → Entry → ℕ
+abbrev pub is_of : ℕ → Entry → ℕ
 is_of n e = cond (e.0.0 == n) 1 0
 
-stands : (n : ℕ) (x : Shape) (es : List Entry) → at (id_of n) es ≡ Some x → 1 ≤ sum_by (is_of n) es
+pub stands : (n : ℕ) (x : Shape) (es : List Entry) → at (id_of n) es ≡ Some x → 1 ≤ sum_by (is_of n) es
 stands n x [] h = cc
 stands n x (e ∷ es) h =
     let sum = sum_by-cons (is_of n) e es in
@@ -68,12 +68,12 @@ stands n x (e ∷ es) h =
     ] refl h
 
 -- where an entry of a number stands
-record Somewhere (n : ℕ) (es : List Entry) : Type 0 where
-  place : ℕ
-  below : place < length es
-  is : (d : Entry) → (get_or es place d).0.0 ≡ n
+pub record Somewhere (n : ℕ) (es : List Entry) : Type 0 where
+  pub place : ℕ
+  pub below : place < length es
+  pub is : (d : Entry) → (get_or es place d).0.0 ≡ n
 
-somewhere : (n : ℕ) (es : List Entry) → 1 ≤ sum_by (is_of n) es → Somewhere n es
+pub somewhere : (n : ℕ) (es : List Entry) → 1 ≤ sum_by (is_of n) es → Somewhere n es
 somewhere n [] h = absurd (omega (arith, h))
 somewhere n (e ∷ es) h =
     let sum = sum_by-cons (is_of n) e es in

@@ -1,5 +1,5 @@
 -- A set of shapes as its contracts see it.
-use Rattle.std.specs.Prelude.{ℕ, ◌-◌, Bool, ◌&&◌, ◌==◌, List, [], ◌∷◌, Option, Some, None, filter, map, if◌then◌else◌}
+use Rattle.std.specs.Prelude.{◌≡◌, ℕ, ◌-◌, Bool, ◌&&◌, ◌==◌, List, [], ◌∷◌, Option, Some, None, filter, map, if◌then◌else◌}
 use Rattle.design_model.specs.declared.geometry.Rect.{Rect}
 use Rattle.design_model.specs.declared.identifier.LayerId.{LayerId}
 use Rattle.design_model.specs.declared.identifier.ShapeId.{ShapeId}
@@ -17,6 +17,12 @@ pub record Shapes : Type 0 where
 abbrev pub at : ShapeId → List (ShapeId × Shape) → Option Shape
 at id [] = None
 at id (e ∷ es) = if id.0 == e.0.0 then Some e.1 else at id es
+
+-- two shapes are on one layer, with one rectangle and one number of the caller's
+pub record AreSame (a b : Shape) : Type 0 where
+  pub layer : a.layer.0 ≡ b.layer.0
+  pub rect : rectangle_of a.rect ≡ rectangle_of b.rect
+  pub net : a.net ≡ b.net
 
 -- an entry's shape is on a layer and meets a rectangle
 abbrev pub is_met : LayerId → Rect → ShapeId × Shape → Bool

@@ -1,9 +1,9 @@
 //! Shapes, and what every set of them does.
 
-ghost use Rattle.std.specs.Prelude.{◌≡◌, ◌+◌, ◌≤◌, ◌<◌, ◌∷◌, ℕ, List, None, OnOk, IfSome, IfNone};
+ghost use Rattle.std.specs.Prelude.{◌≡◌, ◌+◌, ◌≤◌, ◌<◌, ◌∷◌, ◌↔◌, IsTrue, ℕ, List, None, OnOk, IfSome, IfNone};
 ghost use Rattle.std.specs.List.{FoldsTo};
 ghost use Rattle.line_laws.specs.Lines.{SameThings};
-ghost use Rattle.shape_index.specs.Shapes.{Shapes, at, is_met, met_by};
+ghost use Rattle.shape_index.specs.Shapes.{AreSame, Shapes, at, is_met, met_by};
 
 use design_model::geometry::Rect;
 use design_model::identifier::{LayerId, ShapeId};
@@ -23,6 +23,13 @@ pub(crate) fn is_met(shape: &Shape, layer: LayerId, rect: Rect) -> bool
     ensures { (id : _) → result ≡ is_met layer rect (id, shape.now) }
 {
     shape.layer == layer && meets(shape.rect, rect)
+}
+
+/// Whether two shapes are the same.
+pub(crate) fn are_same(a: &Shape, b: &Shape) -> bool
+    ensures { IsTrue result ↔ AreSame a.now b.now }
+{
+    a == b
 }
 
 /// A set of shapes under numbers that it picks, searched by layer and rectangle.

@@ -11,8 +11,9 @@ use design_model::identifier::{LayerId, ShapeId};
 /// The largest size: two such tiles side by side hold every coordinate.
 const LARGEST: u64 = 9223372036854775808;
 
-/// Where a shape stands among others: by its layer, its size, the tile of its lower left corner, and its number.
-#[derive(Clone, Copy)]
+/// Where a shape stands among others: by its layer, its size, the tile of its lower left corner, and its number. Keys are
+/// compared in this order of their fields.
+#[derive(Clone, Copy, PartialEq, Eq, PartialOrd, Ord)]
 pub(crate) struct TileKey {
     pub(crate) layer: usize,
     pub(crate) size: u64,
@@ -87,19 +88,7 @@ pub(crate) fn key_of(id: ShapeId, shape: &Shape) -> TileKey
 pub(crate) fn is_before(a: &TileKey, b: &TileKey) -> bool
     ensures { IsTrue result ↔ Before a.now b.now }
 {
-    if a.layer != b.layer {
-        return a.layer < b.layer;
-    }
-    if a.size != b.size {
-        return a.size < b.size;
-    }
-    if a.column != b.column {
-        return a.column < b.column;
-    }
-    if a.row != b.row {
-        return a.row < b.row;
-    }
-    a.id < b.id
+    a < b
 }
 
 /// The tiles of a size near a range of coordinates.

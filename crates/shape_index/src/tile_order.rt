@@ -1,17 +1,43 @@
 //! Shapes in the order of their tiles, and the search among them.
 
-ghost use Rattle.std.specs.Prelude.{◌≡◌, ◌<◌, ◌≤◌, ◌↔◌, IsTrue, ℕ, filter, length, option_map, slice_get, slice_index_or};
+ghost use Rattle.std.specs.Prelude.{◌≡◌, ◌<◌, ◌≤◌, ◌↔◌, IfOk, IsTrue, ℕ, filter, length, map, option_map, slice_get, slice_index_or};
 ghost use Rattle.std.specs.List.{FoldsTo};
-ghost use Rattle.shape_index.specs.Shapes.{met_by};
+ghost use Rattle.slab.specs.Slab.{entries};
+ghost use Rattle.shape_index.specs.Shapes.{met_by, numbered};
 ghost use Rattle.shape_index.specs.Tiles.{key, near_count};
-ghost use Rattle.shape_index.specs.TileOrder.{AreAllThere, AreInOrder, Before, listed};
+ghost use Rattle.shape_index.specs.TileOrder.{AreAllThere, AreInOrder, Before, IsOrderOf, listed};
 
 use crate::shape::{Shape, is_met};
 use crate::tile::{Step, TileKey, is_before, key_of, next_step};
 use design_model::geometry::Rect;
 use design_model::identifier::{LayerId, ShapeId};
 use slab::Slab;
-use std::alloc::Allocator;
+use std::alloc::{AllocError, Allocator};
+
+/// The numbers of all shapes, in the order of their tiles. Each key is computed once.
+pub(crate) fn order_of<A: Allocator + Copy>(
+    alloc: A,
+    shapes: &Slab<Shape, A>,
+) -> Result<Vec<ShapeId, A>, AllocError>
+    ensures { IfOk result (λ v. IsOrderOf shapes.now v.items) }
+{
+    let mut keys = keys_of(alloc, shapes)?;
+    keys.sort_unstable();
+    keys.iter().map(|key| ShapeId(key.id)).collect(alloc)
+}
+
+/// The keys of all shapes, in the order of their numbers.
+fn keys_of<A: Allocator + Copy>(
+    alloc: A,
+    shapes: &Slab<Shape, A>,
+) -> Result<Vec<TileKey, A>, AllocError>
+    ensures { IfOk result (λ v. v.items ≡ map key (numbered (entries shapes.now))) }
+{
+    shapes
+        .iter()
+        .map(|(id, shape)| key_of(ShapeId(id), shape))
+        .collect(alloc)
+}
 
 /// The entry at a place of an order of numbers.
 fn entry_at<'s, A: Allocator + Copy>(

@@ -1,10 +1,13 @@
 //! A set of shapes that is searched by tiles.
 
-ghost use Rattle.std.specs.Prelude.{◌≡◌, []};
+ghost use Rattle.std.specs.Prelude.{◌≡◌, [], All, IfNone, IfOk, IfSome, Some, map};
+ghost use Rattle.slab.specs.Slab.{entries};
+ghost use Rattle.line_laws.specs.Lines.{SameThings};
+ghost use Rattle.shape_index.specs.Shapes.{AreSame, at, numbered};
 
-use crate::shape::{Shape, ShapeSet};
+use crate::shape::{Shape, ShapeSet, are_same};
 use crate::tile::key_of;
-use crate::tile_order::{first_from, search};
+use crate::tile_order::{first_from, order_of, search};
 use design_model::geometry::Rect;
 use design_model::identifier::{LayerId, ShapeId};
 use slab::Slab;
@@ -44,6 +47,54 @@ impl<A: Allocator + Copy> TiledShapes<A> {
             order: Vec::new(alloc),
         }
     }
+
+    /// A set of these shapes, made at once: their order is sorted once, while each `insert_reserved` moves the numbers behind it.
+    pub fn of(alloc: A, shapes: &[Shape]) -> Result<Self, AllocError>
+        ensures { IfOk result (λ s. SameThings (map (λ e. e.1) s.entries) shapes.now) }
+    {
+        let shapes = slab_of(alloc, shapes)?;
+        let order = order_of(alloc, &shapes)?;
+        Ok(TiledShapes { shapes, order })
+    }
+
+    /// The number of a shape that is the same as this one, if the set has some.
+    pub fn find(&self, shape: Shape) -> Option<ShapeId>
+        ensures found { IfSome result (λ id. (s : _) × (at id self.now.entries ≡ Some s) × AreSame s shape) }
+        ensures absent { IfNone result (All (λ e. ¬ AreSame e.1 shape) self.now.entries) }
+    {
+        let (found, _) = search(
+            &self.shapes,
+            &self.order,
+            shape.layer,
+            shape.rect,
+            None,
+            |found, id, met| same_or(&shape, found, id, met),
+        );
+        found
+    }
+}
+
+/// The number of a shape that is the same as one that is sought, else what was found before.
+fn same_or(sought: &Shape, found: Option<ShapeId>, id: ShapeId, shape: &Shape) -> Option<ShapeId>
+    ensures same { AreSame shape.now sought.now → result ≡ Some id }
+    ensures other { ¬ AreSame shape.now sought.now → result ≡ found }
+{
+    if are_same(shape, sought) {
+        Some(id)
+    } else {
+        found
+    }
+}
+
+/// A slab of these shapes.
+fn slab_of<A: Allocator + Copy>(alloc: A, shapes: &[Shape]) -> Result<Slab<Shape, A>, AllocError>
+    ensures { IfOk result (λ s. SameThings (map (λ e. e.1) (numbered (entries s))) shapes.now) }
+{
+    let mut slab = Slab::with_capacity(alloc, shapes.len())?;
+    for shape in shapes {
+        slab.insert_reserved(*shape);
+    }
+    Ok(slab)
 }
 
 impl<A: Allocator + Copy> ShapeSet for TiledShapes<A> {

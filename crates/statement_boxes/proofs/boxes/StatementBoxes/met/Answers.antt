@@ -1,0 +1,16 @@
+use Rattle.std.proofs.Common.{rules, map}
+use Rattle.std.proofs.lemmas.Fn.{chained_keeps}
+use Rattle.shape_index.proofs.Pushed.{Holds, found}
+use Rattle.statement_boxes.specs.BoxShapes.{number_of}
+use Rattle.statement_boxes.proofs.BoxLists.{few_compared, met_as, one_pushed}
+use Rattle.statement_boxes.proofs.boxes.StatementBoxes.met.Goals as goal
+
+pub returns-clause-those : goal.returns-clause-those
+returns-clause-those g c =
+    let run = c.for_met-ids.ensures.folded in
+    let held = chained_keeps _ (λ xs q. Holds (λ v. v.items) (map (λ e. number_of e.1) xs) q) (λ xs q e v h k. one_pushed (λ v. v.items) q v e xs h (search rules)) run.0 _ _ c.new.ensures.items run.2 in
+    let all = found (λ v. v.items) c.for_met-ids.result.0 _ _ held (met_as c.args.rect c.self.inside.tiles.entries run.0 c.args.self.now c.self.view_is c.self.invariant run.1) in
+    rw c.in_ok-ids.was at all
+
+pub returns-clause-compared : goal.returns-clause-compared
+returns-clause-compared g c = few_compared c.args.rect c.self.inside.tiles.entries c.args.self.now c.for_met-ids.result.1 c.self.view_is c.for_met-ids.ensures.compared
