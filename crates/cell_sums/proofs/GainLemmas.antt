@@ -3,11 +3,11 @@ use Rattle.std.proofs.Common.{◌≡◌, ◌+◌, ◌*◌, ◌/◌, ◌%◌, ◌
 use Rattle.std.proofs.lemmas.Bool.Decides.{nat_tests}
 use Rattle.cell_sums.specs.Blocks.{BlockSums, Gains, HasGained, HasGainedAtMost, Key, block_at, strip_gains, sum_at, sum_in}
 use Rattle.cell_sums.specs.Lines.{common_length, is_from}
-use Rattle.cell_sums.specs.declared.row_cells.RowCells.{RowCells}
-use Rattle.cell_sums.specs.declared.row_cells.Strip.{Strip}
+use Rattle.cell_sums.specs.declared.runs.Run.{Run}
+use Rattle.cell_sums.specs.declared.runs.Strip.{Strip}
 use Rattle.cell_sums.proofs.BlockLemmas.{one_key}
 
--- places within a block, and in their row
+-- places within a block, and in their run
 in_block : (b q r s end : ℕ) → q * 64 + r < end → is_from (b * 64 + r) (b * 64 + r + (end - (q * 64 + r))) (b * 64 + s) ≡ is_from (q * 64 + r) end (q * 64 + s)
 in_block b q r s end some = grind (arith, nat_tests)
 
@@ -21,7 +21,7 @@ on_row layer row l j w t is h = (grind (arith, nat_tests), grind (arith, nat_tes
 same_row : (layer row l j : ℕ) (w : Bool) → layer ≡ l → row ≡ j → ((layer == l) && ((row == j) && w)) ≡ w
 same_row layer row l j w e f = grind (arith, nat_tests)
 
--- places of one block are of one row's block
+-- places of one block are of one run's block
 one_block : (first end i : ℕ) → end ≤ first / 64 * 64 + 64 → is_from first end i ≡ true → first / 64 ≡ i / 64
 one_block first end i together h = grind (arith, nat_tests)
 
@@ -67,20 +67,20 @@ fits_at b layer row first end m found together fits n low high =
     let room = fits i (omega arith) in
     omega (arith, is, room)
 
-module _ (columns : List ℤ) (cells : RowCells) (strip : Strip) (keys : List Key) (old new : List ℕ) (b : ℕ) where
+module _ (columns : List ℤ) (cells : Run) (strip : Strip) (keys : List Key) (old new : List ℕ) (b : ℕ) where
   abbrev area : ℕ → ℕ
   area i = common_length columns strip.low strip.high i * strip.height
 
-  module _ (found : block_at keys (cells.layer, cells.row, cells.first / 64) ≡ Some b) (some : cells.first < cells.end) (together : cells.end ≤ cells.first / 64 * 64 + 64)
+  module _ (found : block_at keys (cells.layer, cells.major, cells.first / 64) ≡ Some b) (some : cells.first < cells.end) (together : cells.end ≤ cells.first / 64 * 64 + 64)
       (added : (n : ℕ) → get_or new n 0 ≡ get_or old n 0 + (if is_from (b * 64 + cells.first % 64) (b * 64 + cells.first % 64 + (cells.end - cells.first)) n then area (cells.first + (n - (b * 64 + cells.first % 64))) else 0)) where
     -- the key of a cell among them
-    own_key : (l i j : ℕ) (t : Bool) → ((cells.layer == l) && ((cells.row == j) && is_from cells.first cells.end i)) ≡ t → t ≡ true → block_at keys (l, j, i / 64) ≡ Some b
+    own_key : (l i j : ℕ) (t : Bool) → ((cells.layer == l) && ((cells.major == j) && is_from cells.first cells.end i)) ≡ t → t ≡ true → block_at keys (l, j, i / 64) ≡ Some b
     own_key l i j t is h =
-        let on = on_row cells.layer cells.row l j (is_from cells.first cells.end i) t is h in
-        let same : (cells.layer, cells.row, cells.first / 64) ≡ (l, j, i / 64) = ap₂ (λ x y. (x, cells.row, y)) on.0 (one_block cells.first cells.end i together on.2) ∙ ap (λ y. (l, y, i / 64)) on.1 in
+        let on = on_row cells.layer cells.major l j (is_from cells.first cells.end i) t is h in
+        let same : (cells.layer, cells.major, cells.first / 64) ≡ (l, j, i / 64) = ap₂ (λ x y. (x, cells.major, y)) on.0 (one_block cells.first cells.end i together on.2) ∙ ap (λ y. (l, y, i / 64)) on.1 in
         ap (λ k. block_at keys k) (sym same) ∙ found
 
-    no_gain : (l i j : ℕ) (t : Bool) → ((cells.layer == l) && ((cells.row == j) && is_from cells.first cells.end i)) ≡ t → (block_at keys (l, j, i / 64) ≡ Some b → t ≡ false) → (if t then area i else 0) ≡ 0
+    no_gain : (l i j : ℕ) (t : Bool) → ((cells.layer == l) && ((cells.major == j) && is_from cells.first cells.end i)) ≡ t → (block_at keys (l, j, i / 64) ≡ Some b → t ≡ false) → (if t then area i else 0) ≡ 0
     no_gain l i j false is other = refl
     no_gain l i j true is other = let h = other (own_key l i j true is refl) in cc
 
@@ -88,13 +88,13 @@ module _ (columns : List ℤ) (cells : RowCells) (strip : Strip) (keys : List Ke
         → (if is_from (b * 64 + cells.first % 64) (b * 64 + cells.first % 64 + (cells.end - cells.first)) (b * 64 + i % 64) then area (cells.first + ((b * 64 + i % 64) - (b * 64 + cells.first % 64))) else 0)
         ≡ strip_gains columns cells strip l i j
     gains_same l i j e =
-        let own : (cells.layer, cells.row, cells.first / 64) ≡ (l, j, i / 64) = one_key keys (cells.layer, cells.row, cells.first / 64) (l, j, i / 64) b found e in
+        let own : (cells.layer, cells.major, cells.first / 64) ≡ (l, j, i / 64) = one_key keys (cells.layer, cells.major, cells.first / 64) (l, j, i / 64) b found e in
         let layer : cells.layer ≡ l = ap (λ (k : Key). k.0) own in
-        let row : cells.row ≡ j = ap (λ (k : Key). k.1) own in
+        let row : cells.major ≡ j = ap (λ (k : Key). k.1) own in
         let quotient : cells.first / 64 ≡ i / 64 = ap (λ (k : Key). k.2) own in
         if_same _ _ _ _
-        (block_places b (cells.first / 64) cells.first i cells.end refl quotient some ∙ sym (same_row cells.layer cells.row l j (is_from cells.first cells.end i) layer row))
-        (λ h. ap area (place_is b (cells.first / 64) cells.first i cells.end refl quotient (on_row cells.layer cells.row l j _ true h refl).2))
+        (block_places b (cells.first / 64) cells.first i cells.end refl quotient some ∙ sym (same_row cells.layer cells.major l j (is_from cells.first cells.end i) layer row))
+        (λ h. ap area (place_is b (cells.first / 64) cells.first i cells.end refl quotient (on_row cells.layer cells.major l j _ true h refl).2))
 
     gained_at : (l i j : ℕ) (o : Option ℕ) → block_at keys (l, j, i / 64) ≡ o → sum_in new (i % 64) o ≡ sum_in old (i % 64) o + strip_gains columns cells strip l i j
     gained_at l i j None e = let none : strip_gains columns cells strip l i j ≡ 0 = no_gain l i j _ refl (λ own. absurd (none_some b (sym e ∙ own))) in omega (arith, none)
@@ -118,11 +118,11 @@ module _ (columns : List ℤ) (cells : RowCells) (strip : Strip) (keys : List Ke
     pub block_gained : HasGained (record { keys = keys; sums = old }) (record { keys = keys; sums = new }) (strip_gains columns cells strip)
     block_gained = record { sums = gained }
 
--- the cells of a row up to a column
-abbrev pub cells_to : RowCells → ℕ → RowCells
+-- the cells of a run up to a number
+abbrev pub cells_to : Run → ℕ → Run
 cells_to cells end = record cells { end = end }
 
-abbrev pub cells_from : RowCells → ℕ → ℕ → RowCells
+abbrev pub cells_from : Run → ℕ → ℕ → Run
 cells_from cells first end = record cells { first = first; end = end }
 
 part_step : (s t : Bool) (f0 f e i a : ℕ) → f0 ≤ f → f ≤ e
@@ -146,13 +146,13 @@ part_all false t f0 f e i a past upto = refl
 part_all true false f0 f e i a past upto = refl
 part_all true true f0 f e i a past upto = grind (arith, nat_tests)
 
--- how far a loop over the cells of a row has come
-pub record Going (old now : BlockSums) (columns : List ℤ) (cells : RowCells) (strip : Strip) (first : ℕ) : Type 0 where
+-- how far a loop over the cells of a run has come
+pub record Going (old now : BlockSums) (columns : List ℤ) (cells : Run) (strip : Strip) (first : ℕ) : Type 0 where
   pub behind : cells.first ≤ first
   pub upto : first ≤ max cells.first cells.end
   pub gained : HasGained old now (strip_gains columns (cells_to cells first) strip)
 
-module _ (columns : List ℤ) (cells : RowCells) (strip : Strip) (old : BlockSums) where
+module _ (columns : List ℤ) (cells : Run) (strip : Strip) (old : BlockSums) where
   abbrev area_at : ℕ → ℕ
   area_at i = common_length columns strip.low strip.high i * strip.height
 
@@ -160,15 +160,15 @@ module _ (columns : List ℤ) (cells : RowCells) (strip : Strip) (old : BlockSum
   going_first = record {
     behind = omega arith;
     upto = omega arith;
-    gained = record { sums = λ l i j. let none = part_empty (cells.layer == l) (cells.row == j) cells.first cells.first i (area_at i) (omega arith) in omega (arith, none) };
+    gained = record { sums = λ l i j. let none = part_empty (cells.layer == l) (cells.major == j) cells.first cells.first i (area_at i) (omega arith) in omega (arith, none) };
   }
 
   module _ (now : BlockSums) (first : ℕ) (going : Going old now columns cells strip first) where
     -- sums that come still have room
-    pub still_fit : ((i : ℕ) → cells.first ≤ i → sum_at old cells.layer i cells.row + 2 ^ 64 ≤ 2 ^ 128) → (i : ℕ) → first ≤ i → sum_at now cells.layer i cells.row + 2 ^ 64 ≤ 2 ^ 128
+    pub still_fit : ((i : ℕ) → cells.first ≤ i → sum_at old cells.layer i cells.major + 2 ^ 64 ≤ 2 ^ 128) → (i : ℕ) → first ≤ i → sum_at now cells.layer i cells.major + 2 ^ 64 ≤ 2 ^ 128
     still_fit fits i past =
-        let is = going.gained.sums cells.layer i cells.row in
-        let none = part_none (cells.layer == cells.layer) (cells.row == cells.row) cells.first first i (area_at i) past in
+        let is = going.gained.sums cells.layer i cells.major in
+        let none = part_none (cells.layer == cells.layer) (cells.major == cells.major) cells.first first i (area_at i) past in
         let room = fits i (omega (arith, going.behind)) in
         omega (arith, is, none, room)
 
@@ -180,7 +180,7 @@ module _ (columns : List ℤ) (cells : RowCells) (strip : Strip) (old : BlockSum
         sums = λ l i j.
             let was = going.gained.sums l i j in
             let is = step.sums l i j in
-            let both = part_step (cells.layer == l) (cells.row == j) cells.first first end i (area_at i) going.behind more in
+            let both = part_step (cells.layer == l) (cells.major == j) cells.first first end i (area_at i) going.behind more in
             omega (arith, was, is, both);
       };
     }
@@ -190,7 +190,7 @@ module _ (columns : List ℤ) (cells : RowCells) (strip : Strip) (old : BlockSum
     all_gained past = record { sums = λ l i j. going.gained.sums l i j ∙ ap (λ n. sum_at old l i j + n) (by l i j) }
       where
         by : (l i j : ℕ) → strip_gains columns (cells_to cells first) strip l i j ≡ strip_gains columns cells strip l i j
-        by l i j = part_all (cells.layer == l) (cells.row == j) cells.first first cells.end i (area_at i) past going.upto
+        by l i j = part_all (cells.layer == l) (cells.major == j) cells.first first cells.end i (area_at i) past going.upto
 
     -- and where the next can't, none has gained more
     pub some_gained : (next : BlockSums) → first < cells.end → ((l i j : ℕ) → sum_at next l i j ≡ sum_at now l i j) → HasGainedAtMost old next (strip_gains columns cells strip)
@@ -198,7 +198,7 @@ module _ (columns : List ℤ) (cells : RowCells) (strip : Strip) (old : BlockSum
       sums = λ l i j.
           let was = going.gained.sums l i j in
           let is = same l i j in
-          let both = part_step (cells.layer == l) (cells.row == j) cells.first first cells.end i (area_at i) going.behind (omega (arith, more)) in
+          let both = part_step (cells.layer == l) (cells.major == j) cells.first first cells.end i (area_at i) going.behind (omega (arith, more)) in
           omega (arith, was, is, both);
     }
 

@@ -4,3 +4,4 @@ pub mod OrderLemmas
 pub mod RectangleLemmas
 pub mod BlockLemmas
 pub mod CoverLemmas
+pub mod TableLemmas

@@ -6,8 +6,8 @@ use Rattle.cell_sums.specs.Blocks.{BlockSums, Gains, HasGained, HasGainedAtMost,
 use Rattle.cell_sums.specs.Covered.{IsCovered}
 use Rattle.cell_sums.specs.Lines.{AreLines, common_length, is_from, shared_by}
 use Rattle.cell_sums.specs.Tables.{rectangle_gains}
-use Rattle.cell_sums.specs.declared.row_cells.RowCells.{RowCells}
-use Rattle.cell_sums.specs.declared.row_cells.Strip.{Strip}
+use Rattle.cell_sums.specs.declared.runs.Run.{Run}
+use Rattle.cell_sums.specs.declared.runs.Strip.{Strip}
 use Rattle.cell_sums.proofs.CoverLemmas.{between_none, between_some}
 use Rattle.cell_sums.proofs.LengthLemmas.{extent_small}
 
@@ -79,11 +79,11 @@ module _ (columns rows : List ℤ) (layer : ℕ) (r : Rectangle) where
         ap₂ (λ a b. if (layer == l) && ((row == j) && is_from c0 c1 i) then common_length columns a b i * height else 0) low_is high_is
         ∙ strip_row (layer == l) (row == j) (is_from c0 c1 i) i j (λ h. grind (arith, nat_tests)) (λ h. covered.outside i h)
 
-    module _ (old now next : BlockSums) (first : ℕ) (going : RowsGoing columns rows layer r old now first row) (cells : RowCells) (strip : Strip)
-        (cells_are : cells ≡ record { layer = layer; row = row; first = c0; end = c1 }) (low_is : strip.low ≡ r.x1) (high_is : strip.high ≡ r.x2) (height_is : strip.height ≡ height) where
+    module _ (old now next : BlockSums) (first : ℕ) (going : RowsGoing columns rows layer r old now first row) (cells : Run) (strip : Strip)
+        (cells_are : cells ≡ record { layer = layer; major = row; first = c0; end = c1 }) (low_is : strip.low ≡ r.x1) (high_is : strip.high ≡ r.x2) (height_is : strip.height ≡ height) where
       gains_are : (l i j : ℕ) → strip_gains columns cells strip l i j ≡ (if (layer == l) && (row == j) then area i j else 0)
       gains_are l i j =
-          ap₂ (λ (k : RowCells) (h : ℕ). if (k.layer == l) && ((k.row == j) && is_from k.first k.end i) then common_length columns strip.low strip.high i * h else 0) cells_are height_is
+          ap₂ (λ (k : Run) (h : ℕ). if (k.layer == l) && ((k.major == j) && is_from k.first k.end i) then common_length columns strip.low strip.high i * h else 0) cells_are height_is
           ∙ row_gained strip.low strip.high low_is high_is l i j
 
       pub rows_on : HasGained now next (strip_gains columns cells strip) → RowsGoing columns rows layer r old next first (row + 1)

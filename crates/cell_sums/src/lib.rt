@@ -7,14 +7,20 @@
 //! `measure_rules/specs/Density`.
 //!
 //! Only cells that some rectangle covered take memory, in blocks of 64 that stand in a row, with a slot or two a block by which it is
-//! found again. The one error is `AllocError`, of `add` alone; what is lent is copied out.
+//! found again. A tall rectangle, one that covers more than eight times as many rows as columns, is kept by columns: it is added in
+//! other blocks, of 64 that stand in a column, so that it needs no block for each of its rows. The sum of a cell is what stands in the
+//! blocks of both kinds, and cells that were covered in both ways take memory in both. A line takes 8 bytes, and some 16 to 32 more
+//! in a table by which lines are found.
+//!
+//! The one error is `AllocError`, of `add` alone, where memory is refused and where 2^64 - 1 rectangles were added already; what is
+//! lent is copied out.
 #![tactic(auto)]
 
 mod blocks;
 mod cell_sums;
 mod lines;
 mod noted_places;
-mod row_cells;
+mod runs;
 mod stretch;
 
 pub use cell_sums::CellSums;

@@ -3,7 +3,7 @@ use Rattle.cell_sums.proofs.GainLemmas.{Going}
 use Rattle.cell_sums.proofs.blocks.Blocks.add.Given as goal
 
 abbrev pub invariant-loop-first : goal.invariant-loop-first
-invariant-loop-first g l = Going l.initial.self l.self l.columns l.cells l.strip l.first
+invariant-loop-first g l = Going l.initial.self l.self l.lines l.cells l.strip l.first
 
 abbrev pub decreases-loop-first : goal.decreases-loop-first
 decreases-loop-first g l = l.cells.end - l.first
