@@ -1,5 +1,5 @@
 -- Which columns, or rows, a stretch covers.
-use Rattle.std.proofs.Common.{◌≡◌, ◌+◌, ◌-◌, ◌<◌, ◌≤◌, ◌≤ℤ◌, ◌+ℤ◌, ◌-ℤ◌, nat_abs, pos, negsuc, FitsSigned, w64, ◌^◌, min, max, Bool, true, false, ◌⊎◌, inl, inr, nat_lt, ℕ, zero, suc, List, [], ◌∷◌, length, ℤ, Some, None, refl, sym, ap, ap₂, ◌∙◌, arith, get_or, not}
+use Rattle.std.proofs.Common.{◌≡◌, ◌+◌, ◌-◌, ◌<◌, ◌≤◌, ◌≤ℤ◌, ◌<ℤ◌, ◌+ℤ◌, ◌-ℤ◌, nat_abs, pos, negsuc, FitsSigned, w64, ◌^◌, min, max, Bool, true, false, ◌⊎◌, inl, inr, nat_lt, ℕ, zero, suc, List, [], ◌∷◌, length, ℤ, Some, None, refl, sym, ap, ap₂, ◌∙◌, arith, get_or, not}
 use Rattle.std.proofs.lemmas.Bool.Decides.{nat_tests}
 use Rattle.std.proofs.lemmas.Int.{ints, clamps}
 use Rattle.std.specs.Int.{int_max, int_min, saturate_to_bits}
@@ -45,6 +45,23 @@ rises_at (l ∷ ls) zero zero d up le within = omega (arith, ints)
 rises_at (l ∷ ls) (suc i) zero d up le within = absurd (omega (arith, le))
 rises_at (l ∷ ls) zero (suc j) d up le within = later_than l ls j d up.0 (omega (arith, within))
 rises_at (l ∷ ls) (suc i) (suc j) d up le within = rises_at ls i j d up.1 (omega (arith, le)) (omega (arith, within))
+
+next_rises : (ls : List ℤ) (i : ℕ) (d : ℤ) → IsStrictlySortedBy int_cmp ls → suc i < length ls → get_or ls i d <ℤ get_or ls (suc i) d
+unfolding IsStrictlySortedBy
+next_rises [] i d up within = absurd (omega (arith, within))
+next_rises (l ∷ []) i d up within = absurd (omega (arith, within))
+next_rises (l ∷ m ∷ ls) zero d up within = let first = up.0.0 in grind (arith, ints)
+next_rises (l ∷ m ∷ ls) (suc i) d up within = next_rises (m ∷ ls) i d up.1 (omega (arith, within))
+
+apart : (l m : ℤ) → l <ℤ m → 1 ≤ nat_abs (m -ℤ l)
+apart l m h = omega (arith, ints, h)
+
+-- a column that is there has some length
+pub some_width : (ls : List ℤ) (i : ℕ) → IsStrictlySortedBy int_cmp ls → i + 1 < length ls → 1 ≤ width ls i
+some_width ls i up within =
+    let is = ap width_by (between_some ls i (pos 0) (pos 0) (omega (arith, within))) in
+    let some = apart _ _ (next_rises ls i (pos 0) up (omega (arith, within))) in
+    omega (arith, is, some)
 
 below_too : (a b t : ℤ) → a ≤ℤ b → lt_z b t ≡ true → lt_z a t ≡ true
 below_too a b t le h = grind (arith, ints)
@@ -135,7 +152,10 @@ whole l m low high le ge up =
 
 -- fewer columns of those that a stretch covers
 pub fewer_full : (ls : List ℤ) (low high : ℤ) (first end from to : ℕ) → AreFull ls low high first end → first ≤ from → to ≤ end → AreFull ls low high from to
-fewer_full ls low high first end from to full behind upto = record { inside = λ i above below. full.inside i (omega (arith, behind, above)) (omega (arith, upto, below)) }
+fewer_full ls low high first end from to full behind upto = record {
+  inside = λ i above below. full.inside i (omega (arith, behind, above)) (omega (arith, upto, below));
+  within = λ some. let within = full.within (omega (arith, behind, upto, some)) in omega (arith, upto, within);
+}
 
 -- a line before the place that follows another doesn't lie behind that one
 ends_before : (l m low next high : ℤ) → next ≤ℤ (low +ℤ pos 1) → lt_z m next ≡ true → int_min m high ≤ℤ int_max l low
@@ -180,5 +200,5 @@ module _ (ls : List ℤ) (up : IsStrictlySortedBy int_cmp ls) (low next high : �
   covered_is first end top first_is top_is end_is = record {
     ordered = omega arith;
     outside = λ i h. outside i first end top first_is top_is end_is h;
-    full = record { inside = λ i above below. full_at i first end top first_is top_is end_is above below };
+    full = record { inside = λ i above below. full_at i first end top first_is top_is end_is above below; within = λ some. omega (arith, top_is, end_is, some) };
   }

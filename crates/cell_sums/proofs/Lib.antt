@@ -5,3 +5,4 @@ pub mod RectangleLemmas
 pub mod BlockLemmas
 pub mod CoverLemmas
 pub mod TableLemmas
+pub mod SheetLemmas

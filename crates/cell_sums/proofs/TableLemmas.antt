@@ -3,14 +3,14 @@ use Rattle.std.proofs.Common.{◌≡◌, ◌+◌, ◌*◌, ◌^◌, ◌<◌, ◌
 use Rattle.design_model.specs.Geometry.{Rectangle}
 use Rattle.measure_rules.specs.Density.{common_area}
 use Rattle.measure_rules.specs.GridCells.{between, cell_among}
-use Rattle.cell_sums.specs.Blocks.{BlockSums, HasGained, sum_at}
+use Rattle.cell_sums.specs.Sheets.{HasGrown, SheetSums, total}
 use Rattle.cell_sums.specs.Lines.{common_length, shared_by}
 use Rattle.cell_sums.specs.Tables.{Adds, AreBounded, rectangle_gains, spanned}
 use Rattle.cell_sums.specs.declared.stretch.Stretch.{Stretch}
 
 -- the sum of two fits
-pub sum_fits : (b upright : BlockSums) (added : ℕ) → AreBounded b upright added → (l i j : ℕ) → sum_at b l i j + sum_at upright l j i < 2 ^ 128
-sum_fits b upright added bounded l i j = let is = bounded.sums l i j in omega (arith, is, bounded.few)
+pub sum_fits : (columns rows : List ℤ) (flat upright : SheetSums) (added : ℕ) → AreBounded columns rows flat upright added → (l i j : ℕ) → total columns flat l i j + total rows upright l j i < 2 ^ 128
+sum_fits columns rows flat upright added bounded l i j = let is = bounded.sums l i j in omega (arith, is, bounded.few)
 
 one_cell : (a b : Rectangle) → Some a ≡ Some b → a ≡ b
 one_cell a b e = cc
@@ -38,24 +38,24 @@ module _ (columns rows : List ℤ) (layer added more : ℕ) (one : more ≡ adde
       ∙ ap (λ a. if layer == l then a else 0) (cell_area columns rows i j r cell (between columns i) (between rows j) refl refl e)
 
   -- a rectangle that is added along rows,
-  pub wide_adds : (b next upright : BlockSums) → HasGained b next (rectangle_gains columns rows layer (spanned across upward))
-      → Adds layer r (record { columns = columns; rows = rows; added = added; blocks = b; upright = upright }) (record { columns = columns; rows = rows; added = more; blocks = next; upright = upright })
-  wide_adds b next upright step = record {
+  pub wide_adds : (flat next upright : SheetSums) → HasGrown columns flat next (rectangle_gains columns rows layer (spanned across upward))
+      → Adds layer r (record { columns = columns; rows = rows; added = added; flat = flat; upright = upright }) (record { columns = columns; rows = rows; added = more; flat = next; upright = upright })
+  wide_adds flat next upright step = record {
     columns = refl;
     rows = refl;
     added = one;
-    sums = λ l i j cell e. let is = step.sums l i j in let area = gain l i j cell e in omega (arith, is, area);
+    sums = λ l i j cell e. let is = step.totals l i j in let area = gain l i j cell e in omega (arith, is, area);
   }
 
   -- and one that is added along columns
-  pub tall_adds : (b upright next : BlockSums) → HasGained upright next (rectangle_gains rows columns layer (spanned upward across))
-      → Adds layer r (record { columns = columns; rows = rows; added = added; blocks = b; upright = upright }) (record { columns = columns; rows = rows; added = more; blocks = b; upright = next })
-  tall_adds b upright next step = record {
+  pub tall_adds : (flat upright next : SheetSums) → HasGrown rows upright next (rectangle_gains rows columns layer (spanned upward across))
+      → Adds layer r (record { columns = columns; rows = rows; added = added; flat = flat; upright = upright }) (record { columns = columns; rows = rows; added = more; flat = flat; upright = next })
+  tall_adds flat upright next step = record {
     columns = refl;
     rows = refl;
     added = one;
     sums = λ l i j cell e.
-        let is = step.sums l j i in
+        let is = step.totals l j i in
         let turned = ap (λ a. if layer == l then a else 0) (swap (common_length rows upward.low upward.high j) (common_length columns across.low across.high i)) in
         let area = gain l i j cell e in
         omega (arith, is, turned, area);

@@ -38,9 +38,17 @@ sum_at b layer minor major = sum_in b.sums (minor % 64) (block_at b.keys (layer,
 abbrev pub Gains : Type 0
 Gains = ℕ → ℕ → ℕ → ℕ
 
--- what consecutive cells of one major number gain from a strip of a rectangle
+-- what consecutive cells of one major number gain, each by its minor number
+abbrev pub run_gains : Run → (ℕ → ℕ) → Gains
+run_gains cells gain l i j = if (cells.layer == l) && ((cells.major == j) && is_from cells.first cells.end i) then gain i else 0
+
+-- the area that a strip of a rectangle has in common with a cell
+abbrev pub strip_area : List ℤ → Strip → ℕ → ℕ
+strip_area lines strip i = common_length lines strip.low strip.high i * strip.height
+
+-- what consecutive cells of one major number gain from a strip
 abbrev pub strip_gains : List ℤ → Run → Strip → Gains
-strip_gains lines cells strip l i j = if (cells.layer == l) && ((cells.major == j) && is_from cells.first cells.end i) then common_length lines strip.low strip.high i * strip.height else 0
+strip_gains lines cells strip = run_gains cells (strip_area lines strip)
 
 -- each sum has grown by what its cell gains,
 pub record HasGained (old new : BlockSums) (gains : Gains) : Type 0 where

@@ -1,7 +1,7 @@
 //! Sums in blocks of 64, each for neighbours along one axis of a layer.
 
 ghost use Rattle.std.specs.Prelude.{◌≡◌, true, ◌<◌, ◌≤◌, ◌+◌, ◌*◌, ◌/◌, ◌-◌, ◌^◌, ◌==◌, ℕ, Some, IfOk, OnOk, OnErr, length, slice_index, if◌then◌else◌};
-ghost use Rattle.cell_sums.specs.Blocks.{HasGained, HasGainedAtMost, block_at, no_sums, strip_gains, sum_at};
+ghost use Rattle.cell_sums.specs.Blocks.{HasGained, HasGainedAtMost, block_at, no_sums, run_gains, strip_gains, sum_at};
 ghost use Rattle.cell_sums.specs.Covered.{AreFull};
 ghost use Rattle.cell_sums.specs.Lines.{common_length, is_from, width};
 
@@ -73,6 +73,17 @@ fn add_full_areas<A: Allocator>(
 {
     for offset in 0..count {
         sums[place + offset] += lines.width(first + offset) as u128 * height as u128;
+    }
+}
+
+/// Adds a height to consecutive sums, of which the first stands at a place.
+fn add_height(sums: &mut [u128], place: usize, height: u64, count: usize)
+    requires within { place + count ≤ length sums.old }
+    requires fits { (n : ℕ) → place ≤ n → n < place + count → slice_index sums.old n + 2 ^ 64 ≤ 2 ^ 128 }
+    ensures { (n : ℕ) → slice_index sums.new n ≡ slice_index sums.old n + (if is_from place (place + count) n then height else 0) }
+{
+    for offset in 0..count {
+        sums[place + offset] += height as u128;
     }
 }
 
@@ -172,7 +183,7 @@ impl<A: Allocator + Copy> Blocks<A> {
         requires some { cells.now.first < cells.now.end }
         requires together { cells.now.end ≤ cells.now.first / 64 * 64 + 64 }
         requires full { AreFull lines.now strip.now.low strip.now.high cells.now.first cells.now.end }
-        requires fits { (i : ℕ) → cells.now.first ≤ i → sum_at self.old cells.now.layer i cells.now.major + 2 ^ 64 ≤ 2 ^ 128 }
+        requires fits { (i : ℕ) → cells.now.first ≤ i → i < cells.now.end → sum_at self.old cells.now.layer i cells.now.major + 2 ^ 64 ≤ 2 ^ 128 }
         ensures added { OnOk result (HasGained self.old self.new (strip_gains lines.now cells.now strip.now)) }
         ensures refused { OnErr result ((l i j : ℕ) → sum_at self.new l i j ≡ sum_at self.old l i j) }
     {
@@ -193,7 +204,7 @@ impl<A: Allocator + Copy> Blocks<A> {
         strip: &Strip,
     ) -> Result<(), AllocError>
         requires full { AreFull lines.now strip.now.low strip.now.high cells.now.first cells.now.end }
-        requires fits { (i : ℕ) → cells.now.first ≤ i → sum_at self.old cells.now.layer i cells.now.major + 2 ^ 64 ≤ 2 ^ 128 }
+        requires fits { (i : ℕ) → cells.now.first ≤ i → i < cells.now.end → sum_at self.old cells.now.layer i cells.now.major + 2 ^ 64 ≤ 2 ^ 128 }
         ensures added { OnOk result (HasGained self.old self.new (strip_gains lines.now cells.now strip.now)) }
         ensures at_most { HasGainedAtMost self.old self.new (strip_gains lines.now cells.now strip.now) }
     {
@@ -206,6 +217,41 @@ impl<A: Allocator + Copy> Blocks<A> {
                 ..*cells
             };
             self.add_to_block(&part, lines, strip)?;
+            first = end;
+        }
+        Ok(())
+    }
+
+    /// Adds a height to cells of one block.
+    fn add_height_to_block(&mut self, cells: &Run, height: u64) -> Result<(), AllocError>
+        requires some { cells.now.first < cells.now.end }
+        requires together { cells.now.end ≤ cells.now.first / 64 * 64 + 64 }
+        requires fits { (i : ℕ) → cells.now.first ≤ i → i < cells.now.end → sum_at self.old cells.now.layer i cells.now.major + 2 ^ 64 ≤ 2 ^ 128 }
+        ensures added { OnOk result (HasGained self.old self.new (run_gains cells.now (λ i. height))) }
+        ensures refused { OnErr result ((l i j : ℕ) → sum_at self.new l i j ≡ sum_at self.old l i j) }
+    {
+        let block = self.block((cells.layer, cells.major, cells.first / BLOCK))?;
+        let sums = self.sums.as_mut_slice();
+        let place = block * BLOCK + cells.first % BLOCK;
+        add_height(sums, place, height, cells.end - cells.first);
+        Ok(())
+    }
+
+    /// Adds a height to cells. A refused growth may leave it added to some of them.
+    pub(crate) fn add_heights(&mut self, cells: &Run, height: u64) -> Result<(), AllocError>
+        requires fits { (i : ℕ) → cells.now.first ≤ i → i < cells.now.end → sum_at self.old cells.now.layer i cells.now.major + 2 ^ 64 ≤ 2 ^ 128 }
+        ensures added { OnOk result (HasGained self.old self.new (run_gains cells.now (λ i. height))) }
+        ensures at_most { HasGainedAtMost self.old self.new (run_gains cells.now (λ i. height)) }
+    {
+        let mut first = cells.first;
+        while first < cells.end {
+            let end = first + (BLOCK - first % BLOCK).min(cells.end - first);
+            let part = Run {
+                first,
+                end,
+                ..*cells
+            };
+            self.add_height_to_block(&part, height)?;
             first = end;
         }
         Ok(())

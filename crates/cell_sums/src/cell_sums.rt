@@ -4,14 +4,14 @@ ghost use Rattle.std.specs.Prelude.{◌≡◌, ◌<◌, ◌≤◌, ◌+◌, ◌^
 ghost use Rattle.std.specs.Option.{option_map};
 ghost use Rattle.design_model.specs.Views.{rectangle_of};
 ghost use Rattle.measure_rules.specs.GridCells.{cell_among};
-ghost use Rattle.cell_sums.specs.Blocks.{HasGained, sum_at};
 ghost use Rattle.cell_sums.specs.Covered.{IsCovered};
 ghost use Rattle.cell_sums.specs.Lines.{AreLines};
+ghost use Rattle.cell_sums.specs.Sheets.{HasGrown, total};
 ghost use Rattle.cell_sums.specs.Tables.{Adds, IsNew, rectangle_gains, spanned, sums};
 
-use crate::blocks::Blocks;
 use crate::lines::GridLines;
 use crate::runs::{Run, Strip};
+use crate::sheets::Sheet;
 use crate::stretch::{Covered, Stretch};
 use design_model::geometry::Rect;
 use std::alloc::{AllocError, Allocator, Global};
@@ -26,10 +26,10 @@ const TALL: usize = 8;
 pub struct CellSums<A: Allocator = Global> {
     columns: GridLines<A>,
     rows: GridLines<A>,
-    /// What rectangles added that aren't tall, in blocks along rows.
-    blocks: Blocks<A>,
-    /// What tall rectangles added, in blocks along columns.
-    upright: Blocks<A>,
+    /// What rectangles added that aren't tall, along rows.
+    flat: Sheet<A>,
+    /// What tall rectangles added, along columns.
+    upright: Sheet<A>,
     /// How many rectangles were added, a refused one too: no sum is more than that times 2^64.
     added: u64,
 }
@@ -39,15 +39,15 @@ impl<A: Allocator> Model for CellSums<A> {
 
     ghost Value = { CellTable };
 
-    ghost view = { λ s. record { columns = s.columns; rows = s.rows; added = s.added; blocks = s.blocks; upright = s.upright } };
+    ghost view = { λ s. record { columns = s.columns; rows = s.rows; added = s.added; flat = s.flat; upright = s.upright } };
 
-    ghost invariant = { λ s. AreBounded s.blocks s.upright s.added };
+    ghost invariant = { λ s. AreBounded s.columns s.rows s.flat s.upright s.added };
 }
 
 /// Adds to each cell of a layer the area that it has in common with a rectangle, strip by strip along the lines of one axis. The two
 /// stretches are the rectangle's along and across these. A refused growth may leave some of the areas added.
 fn add_strips<A: Allocator + Copy>(
-    blocks: &mut Blocks<A>,
+    sheet: &mut Sheet<A>,
     lines: &GridLines<A>,
     crossing: &GridLines<A>,
     layer: usize,
@@ -58,9 +58,9 @@ fn add_strips<A: Allocator + Copy>(
     requires crossing { AreLines crossing.now }
     requires along { IsCovered lines.now along.now.stretch.low along.now.stretch.high along.now.first along.now.end }
     requires across { IsCovered crossing.now across.now.stretch.low across.now.stretch.high across.now.first across.now.end }
-    requires fits { (i j : ℕ) → sum_at blocks.old layer i j + 2 ^ 64 ≤ 2 ^ 128 }
-    ensures added { OnOk result (HasGained blocks.old blocks.new (rectangle_gains lines.now crossing.now layer (spanned along.now.stretch across.now.stretch))) }
-    ensures at_most { (l i j : ℕ) → sum_at blocks.new l i j ≤ sum_at blocks.old l i j + 2 ^ 64 }
+    requires fits { (i j : ℕ) → total lines.now sheet.old layer i j + 2 ^ 64 ≤ 2 ^ 128 }
+    ensures added { OnOk result (HasGrown lines.now sheet.old sheet.new (rectangle_gains lines.now crossing.now layer (spanned along.now.stretch across.now.stretch))) }
+    ensures at_most { (l i j : ℕ) → total lines.now sheet.new l i j ≤ total lines.now sheet.old l i j + 2 ^ 64 }
 {
     for major in across.first..across.end {
         let cells = Run {
@@ -74,7 +74,7 @@ fn add_strips<A: Allocator + Copy>(
             high: along.stretch.high,
             height: crossing.common_length(major, across.stretch),
         };
-        blocks.add(&cells, lines, &strip)?;
+        sheet.add(&cells, lines, &strip)?;
     }
     Ok(())
 }
@@ -92,8 +92,8 @@ impl<A: Allocator + Copy> CellSums<A> {
         CellSums {
             columns,
             rows,
-            blocks: Blocks::new(alloc, hash_builder),
-            upright: Blocks::new(alloc, hash_builder),
+            flat: Sheet::new(alloc, hash_builder),
+            upright: Sheet::new(alloc, hash_builder),
             added: 0,
         }
     }
@@ -123,7 +123,7 @@ impl<A: Allocator + Copy> CellSums<A> {
             );
         }
         add_strips(
-            &mut self.blocks,
+            &mut self.flat,
             &self.columns,
             &self.rows,
             layer,
@@ -138,6 +138,8 @@ impl<A: Allocator + Copy> CellSums<A> {
     {
         self.columns.between(column)?;
         self.rows.between(row)?;
-        Some(self.blocks.sum(layer, column, row) + self.upright.sum(layer, row, column))
+        let flat = self.flat.sum(&self.columns, layer, column, row);
+        let upright = self.upright.sum(&self.rows, layer, row, column);
+        Some(flat + upright)
     }
 }

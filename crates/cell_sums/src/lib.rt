@@ -21,6 +21,7 @@ mod cell_sums;
 mod lines;
 mod noted_places;
 mod runs;
+mod sheets;
 mod stretch;
 
 pub use cell_sums::CellSums;

@@ -18,8 +18,8 @@ returns-then-rows-saturating_mul g c =
     let y2 : upward.high ≡ r.y2 = ap (λ (s : Stretch). s.high) c.covered-rows.ensures.stretch ∙ to_z-of_z w64 _ (search rules) in
     on_ok_weaker c.add_strips.result
     (λ gained.
-    subst (λ (t : CellTable). Adds c.args.layer r t (record { columns = c.self.inside.columns; rows = c.self.inside.rows; added = c.in_ok-self-inside.field-0; blocks = c.self.inside.blocks; upright = c.add_strips.new.blocks })) c.self.view_is
-    (tall_adds c.self.inside.columns c.self.inside.rows c.args.layer c.self.inside.added c.in_ok-self-inside.field-0 (search rules) r across upward x1 x2 y1 y2 c.self.inside.blocks c.self.inside.upright c.add_strips.new.blocks gained))
+    subst (λ (t : CellTable). Adds c.args.layer r t (record { columns = c.self.inside.columns; rows = c.self.inside.rows; added = c.in_ok-self-inside.field-0; flat = c.self.inside.flat; upright = c.add_strips.new.sheet })) c.self.view_is
+    (tall_adds c.self.inside.columns c.self.inside.rows c.args.layer c.self.inside.added c.in_ok-self-inside.field-0 (search rules) r across upward x1 x2 y1 y2 c.self.inside.flat c.self.inside.upright c.add_strips.new.sheet gained))
     c.add_strips.ensures.added
 
 pub returns : goal.returns
@@ -33,6 +33,6 @@ returns g c =
     let y2 : upward.high ≡ r.y2 = ap (λ (s : Stretch). s.high) c.covered-rows.ensures.stretch ∙ to_z-of_z w64 _ (search rules) in
     on_ok_weaker c.add_strips-2.result
     (λ gained.
-    subst (λ (t : CellTable). Adds c.args.layer r t (record { columns = c.self.inside.columns; rows = c.self.inside.rows; added = c.in_ok-self-inside.field-0; blocks = c.add_strips-2.new.blocks; upright = c.self.inside.upright })) c.self.view_is
-    (wide_adds c.self.inside.columns c.self.inside.rows c.args.layer c.self.inside.added c.in_ok-self-inside.field-0 (search rules) r across upward x1 x2 y1 y2 c.self.inside.blocks c.add_strips-2.new.blocks c.self.inside.upright gained))
+    subst (λ (t : CellTable). Adds c.args.layer r t (record { columns = c.self.inside.columns; rows = c.self.inside.rows; added = c.in_ok-self-inside.field-0; flat = c.add_strips-2.new.sheet; upright = c.self.inside.upright })) c.self.view_is
+    (wide_adds c.self.inside.columns c.self.inside.rows c.args.layer c.self.inside.added c.in_ok-self-inside.field-0 (search rules) r across upward x1 x2 y1 y2 c.self.inside.flat c.add_strips-2.new.sheet c.self.inside.upright gained))
     c.add_strips-2.ensures.added

@@ -4,5 +4,5 @@ use Rattle.cell_sums.proofs.cell_sums.CellSums.sum.Goals as goal
 
 pub overflow_add-result : goal.overflow_add-result
 overflow_add-result g c =
-    let fits = sum_fits c.self.inside.blocks c.self.inside.upright c.self.inside.added c.self.invariant c.args.layer c.args.column c.args.row in
-    omega (arith, fits, c.sum.ensures, c.sum-2.ensures)
+    let fits = sum_fits c.self.inside.columns c.self.inside.rows c.self.inside.flat c.self.inside.upright c.self.inside.added c.self.invariant c.args.layer c.args.column c.args.row in
+    omega (arith, fits, c.sum-flat.ensures, c.sum-upright.ensures)
