@@ -230,7 +230,8 @@ impl<A: Allocator + Copy> Blocks<A> {
         ensures added { OnOk result (HasGained self.old self.new (run_gains cells.now (λ i. height))) }
         ensures refused { OnErr result ((l i j : ℕ) → sum_at self.new l i j ≡ sum_at self.old l i j) }
     {
-        let block = self.block((cells.layer, cells.major, cells.first / BLOCK))?;
+        let key = (cells.layer, cells.major, cells.first / BLOCK);
+        let block = self.block(key)?;
         let sums = self.sums.as_mut_slice();
         let place = block * BLOCK + cells.first % BLOCK;
         add_height(sums, place, height, cells.end - cells.first);
@@ -245,7 +246,8 @@ impl<A: Allocator + Copy> Blocks<A> {
     {
         let mut first = cells.first;
         while first < cells.end {
-            let end = first + (BLOCK - first % BLOCK).min(cells.end - first);
+            let left = cells.end - first;
+            let end = first + left.min(BLOCK - first % BLOCK);
             let part = Run {
                 first,
                 end,

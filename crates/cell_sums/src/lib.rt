@@ -6,11 +6,13 @@
 //! `specs/Tables`, where `Adds` says what `add` does to it; cells are those of `measure_rules/specs/GridCells`, and areas those of
 //! `measure_rules/specs/Density`.
 //!
-//! Only cells that some rectangle covered take memory, in blocks of 64 that stand in a row, with a slot or two a block by which it is
-//! found again. A tall rectangle, one that covers more than eight times as many rows as columns, is kept by columns: it is added in
-//! other blocks, of 64 that stand in a column, so that it needs no block for each of its rows. The sum of a cell is what stands in the
-//! blocks of both kinds, and cells that were covered in both ways take memory in both. A line takes 8 bytes, and some 16 to 32 more
-//! in a table by which lines are found.
+//! Only cells that some rectangle covered take memory, in blocks of 64 sums, with a slot or two a block by which it is found again. A
+//! rectangle is added strip by strip, row by row. Where it reaches over all of 16 cells of a row that begin at a multiple of 16, a
+//! chunk, its height there is added once for the chunk, in other blocks; the sum of a cell is the areas that were added to it, and its
+//! width by the heights that were added to its chunk. A tall rectangle, one that covers more than eight times as many rows as columns,
+//! is kept by columns instead: its strips are columns, and it needs no block for each of its rows. What is kept by rows and by columns
+//! stands in blocks of its own, so cells that were covered in both ways take memory in both. A line takes 8 bytes, and some 16 to 32
+//! more in a table by which lines are found.
 //!
 //! The one error is `AllocError`, of `add` alone, where memory is refused and where 2^64 - 1 rectangles were added already; what is
 //! lent is copied out.
