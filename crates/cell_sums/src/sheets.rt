@@ -16,7 +16,7 @@ use std::marker::Model;
 /// How many cells make a chunk.
 const CHUNK: usize = 16;
 
-/// Sums by layer, minor and major number. What of a strip reaches over all cells of a chunk is kept by its height, once for the chunk.
+/// Sums by layer, minor and major number. Where a strip covers cells on both sides of a chunk, its height is kept once for the chunk.
 #[derive(Drop)]
 pub(crate) struct Sheet<A: Allocator = Global> {
     /// Areas, by the cell.
