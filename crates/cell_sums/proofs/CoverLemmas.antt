@@ -1,5 +1,5 @@
 -- Which columns, or rows, a stretch covers.
-use Rattle.std.proofs.Common.{◌≡◌, ◌+◌, ◌-◌, ◌<◌, ◌≤◌, ◌≤ℤ◌, ◌+ℤ◌, pos, negsuc, FitsSigned, w64, ◌^◌, min, max, Bool, true, false, ◌⊎◌, inl, inr, nat_lt, ℕ, zero, suc, List, [], ◌∷◌, length, ℤ, Some, None, refl, sym, ap, ap₂, ◌∙◌, arith, get_or, not}
+use Rattle.std.proofs.Common.{◌≡◌, ◌+◌, ◌-◌, ◌<◌, ◌≤◌, ◌≤ℤ◌, ◌<ℤ◌, ◌+ℤ◌, ◌-ℤ◌, nat_abs, pos, negsuc, FitsSigned, w64, ◌^◌, min, max, Bool, true, false, ◌⊎◌, inl, inr, nat_lt, ℕ, zero, suc, List, [], ◌∷◌, length, ℤ, Some, None, refl, sym, ap, ap₂, ◌∙◌, arith, get_or, not}
 use Rattle.std.proofs.lemmas.Bool.Decides.{nat_tests}
 use Rattle.std.proofs.lemmas.Int.{ints, clamps}
 use Rattle.std.specs.Int.{int_max, int_min, saturate_to_bits}
@@ -8,9 +8,10 @@ use Rattle.std.specs.List.{AllByRecursion}
 use Rattle.std.specs.List.Sorted.{IsPartitionedBy, IsStrictlySortedBy}
 use Rattle.std.specs.Ordering.{int_cmp}
 use Rattle.std.specs.declared.cmp.Ordering.TheVariants.{Less}
+use Rattle.measure_rules.specs.Density.{extent}
 use Rattle.measure_rules.specs.GridCells.{between}
-use Rattle.cell_sums.specs.Covered.{AreBefore, IsCovered, is_before}
-use Rattle.cell_sums.specs.Lines.{common_length, is_from, shared_by}
+use Rattle.cell_sums.specs.Covered.{AreBefore, AreFull, IsCovered, is_before}
+use Rattle.cell_sums.specs.Lines.{common_length, is_from, shared_by, width, width_by}
 use Rattle.cell_sums.proofs.LengthLemmas.{extent_none}
 
 pub between_some : (ls : List ℤ) (i : ℕ) (d e : ℤ) → suc i < length ls → between ls i ≡ Some (get_or ls i d, get_or ls (suc i) e)
@@ -44,6 +45,23 @@ rises_at (l ∷ ls) zero zero d up le within = omega (arith, ints)
 rises_at (l ∷ ls) (suc i) zero d up le within = absurd (omega (arith, le))
 rises_at (l ∷ ls) zero (suc j) d up le within = later_than l ls j d up.0 (omega (arith, within))
 rises_at (l ∷ ls) (suc i) (suc j) d up le within = rises_at ls i j d up.1 (omega (arith, le)) (omega (arith, within))
+
+next_rises : (ls : List ℤ) (i : ℕ) (d : ℤ) → IsStrictlySortedBy int_cmp ls → suc i < length ls → get_or ls i d <ℤ get_or ls (suc i) d
+unfolding IsStrictlySortedBy
+next_rises [] i d up within = absurd (omega (arith, within))
+next_rises (l ∷ []) i d up within = absurd (omega (arith, within))
+next_rises (l ∷ m ∷ ls) zero d up within = let first = up.0.0 in grind (arith, ints)
+next_rises (l ∷ m ∷ ls) (suc i) d up within = next_rises (m ∷ ls) i d up.1 (omega (arith, within))
+
+apart : (l m : ℤ) → l <ℤ m → 1 ≤ nat_abs (m -ℤ l)
+apart l m h = omega (arith, ints, h)
+
+-- a column that is there has some length
+pub some_width : (ls : List ℤ) (i : ℕ) → IsStrictlySortedBy int_cmp ls → i + 1 < length ls → 1 ≤ width ls i
+some_width ls i up within =
+    let is = ap width_by (between_some ls i (pos 0) (pos 0) (omega (arith, within))) in
+    let some = apart _ _ (next_rises ls i (pos 0) up (omega (arith, within))) in
+    omega (arith, is, some)
 
 below_too : (a b t : ℤ) → a ≤ℤ b → lt_z b t ≡ true → lt_z a t ≡ true
 below_too a b t le h = grind (arith, ints)
@@ -109,6 +127,36 @@ next_follows (negsuc (suc n)) next fits is =
     let small : n < 2 ^ 63 = omega (arith, fits) in
     omega (arith, ints, sum, next_is, small)
 
+-- and it isn't before that one
+pub next_not_before : (low next : ℤ) → FitsSigned w64 low → next ≡ saturate_to_bits 63 (low +ℤ pos 1) → low ≤ℤ next
+next_not_before (pos n) next fits is = omega (arith, ints, is, fits)
+next_not_before (negsuc zero) next fits is = omega (arith, ints, is)
+next_not_before (negsuc (suc n)) next fits is =
+    let sum : (negsuc (suc n) +ℤ pos 1) ≡ negsuc n = omega (arith, ints) in
+    let next_is = is ∙ ap (saturate_to_bits 63) sum in
+    let small : n < 2 ^ 63 = omega (arith, fits) in
+    omega (arith, ints, sum, next_is, small)
+
+-- what lies between two lines of a stretch lies in it as a whole
+not_behind : (l low next : ℤ) → low ≤ℤ next → lt_z l next ≡ false → low ≤ℤ l
+not_behind l low next le h = grind (arith, ints)
+
+upto_high : (m high : ℤ) → lt_z m high ≡ true → m ≤ℤ high
+upto_high m high h = grind (arith, ints)
+
+whole : (l m low high : ℤ) → low ≤ℤ l → m ≤ℤ high → l ≤ℤ m → extent (int_max l low) (int_min m high) ≡ nat_abs (m -ℤ l)
+whole l m low high le ge up =
+    let from : int_max l low ≡ l = omega (arith, ints, clamps, le) in
+    let to : int_min m high ≡ m = omega (arith, ints, clamps, ge) in
+    ap₂ extent from to ∙ omega (arith, ints, clamps, up)
+
+-- fewer columns of those that a stretch covers
+pub fewer_full : (ls : List ℤ) (low high : ℤ) (first end from to : ℕ) → AreFull ls low high first end → first ≤ from → to ≤ end → AreFull ls low high from to
+fewer_full ls low high first end from to full behind upto = record {
+  inside = λ i above below. full.inside i (omega (arith, behind, above)) (omega (arith, upto, below));
+  within = λ some. let within = full.within (omega (arith, behind, upto, some)) in omega (arith, upto, within);
+}
+
 -- a line before the place that follows another doesn't lie behind that one
 ends_before : (l m low next high : ℤ) → next ≤ℤ (low +ℤ pos 1) → lt_z m next ≡ true → int_min m high ≤ℤ int_max l low
 ends_before l m low next high le h = grind (arith, ints, clamps)
@@ -120,7 +168,7 @@ begins_behind l m low high h = grind (arith, ints, clamps)
 outside_cases : (first end i : ℕ) → is_from first end i ≡ false → (i < first) ⊎ (end ≤ i)
 outside_cases first end i h = grind (arith, nat_tests)
 
-module _ (ls : List ℤ) (low next high : ℤ) (follows : next ≤ℤ (low +ℤ pos 1)) (p q : ℕ) (before : AreBefore ls next p) (upto : AreBefore ls high q) where
+module _ (ls : List ℤ) (up : IsStrictlySortedBy int_cmp ls) (low next high : ℤ) (follows : next ≤ℤ (low +ℤ pos 1)) (behind : low ≤ℤ next) (p q : ℕ) (before : AreBefore ls next p) (upto : AreBefore ls high q) where
   none_shared : (i : ℕ) → suc i < length ls → (i < p - 1) ⊎ (q ≤ i) → common_length ls low high i ≡ 0
   none_shared i within (inl h) =
       ap (λ o. shared_by low high o) (between_some ls i low low within)
@@ -140,5 +188,17 @@ module _ (ls : List ℤ) (low next high : ℤ) (follows : next ≤ℤ (low +ℤ 
       by (inl k) true w = none_shared i (grind (arith, nat_tests)) (inl (omega (arith, k, first_is)))
       by (inr k) true w = none_shared i (grind (arith, nat_tests)) (inr (grind (arith, nat_tests)))
 
+  full_at : (i first end top : ℕ) → first ≡ p - 1 → top ≡ min q (length ls - 1) → end ≡ max top first → first < i → i + 1 < end → common_length ls low high i ≡ width ls i
+  full_at i first end top first_is top_is end_is above below =
+      let within : suc i < length ls = omega arith in
+      let from = not_behind (get_or ls i low) low next behind (before.1 i low (omega arith) (omega (arith, within))) in
+      let to = upto_high (get_or ls (suc i) low) high (upto.0 (suc i) low (omega arith) (omega arith)) in
+      let there = between_some ls i low low within in
+      ap (λ o. shared_by low high o) there ∙ whole _ _ low high from to (rises_at ls i (suc i) low up (omega arith) within) ∙ sym (ap width_by there)
+
   pub covered_is : (first end top : ℕ) → first ≡ p - 1 → top ≡ min q (length ls - 1) → end ≡ max top first → IsCovered ls low high first end
-  covered_is first end top first_is top_is end_is = record { ordered = omega arith; outside = λ i h. outside i first end top first_is top_is end_is h }
+  covered_is first end top first_is top_is end_is = record {
+    ordered = omega arith;
+    outside = λ i h. outside i first end top first_is top_is end_is h;
+    full = record { inside = λ i above below. full_at i first end top first_is top_is end_is above below; within = λ some. omega (arith, top_is, end_is, some) };
+  }

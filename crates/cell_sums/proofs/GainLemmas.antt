@@ -1,13 +1,12 @@
 -- What cells gain, block by block.
 use Rattle.std.proofs.Common.{◌≡◌, ◌+◌, ◌*◌, ◌/◌, ◌%◌, ◌-◌, ◌^◌, ◌<◌, ◌≤◌, max, ℕ, Bool, true, false, if◌then◌else◌, ◌==◌, ◌&&◌, List, ℤ, get_or, Option, Some, None, refl, sym, ap, ap₂, ◌∙◌, arith}
 use Rattle.std.proofs.lemmas.Bool.Decides.{nat_tests}
-use Rattle.cell_sums.specs.Blocks.{BlockSums, Gains, HasGained, HasGainedAtMost, Key, block_at, strip_gains, sum_at, sum_in}
-use Rattle.cell_sums.specs.Lines.{common_length, is_from}
-use Rattle.cell_sums.specs.declared.row_cells.RowCells.{RowCells}
-use Rattle.cell_sums.specs.declared.row_cells.Strip.{Strip}
+use Rattle.cell_sums.specs.Blocks.{BlockSums, Gains, HasGained, HasGainedAtMost, Key, block_at, run_gains, sum_at, sum_in}
+use Rattle.cell_sums.specs.Lines.{is_from}
+use Rattle.cell_sums.specs.declared.runs.Run.{Run}
 use Rattle.cell_sums.proofs.BlockLemmas.{one_key}
 
--- places within a block, and in their row
+-- places within a block, and in their run
 in_block : (b q r s end : ℕ) → q * 64 + r < end → is_from (b * 64 + r) (b * 64 + r + (end - (q * 64 + r))) (b * 64 + s) ≡ is_from (q * 64 + r) end (q * 64 + s)
 in_block b q r s end some = grind (arith, nat_tests)
 
@@ -21,7 +20,7 @@ on_row layer row l j w t is h = (grind (arith, nat_tests), grind (arith, nat_tes
 same_row : (layer row l j : ℕ) (w : Bool) → layer ≡ l → row ≡ j → ((layer == l) && ((row == j) && w)) ≡ w
 same_row layer row l j w e f = grind (arith, nat_tests)
 
--- places of one block are of one row's block
+-- places of one block are of one run's block
 one_block : (first end i : ℕ) → end ≤ first / 64 * 64 + 64 → is_from first end i ≡ true → first / 64 ≡ i / 64
 one_block first end i together h = grind (arith, nat_tests)
 
@@ -57,50 +56,47 @@ module _ (b : ℕ) where
 
 -- where sums of one block have room, so have those at their places
 pub fits_at : (b : BlockSums) (layer row first end m : ℕ) → block_at b.keys (layer, row, first / 64) ≡ Some m → end ≤ first / 64 * 64 + 64
-    → ((i : ℕ) → first ≤ i → sum_at b layer i row + 2 ^ 64 ≤ 2 ^ 128)
+    → ((i : ℕ) → first ≤ i → i < end → sum_at b layer i row + 2 ^ 64 ≤ 2 ^ 128)
     → (n : ℕ) → m * 64 + first % 64 ≤ n → n < m * 64 + first % 64 + (end - first) → get_or b.sums n 0 + 2 ^ 64 ≤ 2 ^ 128
 fits_at b layer row first end m found together fits n low high =
     let i : ℕ = first + (n - (m * 64 + first % 64)) in
     let quotient : i / 64 ≡ first / 64 = omega arith in
     let place : m * 64 + i % 64 ≡ n = omega arith in
     let is : sum_at b layer i row ≡ get_or b.sums n 0 = ap (λ q. sum_in b.sums (i % 64) (block_at b.keys (layer, row, q))) quotient ∙ ap (λ (o : Option ℕ). sum_in b.sums (i % 64) o) found ∙ ap (λ k. get_or b.sums k 0) place in
-    let room = fits i (omega arith) in
+    let room = fits i (omega arith) (omega (arith, low, high)) in
     omega (arith, is, room)
 
-module _ (columns : List ℤ) (cells : RowCells) (strip : Strip) (keys : List Key) (old new : List ℕ) (b : ℕ) where
-  abbrev area : ℕ → ℕ
-  area i = common_length columns strip.low strip.high i * strip.height
-
-  module _ (found : block_at keys (cells.layer, cells.row, cells.first / 64) ≡ Some b) (some : cells.first < cells.end) (together : cells.end ≤ cells.first / 64 * 64 + 64)
+module _ (cells : Run) (area : ℕ → ℕ) (keys : List Key) (old new : List ℕ) (b : ℕ) where
+  module _ (found : block_at keys (cells.layer, cells.major, cells.first / 64) ≡ Some b) (some : cells.first < cells.end) (together : cells.end ≤ cells.first / 64 * 64 + 64)
       (added : (n : ℕ) → get_or new n 0 ≡ get_or old n 0 + (if is_from (b * 64 + cells.first % 64) (b * 64 + cells.first % 64 + (cells.end - cells.first)) n then area (cells.first + (n - (b * 64 + cells.first % 64))) else 0)) where
     -- the key of a cell among them
-    own_key : (l i j : ℕ) (t : Bool) → ((cells.layer == l) && ((cells.row == j) && is_from cells.first cells.end i)) ≡ t → t ≡ true → block_at keys (l, j, i / 64) ≡ Some b
+    own_key : (l i j : ℕ) (t : Bool) → ((cells.layer == l) && ((cells.major == j) && is_from cells.first cells.end i)) ≡ t → t ≡ true → block_at keys (l, j, i / 64) ≡ Some b
     own_key l i j t is h =
-        let on = on_row cells.layer cells.row l j (is_from cells.first cells.end i) t is h in
-        let same : (cells.layer, cells.row, cells.first / 64) ≡ (l, j, i / 64) = ap₂ (λ x y. (x, cells.row, y)) on.0 (one_block cells.first cells.end i together on.2) ∙ ap (λ y. (l, y, i / 64)) on.1 in
+        let on = on_row cells.layer cells.major l j (is_from cells.first cells.end i) t is h in
+        let same : (cells.layer, cells.major, cells.first / 64) ≡ (l, j, i / 64) = ap₂ (λ x y. (x, cells.major, y)) on.0 (one_block cells.first cells.end i together on.2) ∙ ap (λ y. (l, y, i / 64)) on.1 in
         ap (λ k. block_at keys k) (sym same) ∙ found
 
-    no_gain : (l i j : ℕ) (t : Bool) → ((cells.layer == l) && ((cells.row == j) && is_from cells.first cells.end i)) ≡ t → (block_at keys (l, j, i / 64) ≡ Some b → t ≡ false) → (if t then area i else 0) ≡ 0
+    no_gain : (l i j : ℕ) (t : Bool) → ((cells.layer == l) && ((cells.major == j) && is_from cells.first cells.end i)) ≡ t → (block_at keys (l, j, i / 64) ≡ Some b → t ≡ false) → (if t then area i else 0) ≡ 0
     no_gain l i j false is other = refl
     no_gain l i j true is other = let h = other (own_key l i j true is refl) in cc
 
     gains_same : (l i j : ℕ) → block_at keys (l, j, i / 64) ≡ Some b
         → (if is_from (b * 64 + cells.first % 64) (b * 64 + cells.first % 64 + (cells.end - cells.first)) (b * 64 + i % 64) then area (cells.first + ((b * 64 + i % 64) - (b * 64 + cells.first % 64))) else 0)
-        ≡ strip_gains columns cells strip l i j
+        ≡ run_gains cells area l i j
     gains_same l i j e =
-        let own : (cells.layer, cells.row, cells.first / 64) ≡ (l, j, i / 64) = one_key keys (cells.layer, cells.row, cells.first / 64) (l, j, i / 64) b found e in
+        let own : (cells.layer, cells.major, cells.first / 64) ≡ (l, j, i / 64) = one_key keys (cells.layer, cells.major, cells.first / 64) (l, j, i / 64) b found e in
         let layer : cells.layer ≡ l = ap (λ (k : Key). k.0) own in
-        let row : cells.row ≡ j = ap (λ (k : Key). k.1) own in
+        let row : cells.major ≡ j = ap (λ (k : Key). k.1) own in
         let quotient : cells.first / 64 ≡ i / 64 = ap (λ (k : Key). k.2) own in
         if_same _ _ _ _
-        (block_places b (cells.first / 64) cells.first i cells.end refl quotient some ∙ sym (same_row cells.layer cells.row l j (is_from cells.first cells.end i) layer row))
-        (λ h. ap area (place_is b (cells.first / 64) cells.first i cells.end refl quotient (on_row cells.layer cells.row l j _ true h refl).2))
+        (block_places b (cells.first / 64) cells.first i cells.end refl quotient some ∙ sym (same_row cells.layer cells.major l j (is_from cells.first cells.end i) layer row))
+        (λ h. ap area (place_is b (cells.first / 64) cells.first i cells.end refl quotient (on_row cells.layer cells.major l j _ true h refl).2))
 
-    gained_at : (l i j : ℕ) (o : Option ℕ) → block_at keys (l, j, i / 64) ≡ o → sum_in new (i % 64) o ≡ sum_in old (i % 64) o + strip_gains columns cells strip l i j
-    gained_at l i j None e = let none : strip_gains columns cells strip l i j ≡ 0 = no_gain l i j _ refl (λ own. absurd (none_some b (sym e ∙ own))) in omega (arith, none)
+    gained_at : (l i j : ℕ) (o : Option ℕ) → block_at keys (l, j, i / 64) ≡ o → sum_in new (i % 64) o ≡ sum_in old (i % 64) o + run_gains cells area l i j
+    gained_at l i j None e = let none : run_gains cells area l i j ≡ 0 = no_gain l i j _ refl (λ own. absurd (none_some b (sym e ∙ own))) in omega (arith, none)
     gained_at l i j (Some m) e = by (m == b) refl
       where
-        by : (t : Bool) → (m == b) ≡ t → get_or new (m * 64 + i % 64) 0 ≡ get_or old (m * 64 + i % 64) 0 + strip_gains columns cells strip l i j
+        by : (t : Bool) → (m == b) ≡ t → get_or new (m * 64 + i % 64) 0 ≡ get_or old (m * 64 + i % 64) 0 + run_gains cells area l i j
         by true h =
             let same : m ≡ b = grind (arith, nat_tests) in
             let own : block_at keys (l, j, i / 64) ≡ Some b = e ∙ ap (λ n. Some n) same in
@@ -109,23 +105,23 @@ module _ (columns : List ℤ) (cells : RowCells) (strip : Strip) (keys : List Ke
         by false h =
             let step = added (m * 64 + i % 64) in
             let out = other_block b m (cells.first % 64) (i % 64) (cells.end - cells.first) h (omega (arith, some, together)) (omega arith) in
-            let none : strip_gains columns cells strip l i j ≡ 0 = no_gain l i j _ refl (λ own. let other : m ≡ b = some_same m b (sym e ∙ own) in absurd (not_same m b h other)) in
+            let none : run_gains cells area l i j ≡ 0 = no_gain l i j _ refl (λ own. let other : m ≡ b = some_same m b (sym e ∙ own) in absurd (not_same m b h other)) in
             step ∙ ap (λ n. get_or old (m * 64 + i % 64) 0 + n) (ap (λ t. if t then area (cells.first + ((m * 64 + i % 64) - (b * 64 + cells.first % 64))) else 0) out ∙ sym none)
 
-    gained : (l i j : ℕ) → sum_at (record { keys = keys; sums = new }) l i j ≡ sum_at (record { keys = keys; sums = old }) l i j + strip_gains columns cells strip l i j
+    gained : (l i j : ℕ) → sum_at (record { keys = keys; sums = new }) l i j ≡ sum_at (record { keys = keys; sums = old }) l i j + run_gains cells area l i j
     gained l i j = gained_at l i j (block_at keys (l, j, i / 64)) refl
 
-    pub block_gained : HasGained (record { keys = keys; sums = old }) (record { keys = keys; sums = new }) (strip_gains columns cells strip)
+    pub block_gained : HasGained (record { keys = keys; sums = old }) (record { keys = keys; sums = new }) (run_gains cells area)
     block_gained = record { sums = gained }
 
--- the cells of a row up to a column
-abbrev pub cells_to : RowCells → ℕ → RowCells
+-- the cells of a run up to a number
+abbrev pub cells_to : Run → ℕ → Run
 cells_to cells end = record cells { end = end }
 
-abbrev pub cells_from : RowCells → ℕ → ℕ → RowCells
+abbrev pub cells_from : Run → ℕ → ℕ → Run
 cells_from cells first end = record cells { first = first; end = end }
 
-part_step : (s t : Bool) (f0 f e i a : ℕ) → f0 ≤ f → f ≤ e
+pub part_step : (s t : Bool) (f0 f e i a : ℕ) → f0 ≤ f → f ≤ e
     → (if s && (t && is_from f0 e i) then a else 0) ≡ (if s && (t && is_from f0 f i) then a else 0) + (if s && (t && is_from f e i) then a else 0)
 part_step false t f0 f e i a low high = refl
 part_step true false f0 f e i a low high = refl
@@ -146,33 +142,30 @@ part_all false t f0 f e i a past upto = refl
 part_all true false f0 f e i a past upto = refl
 part_all true true f0 f e i a past upto = grind (arith, nat_tests)
 
--- how far a loop over the cells of a row has come
-pub record Going (old now : BlockSums) (columns : List ℤ) (cells : RowCells) (strip : Strip) (first : ℕ) : Type 0 where
+-- how far a loop over the cells of a run has come
+pub record Going (old now : BlockSums) (cells : Run) (area : ℕ → ℕ) (first : ℕ) : Type 0 where
   pub behind : cells.first ≤ first
   pub upto : first ≤ max cells.first cells.end
-  pub gained : HasGained old now (strip_gains columns (cells_to cells first) strip)
+  pub gained : HasGained old now (run_gains (cells_to cells first) area)
 
-module _ (columns : List ℤ) (cells : RowCells) (strip : Strip) (old : BlockSums) where
-  abbrev area_at : ℕ → ℕ
-  area_at i = common_length columns strip.low strip.high i * strip.height
-
-  pub going_first : Going old old columns cells strip cells.first
+module _ (cells : Run) (area : ℕ → ℕ) (old : BlockSums) where
+  pub going_first : Going old old cells area cells.first
   going_first = record {
     behind = omega arith;
     upto = omega arith;
-    gained = record { sums = λ l i j. let none = part_empty (cells.layer == l) (cells.row == j) cells.first cells.first i (area_at i) (omega arith) in omega (arith, none) };
+    gained = record { sums = λ l i j. let none = part_empty (cells.layer == l) (cells.major == j) cells.first cells.first i (area i) (omega arith) in omega (arith, none) };
   }
 
-  module _ (now : BlockSums) (first : ℕ) (going : Going old now columns cells strip first) where
+  module _ (now : BlockSums) (first : ℕ) (going : Going old now cells area first) where
     -- sums that come still have room
-    pub still_fit : ((i : ℕ) → cells.first ≤ i → sum_at old cells.layer i cells.row + 2 ^ 64 ≤ 2 ^ 128) → (i : ℕ) → first ≤ i → sum_at now cells.layer i cells.row + 2 ^ 64 ≤ 2 ^ 128
-    still_fit fits i past =
-        let is = going.gained.sums cells.layer i cells.row in
-        let none = part_none (cells.layer == cells.layer) (cells.row == cells.row) cells.first first i (area_at i) past in
-        let room = fits i (omega (arith, going.behind)) in
+    pub still_fit : ((i : ℕ) → cells.first ≤ i → i < cells.end → sum_at old cells.layer i cells.major + 2 ^ 64 ≤ 2 ^ 128) → (i : ℕ) → first ≤ i → i < cells.end → sum_at now cells.layer i cells.major + 2 ^ 64 ≤ 2 ^ 128
+    still_fit fits i past below =
+        let is = going.gained.sums cells.layer i cells.major in
+        let none = part_none (cells.layer == cells.layer) (cells.major == cells.major) cells.first first i (area i) past in
+        let room = fits i (omega (arith, going.behind)) below in
         omega (arith, is, none, room)
 
-    pub going_on : (next : BlockSums) (end : ℕ) → first ≤ end → end ≤ cells.end → HasGained now next (strip_gains columns (cells_from cells first end) strip) → Going old next columns cells strip end
+    pub going_on : (next : BlockSums) (end : ℕ) → first ≤ end → end ≤ cells.end → HasGained now next (run_gains (cells_from cells first end) area) → Going old next cells area end
     going_on next end more within step = record {
       behind = omega (arith, going.behind);
       upto = omega arith;
@@ -180,25 +173,25 @@ module _ (columns : List ℤ) (cells : RowCells) (strip : Strip) (old : BlockSum
         sums = λ l i j.
             let was = going.gained.sums l i j in
             let is = step.sums l i j in
-            let both = part_step (cells.layer == l) (cells.row == j) cells.first first end i (area_at i) going.behind more in
+            let both = part_step (cells.layer == l) (cells.major == j) cells.first first end i (area i) going.behind more in
             omega (arith, was, is, both);
       };
     }
 
     -- where no cells are left, all have gained,
-    pub all_gained : cells.end ≤ first → HasGained old now (strip_gains columns cells strip)
+    pub all_gained : cells.end ≤ first → HasGained old now (run_gains cells area)
     all_gained past = record { sums = λ l i j. going.gained.sums l i j ∙ ap (λ n. sum_at old l i j + n) (by l i j) }
       where
-        by : (l i j : ℕ) → strip_gains columns (cells_to cells first) strip l i j ≡ strip_gains columns cells strip l i j
-        by l i j = part_all (cells.layer == l) (cells.row == j) cells.first first cells.end i (area_at i) past going.upto
+        by : (l i j : ℕ) → run_gains (cells_to cells first) area l i j ≡ run_gains cells area l i j
+        by l i j = part_all (cells.layer == l) (cells.major == j) cells.first first cells.end i (area i) past going.upto
 
     -- and where the next can't, none has gained more
-    pub some_gained : (next : BlockSums) → first < cells.end → ((l i j : ℕ) → sum_at next l i j ≡ sum_at now l i j) → HasGainedAtMost old next (strip_gains columns cells strip)
+    pub some_gained : (next : BlockSums) → first < cells.end → ((l i j : ℕ) → sum_at next l i j ≡ sum_at now l i j) → HasGainedAtMost old next (run_gains cells area)
     some_gained next more same = record {
       sums = λ l i j.
           let was = going.gained.sums l i j in
           let is = same l i j in
-          let both = part_step (cells.layer == l) (cells.row == j) cells.first first cells.end i (area_at i) going.behind (omega (arith, more)) in
+          let both = part_step (cells.layer == l) (cells.major == j) cells.first first cells.end i (area i) going.behind (omega (arith, more)) in
           omega (arith, was, is, both);
     }
 

@@ -4,3 +4,5 @@ pub mod OrderLemmas
 pub mod RectangleLemmas
 pub mod BlockLemmas
 pub mod CoverLemmas
+pub mod TableLemmas
+pub mod SheetLemmas

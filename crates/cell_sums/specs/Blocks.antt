@@ -1,11 +1,12 @@
--- Sums that are kept in blocks of 64, each for neighbours in a row of a layer.
+-- Sums that are kept in blocks of 64, each for neighbours along one axis of a layer. A cell has a minor number, which counts along that
+-- axis, and a major number, which counts along the other: those of its column and its row, or of its row and its column.
 use Rattle.std.specs.Prelude.{◌≡◌, ◌≤◌, ℕ, ℤ, ◌+◌, ◌*◌, ◌/◌, ◌%◌, Bool, ◌&&◌, ◌==◌, List, [], Option, Some, None, if◌then◌else◌, slice_index}
 use Rattle.std.specs.List.{position}
 use Rattle.cell_sums.specs.Lines.{common_length, is_from}
-use Rattle.cell_sums.specs.declared.row_cells.RowCells.{RowCells}
-use Rattle.cell_sums.specs.declared.row_cells.Strip.{Strip}
+use Rattle.cell_sums.specs.declared.runs.Run.{Run}
+use Rattle.cell_sums.specs.declared.runs.Strip.{Strip}
 
--- the layer, the row and the number of a block in its row
+-- the layer, the major number of a block's cells, and the block's number among those of one major number
 abbrev pub Key : Type 0
 Key = ℕ × ℕ × ℕ
 
@@ -29,17 +30,25 @@ abbrev pub sum_in : List ℕ → ℕ → Option ℕ → ℕ
 sum_in sums offset (Some n) = slice_index sums (n * 64 + offset)
 sum_in sums offset None = 0
 
--- the sum of the cell on a layer in a column and a row: 0 where it has no block
+-- the sum of the cell on a layer with a minor and a major number: 0 where it has no block
 abbrev pub sum_at : BlockSums → ℕ → ℕ → ℕ → ℕ
-sum_at b layer column row = sum_in b.sums (column % 64) (block_at b.keys (layer, row, column / 64))
+sum_at b layer minor major = sum_in b.sums (minor % 64) (block_at b.keys (layer, major, minor / 64))
 
--- what each cell of a layer, in a column and a row, has or gains
+-- what each cell of a layer, with a minor and a major number, has or gains
 abbrev pub Gains : Type 0
 Gains = ℕ → ℕ → ℕ → ℕ
 
--- what consecutive cells of a row gain from a strip of a rectangle
-abbrev pub strip_gains : List ℤ → RowCells → Strip → Gains
-strip_gains columns cells strip l i j = if (cells.layer == l) && ((cells.row == j) && is_from cells.first cells.end i) then common_length columns strip.low strip.high i * strip.height else 0
+-- what consecutive cells of one major number gain, each by its minor number
+abbrev pub run_gains : Run → (ℕ → ℕ) → Gains
+run_gains cells gain l i j = if (cells.layer == l) && ((cells.major == j) && is_from cells.first cells.end i) then gain i else 0
+
+-- the area that a strip of a rectangle has in common with a cell
+abbrev pub strip_area : List ℤ → Strip → ℕ → ℕ
+strip_area lines strip i = common_length lines strip.low strip.high i * strip.height
+
+-- what consecutive cells of one major number gain from a strip
+abbrev pub strip_gains : List ℤ → Run → Strip → Gains
+strip_gains lines cells strip = run_gains cells (strip_area lines strip)
 
 -- each sum has grown by what its cell gains,
 pub record HasGained (old new : BlockSums) (gains : Gains) : Type 0 where

@@ -1,8 +1,8 @@
 -- Which columns, or rows, a stretch covers.
-use Rattle.std.specs.Prelude.{◌≡◌, ◌≤◌, ℕ, zero, suc, Bool, true, false, List, [], ◌∷◌, ℤ}
+use Rattle.std.specs.Prelude.{◌≡◌, ◌≤◌, ◌<◌, ◌+◌, ℕ, zero, suc, Bool, true, false, List, [], ◌∷◌, length, ℤ}
 use Rattle.std.specs.Int.Signed.{lt_z}
 use Rattle.std.specs.List.Sorted.{IsPartitionPoint}
-use Rattle.cell_sums.specs.Lines.{common_length, is_from}
+use Rattle.cell_sums.specs.Lines.{common_length, is_from, width}
 
 -- there is a line of a number, and it lies before a place
 abbrev pub is_before : List ℤ → ℤ → ℕ → Bool
@@ -14,7 +14,13 @@ is_before (l ∷ ls) place (suc i) = is_before ls place i
 abbrev pub AreBefore : List ℤ → ℤ → ℕ → Type 0
 AreBefore ls place count = IsPartitionPoint (λ l. lt_z l place ≡ true) (λ l. lt_z l place ≡ false) ls count
 
--- no column outside of those from one up to another has length in common with a stretch
+-- columns from one up to another, where there are some, are there, and those between the first and the last lie in a stretch as a whole
+pub record AreFull (ls : List ℤ) (low high : ℤ) (first end : ℕ) : Type 0 where
+  pub inside : (i : ℕ) → first < i → i + 1 < end → common_length ls low high i ≡ width ls i
+  pub within : first < end → end < length ls
+
+-- no column outside of them has length in common with it
 pub record IsCovered (ls : List ℤ) (low high : ℤ) (first end : ℕ) : Type 0 where
   pub ordered : first ≤ end
   pub outside : (i : ℕ) → is_from first end i ≡ false → common_length ls low high i ≡ 0
+  pub full : AreFull ls low high first end

@@ -2,3 +2,4 @@ pub mod Covered
 pub mod Blocks
 pub mod Lines
 pub mod Tables
+pub mod Sheets

@@ -1,5 +1,5 @@
 -- Lines in order, and what a stretch has in common with the columns, or rows, between them.
-use Rattle.std.specs.Prelude.{ℕ, List, Option, Some, None, ℤ, Bool, ◌&&◌, nat_le, nat_lt}
+use Rattle.std.specs.Prelude.{ℕ, List, Option, Some, None, ℤ, Bool, ◌&&◌, nat_le, nat_lt, nat_abs, ◌-ℤ◌}
 use Rattle.std.specs.Int.{int_max, int_min}
 use Rattle.std.specs.List.{All}
 use Rattle.std.specs.List.Sorted.{IsStrictlySortedBy}
@@ -29,6 +29,15 @@ shared_by low high None = 0
 -- the length that the column of a number, or the row, has in common with it
 abbrev pub common_length : List ℤ → ℤ → ℤ → ℕ → ℕ
 common_length ls low high i = shared_by low high (between ls i)
+
+-- the length from one line to another
+abbrev pub width_by : Option (ℤ × ℤ) → ℕ
+width_by (Some c) = nat_abs (c.1 -ℤ c.0)
+width_by None = 0
+
+-- the length of the column of a number, or of the row
+abbrev pub width : List ℤ → ℕ → ℕ
+width ls i = width_by (between ls i)
 
 -- from a number up to, and without, another
 abbrev pub is_from : ℕ → ℕ → ℕ → Bool

@@ -1,22 +1,23 @@
-//! Sums in blocks of 64, each for neighbours in a row of a layer.
+//! Sums in blocks of 64, each for neighbours along one axis of a layer.
 
-ghost use Rattle.std.specs.Prelude.{◌≡◌, true, ◌<◌, ◌≤◌, ◌+◌, ◌*◌, ◌/◌, ◌-◌, ◌^◌, ℕ, Some, IfOk, OnOk, OnErr, length, slice_index, if◌then◌else◌};
-ghost use Rattle.cell_sums.specs.Blocks.{HasGained, HasGainedAtMost, block_at, no_sums, strip_gains, sum_at};
-ghost use Rattle.cell_sums.specs.Lines.{common_length, is_from};
+ghost use Rattle.std.specs.Prelude.{◌≡◌, true, ◌<◌, ◌≤◌, ◌+◌, ◌*◌, ◌/◌, ◌-◌, ◌^◌, ◌==◌, ℕ, Some, IfOk, OnOk, OnErr, length, slice_index, if◌then◌else◌};
+ghost use Rattle.cell_sums.specs.Blocks.{HasGained, HasGainedAtMost, block_at, no_sums, run_gains, strip_gains, sum_at};
+ghost use Rattle.cell_sums.specs.Covered.{AreFull};
+ghost use Rattle.cell_sums.specs.Lines.{common_length, is_from, width};
 
 use crate::lines::GridLines;
 use crate::noted_places::NotedPlaces;
-use crate::row_cells::{Key, RowCells, Strip};
+use crate::runs::{Key, Run, Strip};
 use crate::stretch::Stretch;
 use indexmap::IndexSet;
 use std::alloc::{AllocError, Allocator, Global};
 use std::hash::RandomState;
 use std::marker::Model;
 
-/// How many cells of a row share a block.
+/// How many cells of a run share a block.
 const BLOCK: usize = 64;
 
-/// Sums by layer, row and column. They take memory only for blocks to which something was added.
+/// Sums by layer, minor and major number. They take memory only for blocks to which something was added.
 #[derive(Drop)]
 pub(crate) struct Blocks<A: Allocator = Global> {
     keys: IndexSet<Key, RandomState, A>,
@@ -36,34 +37,78 @@ impl<A: Allocator> Model for Blocks<A> {
     ghost invariant = { λ b. length b.keys.keys * 64 ≤ length b.sums.items };
 }
 
-/// The area that a strip has in common with the column of a number.
-fn area_in<A: Allocator>(columns: &GridLines<A>, strip: &Strip, column: usize) -> u128
-    ensures value { result ≡ common_length columns.now strip.now.low strip.now.high column * strip.now.height }
-    ensures small { result < 2 ^ 64 }
+/// Adds the area that a strip has in common with the cell of a number to the sum at a place.
+fn add_area<A: Allocator>(
+    sums: &mut [u128],
+    place: usize,
+    lines: &GridLines<A>,
+    strip: &Strip,
+    number: usize,
+)
+    requires within { place < length sums.old }
+    requires fits { slice_index sums.old place + 2 ^ 64 ≤ 2 ^ 128 }
+    ensures { (n : ℕ) → slice_index sums.new n ≡ slice_index sums.old n + (if place == n then common_length lines.now strip.now.low strip.now.high number * strip.now.height else 0) }
 {
     let stretch = Stretch {
         low: strip.low,
         high: strip.high,
     };
-    columns.common_length(column, stretch) as u128 * strip.height as u128
+    sums[place] += lines.common_length(number, stretch) as u128 * strip.height as u128;
 }
 
-/// Adds the areas that a strip has in common with consecutive columns to as many sums, of which the first stands at a place.
-fn add_areas<A: Allocator>(
+/// Adds the areas of a strip that reaches over consecutive cells to as many sums, of which the first stands at a place.
+fn add_full_areas<A: Allocator>(
     sums: &mut [u128],
     place: usize,
-    columns: &GridLines<A>,
-    strip: &Strip,
+    lines: &GridLines<A>,
+    height: u64,
     first: usize,
     count: usize,
 )
     requires within { place + count ≤ length sums.old }
-    requires columns_fit { first + count < 2 ^ 64 }
+    requires numbers_fit { first + count < 2 ^ 64 }
+    requires small { height < 2 ^ 32 }
     requires fits { (n : ℕ) → place ≤ n → n < place + count → slice_index sums.old n + 2 ^ 64 ≤ 2 ^ 128 }
-    ensures { (n : ℕ) → slice_index sums.new n ≡ slice_index sums.old n + (if is_from place (place + count) n then common_length columns.now strip.now.low strip.now.high (first + (n - place)) * strip.now.height else 0) }
+    ensures { (n : ℕ) → slice_index sums.new n ≡ slice_index sums.old n + (if is_from place (place + count) n then width lines.now (first + (n - place)) * height else 0) }
 {
     for offset in 0..count {
-        sums[place + offset] += area_in(columns, strip, first + offset);
+        sums[place + offset] += lines.width(first + offset) as u128 * height as u128;
+    }
+}
+
+/// Adds a height to consecutive sums, of which the first stands at a place.
+fn add_height(sums: &mut [u128], place: usize, height: u64, count: usize)
+    requires within { place + count ≤ length sums.old }
+    requires fits { (n : ℕ) → place ≤ n → n < place + count → slice_index sums.old n + 2 ^ 64 ≤ 2 ^ 128 }
+    ensures { (n : ℕ) → slice_index sums.new n ≡ slice_index sums.old n + (if is_from place (place + count) n then height else 0) }
+{
+    for offset in 0..count {
+        sums[place + offset] += height as u128;
+    }
+}
+
+/// Adds the areas that a strip has in common with consecutive cells to as many sums, of which the first stands at a place. It reaches
+/// over those between the first and the last as a whole.
+fn add_areas<A: Allocator>(
+    sums: &mut [u128],
+    place: usize,
+    lines: &GridLines<A>,
+    strip: &Strip,
+    first: usize,
+    count: usize,
+)
+    requires some { 0 < count }
+    requires within { place + count ≤ length sums.old }
+    requires numbers_fit { first + count < 2 ^ 64 }
+    requires full { AreFull lines.now strip.now.low strip.now.high first (first + count) }
+    requires fits { (n : ℕ) → place ≤ n → n < place + count → slice_index sums.old n + 2 ^ 64 ≤ 2 ^ 128 }
+    ensures { (n : ℕ) → slice_index sums.new n ≡ slice_index sums.old n + (if is_from place (place + count) n then common_length lines.now strip.now.low strip.now.high (first + (n - place)) * strip.now.height else 0) }
+{
+    add_area(sums, place, lines, strip, first);
+    let others = count - 1;
+    if others > 0 {
+        add_full_areas(sums, place + 1, lines, strip.height, first + 1, others - 1);
+        add_area(sums, place + others, lines, strip, first + others);
     }
 }
 
@@ -80,11 +125,11 @@ impl<A: Allocator + Copy> Blocks<A> {
     }
 
     /// The sum of a cell: 0 where nothing was added.
-    pub(crate) fn sum(&self, layer: usize, column: usize, row: usize) -> u128
-        ensures { result ≡ sum_at self.now layer column row }
+    pub(crate) fn sum(&self, layer: usize, minor: usize, major: usize) -> u128
+        ensures { result ≡ sum_at self.now layer minor major }
     {
-        match self.keys.get_index_of(&(layer, row, column / BLOCK)) {
-            Some(block) => self.sums[block * BLOCK + column % BLOCK],
+        match self.keys.get_index_of(&(layer, major, minor / BLOCK)) {
+            Some(block) => self.sums[block * BLOCK + minor % BLOCK],
             None => 0,
         }
     }
@@ -128,47 +173,87 @@ impl<A: Allocator + Copy> Blocks<A> {
         Ok(block)
     }
 
-    /// Adds the areas that a strip has in common with cells of one block.
+    /// Adds the areas that a strip has in common with cells of one block. It reaches over those between the first and the last as a whole.
     fn add_to_block<L: Allocator>(
         &mut self,
-        cells: &RowCells,
-        columns: &GridLines<L>,
+        cells: &Run,
+        lines: &GridLines<L>,
         strip: &Strip,
     ) -> Result<(), AllocError>
         requires some { cells.now.first < cells.now.end }
         requires together { cells.now.end ≤ cells.now.first / 64 * 64 + 64 }
-        requires fits { (i : ℕ) → cells.now.first ≤ i → sum_at self.old cells.now.layer i cells.now.row + 2 ^ 64 ≤ 2 ^ 128 }
-        ensures added { OnOk result (HasGained self.old self.new (strip_gains columns.now cells.now strip.now)) }
+        requires full { AreFull lines.now strip.now.low strip.now.high cells.now.first cells.now.end }
+        requires fits { (i : ℕ) → cells.now.first ≤ i → i < cells.now.end → sum_at self.old cells.now.layer i cells.now.major + 2 ^ 64 ≤ 2 ^ 128 }
+        ensures added { OnOk result (HasGained self.old self.new (strip_gains lines.now cells.now strip.now)) }
         ensures refused { OnErr result ((l i j : ℕ) → sum_at self.new l i j ≡ sum_at self.old l i j) }
     {
-        let block = self.block((cells.layer, cells.row, cells.first / BLOCK))?;
+        let block = self.block((cells.layer, cells.major, cells.first / BLOCK))?;
         let sums = self.sums.as_mut_slice();
         let place = block * BLOCK + cells.first % BLOCK;
         let count = cells.end - cells.first;
-        add_areas(sums, place, columns, strip, cells.first, count);
+        add_areas(sums, place, lines, strip, cells.first, count);
         Ok(())
     }
 
-    /// Adds the areas that a strip has in common with cells. A refused growth may leave some of them added.
+    /// Adds the areas that a strip has in common with cells. It reaches over those between the first and the last as a whole. A refused
+    /// growth may leave some of them added.
     pub(crate) fn add<L: Allocator>(
         &mut self,
-        cells: &RowCells,
-        columns: &GridLines<L>,
+        cells: &Run,
+        lines: &GridLines<L>,
         strip: &Strip,
     ) -> Result<(), AllocError>
-        requires { (i : ℕ) → cells.now.first ≤ i → sum_at self.old cells.now.layer i cells.now.row + 2 ^ 64 ≤ 2 ^ 128 }
-        ensures added { OnOk result (HasGained self.old self.new (strip_gains columns.now cells.now strip.now)) }
-        ensures at_most { HasGainedAtMost self.old self.new (strip_gains columns.now cells.now strip.now) }
+        requires full { AreFull lines.now strip.now.low strip.now.high cells.now.first cells.now.end }
+        requires fits { (i : ℕ) → cells.now.first ≤ i → i < cells.now.end → sum_at self.old cells.now.layer i cells.now.major + 2 ^ 64 ≤ 2 ^ 128 }
+        ensures added { OnOk result (HasGained self.old self.new (strip_gains lines.now cells.now strip.now)) }
+        ensures at_most { HasGainedAtMost self.old self.new (strip_gains lines.now cells.now strip.now) }
     {
         let mut first = cells.first;
         while first < cells.end {
             let end = first + (BLOCK - first % BLOCK).min(cells.end - first);
-            let part = RowCells {
+            let part = Run {
                 first,
                 end,
                 ..*cells
             };
-            self.add_to_block(&part, columns, strip)?;
+            self.add_to_block(&part, lines, strip)?;
+            first = end;
+        }
+        Ok(())
+    }
+
+    /// Adds a height to cells of one block.
+    fn add_height_to_block(&mut self, cells: &Run, height: u64) -> Result<(), AllocError>
+        requires some { cells.now.first < cells.now.end }
+        requires together { cells.now.end ≤ cells.now.first / 64 * 64 + 64 }
+        requires fits { (i : ℕ) → cells.now.first ≤ i → i < cells.now.end → sum_at self.old cells.now.layer i cells.now.major + 2 ^ 64 ≤ 2 ^ 128 }
+        ensures added { OnOk result (HasGained self.old self.new (run_gains cells.now (λ i. height))) }
+        ensures refused { OnErr result ((l i j : ℕ) → sum_at self.new l i j ≡ sum_at self.old l i j) }
+    {
+        let key = (cells.layer, cells.major, cells.first / BLOCK);
+        let block = self.block(key)?;
+        let sums = self.sums.as_mut_slice();
+        let place = block * BLOCK + cells.first % BLOCK;
+        add_height(sums, place, height, cells.end - cells.first);
+        Ok(())
+    }
+
+    /// Adds a height to cells. A refused growth may leave it added to some of them.
+    pub(crate) fn add_heights(&mut self, cells: &Run, height: u64) -> Result<(), AllocError>
+        requires fits { (i : ℕ) → cells.now.first ≤ i → i < cells.now.end → sum_at self.old cells.now.layer i cells.now.major + 2 ^ 64 ≤ 2 ^ 128 }
+        ensures added { OnOk result (HasGained self.old self.new (run_gains cells.now (λ i. height))) }
+        ensures at_most { HasGainedAtMost self.old self.new (run_gains cells.now (λ i. height)) }
+    {
+        let mut first = cells.first;
+        while first < cells.end {
+            let left = cells.end - first;
+            let end = first + left.min(BLOCK - first % BLOCK);
+            let part = Run {
+                first,
+                end,
+                ..*cells
+            };
+            self.add_height_to_block(&part, height)?;
             first = end;
         }
         Ok(())

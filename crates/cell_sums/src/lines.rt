@@ -5,21 +5,29 @@ ghost use Rattle.std.specs.List.{All};
 ghost use Rattle.design_model.specs.Ranges.{IsWithin};
 ghost use Rattle.measure_rules.specs.GridCells.{between, in_order};
 ghost use Rattle.cell_sums.specs.Covered.{AreBefore, IsCovered, is_before};
-ghost use Rattle.cell_sums.specs.Lines.{AreLines, common_length, farthest};
+ghost use Rattle.cell_sums.specs.Lines.{AreLines, common_length, farthest, width};
 
-use crate::stretch::{Places, Stretch, length_shared};
-use std::alloc::{Allocator, Global};
+use crate::stretch::{Covered, Stretch, length_shared};
+use std::alloc::{AllocError, Allocator, Global};
 use std::marker::Model;
 
-/// How many steps a guess is mended by before it is given up.
+/// How many steps a guess by even spacing is mended by before it is given up.
 const STEPS: usize = 8;
+
+/// How many buckets come to a line, and for how many lines at most.
+const BUCKETS: u64 = 4;
+
+const MOST_LINES: u64 = 1 << 28;
 
 /// The lines of one axis of a grid, in order, each once, in database units. Those of columns are found by x, those of rows by y.
 #[derive(Drop)]
 pub struct GridLines<A: Allocator = Global> {
     lines: Vec<i64, A>,
-    /// How many lines come to a unit of length, in parts of 2^32. It serves to guess alone.
-    lines_per_unit: u64,
+    /// How many lines lie before each of so many buckets, stretches of one length; none where memory for them was refused. They serve
+    /// to guess alone.
+    counts: Vec<u32, A>,
+    /// How many buckets, or lines where there are no buckets, come to a unit of length, in parts of 2^32.
+    per_unit: u64,
 }
 
 impl<A: Allocator> Model for GridLines<A> {
@@ -33,18 +41,57 @@ impl<A: Allocator> Model for GridLines<A> {
     ghost invariant = { λ g. AreLines g.lines.items };
 }
 
-/// How many lines in order come to a unit of length, in parts of 2^32, rounded up, so that no guess among evenly spaced ones is low.
-fn lines_per_unit(lines: &[i64]) -> u64 {
+/// How many of so many parts of the length of lines in order come to a unit of length, in parts of 2^32, rounded up.
+fn parts_per_unit(lines: &[i64], parts: u64) -> u64 {
     let (Some(first), Some(last)) = (lines.first(), lines.last()) else {
         return 0;
     };
-    let others = lines.len().saturating_sub(1) as u64;
     let length = last.abs_diff(*first).max(1);
-    ((others << 32) / length).wrapping_add(1)
+    ((parts << 32) / length).wrapping_add(1)
 }
 
-impl<A: Allocator> GridLines<A> {
-    /// Lines in order, each once. It takes no memory.
+/// The part in which a place lies, counted from the first line.
+fn part_at(first: i64, per_unit: u64, place: i64) -> usize {
+    let past = place.saturating_sub(first).max(0).unsigned_abs();
+    (past.wrapping_mul(per_unit) >> 32) as usize
+}
+
+/// How many of lines in order lie before each bucket, up to that of the last line.
+fn counts_of<A: Allocator>(
+    alloc: A,
+    lines: &[i64],
+    per_unit: u64,
+) -> Result<Vec<u32, A>, AllocError> {
+    let mut counts = Vec::new(alloc);
+    let Some(first) = lines.first() else {
+        return Ok(counts);
+    };
+    for (number, line) in lines.iter().enumerate() {
+        let bucket = part_at(*first, per_unit, *line);
+        if counts.len() <= bucket {
+            let before = number.min(u32::MAX as usize) as u32;
+            counts.resize(bucket.saturating_add(1), before)?;
+        }
+    }
+    Ok(counts)
+}
+
+/// The buckets of lines in order and how many of them come to a unit of length, or no buckets and how many lines do.
+fn guesses_of<A: Allocator + Copy>(alloc: A, lines: &[i64]) -> (Vec<u32, A>, u64) {
+    let most = (lines.len() as u64).min(MOST_LINES);
+    let per_unit = parts_per_unit(lines, most * BUCKETS);
+    match counts_of(alloc, lines, per_unit) {
+        Ok(counts) => (counts, per_unit),
+        Err(_) => (
+            Vec::new(alloc),
+            parts_per_unit(lines, most.saturating_sub(1)),
+        ),
+    }
+}
+
+impl<A: Allocator + Copy> GridLines<A> {
+    /// Lines in order, each once. It takes memory for a table by which they are found, some 16 to 32 bytes a line; where that is
+    /// refused, they are found more slowly.
     pub fn of(lines: Vec<i64, A>) -> GridLines<A>
         requires { All (IsWithin farthest) lines.items }
         ensures { result ≡ in_order lines.items }
@@ -52,13 +99,17 @@ impl<A: Allocator> GridLines<A> {
         let mut lines = lines;
         lines.sort_unstable();
         lines.dedup();
-        let lines_per_unit = lines_per_unit(lines.as_slice());
+        let alloc = *lines.allocator();
+        let (counts, per_unit) = guesses_of(alloc, lines.as_slice());
         GridLines {
             lines,
-            lines_per_unit,
+            counts,
+            per_unit,
         }
     }
+}
 
+impl<A: Allocator> GridLines<A> {
     /// The two neighbours among the lines between which the cells of a number lie, counted from 0.
     pub fn between(&self, place: usize) -> Option<(i64, i64)>
         ensures lines { result ≡ between self.now place }
@@ -82,17 +133,30 @@ impl<A: Allocator> GridLines<A> {
         }
     }
 
-    /// About how many lines lie before a place: as many or one less where they are evenly spaced.
+    /// The length of a column, or of a row: 0 where there is none of that number.
+    pub(crate) fn width(&self, place: usize) -> u64
+        ensures value { result ≡ width self.now place }
+        ensures small { result < 2 ^ 32 }
+    {
+        match self.between(place) {
+            Some((low, high)) => high.abs_diff(low),
+            None => 0,
+        }
+    }
+
+    /// About how many lines lie before a place: those before its bucket, where it has one.
     fn guess(&self, place: i64) -> usize {
         let Some(first) = self.lines.first() else {
             return 0;
         };
-        let past = place.saturating_sub(*first).max(0).unsigned_abs();
-        let guess = (past.wrapping_mul(self.lines_per_unit) >> 32) as usize;
-        guess.min(self.lines.len())
+        let part = part_at(*first, self.per_unit, place);
+        match self.counts.get(part) {
+            Some(count) => *count as usize,
+            None => self.mended(part.min(self.lines.len()), place),
+        }
     }
 
-    /// A guess that was mended by a few steps along the lines, as where grids of two spacings lie over each other.
+    /// A guess by even spacing that was mended by a few steps along the lines, as where grids of two spacings lie over each other.
     fn mended(&self, guess: usize, place: i64) -> usize {
         let mut count = guess;
         for _ in 0..STEPS {
@@ -105,6 +169,12 @@ impl<A: Allocator> GridLines<A> {
             }
         }
         count
+    }
+
+    /// A number of lines, and up to two more where those lie before a place.
+    fn stepped(&self, count: usize, place: i64) -> usize {
+        let next = count.wrapping_add(self.is_before(count, place) as usize);
+        next.wrapping_add(self.is_before(next, place) as usize)
     }
 
     /// Whether there is a line of a number, and it lies before a place.
@@ -125,11 +195,15 @@ impl<A: Allocator> GridLines<A> {
         self.is_before(count - 1, place) && !self.is_before(count, place)
     }
 
-    /// How many lines lie before a place. It is looked for from a guess on.
-    fn before(&self, guess: usize, place: i64) -> usize
+    /// How many lines lie before a place. It is looked for from a number on, and then from a guess.
+    fn before(&self, start: usize, place: i64) -> usize
         ensures { AreBefore self.now place result }
     {
-        let count = self.mended(guess, place);
+        let near = self.stepped(start, place);
+        if self.are_before(near, place) {
+            return near;
+        }
+        let count = self.stepped(self.guess(place), place);
         if self.are_before(count, place) {
             return count;
         }
@@ -137,15 +211,17 @@ impl<A: Allocator> GridLines<A> {
     }
 
     /// The columns, or rows, that a stretch covers: no other one has length in common with it.
-    pub(crate) fn covered(&self, stretch: Stretch) -> Places
+    pub(crate) fn covered(&self, stretch: Stretch) -> Covered
+        ensures stretch { result.stretch ≡ stretch }
         ensures covered { IsCovered self.now stretch.low stretch.high result.first result.end }
         ensures lines { AreLines self.now }
     {
         let behind = self.before(self.guess(stretch.low), stretch.low.saturating_add(1));
-        let before = self.before(self.guess(stretch.high), stretch.high);
+        let before = self.before(behind, stretch.high);
         let first = behind.saturating_sub(1);
         let end = before.min(self.lines.len().saturating_sub(1));
-        Places {
+        Covered {
+            stretch,
             first,
             end: end.max(first),
         }

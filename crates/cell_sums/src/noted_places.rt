@@ -1,6 +1,6 @@
 //! Places of blocks, noted by their keys.
 
-use crate::row_cells::Key;
+use crate::runs::Key;
 use std::alloc::{AllocError, Allocator};
 
 /// Where blocks were found last, in slots by their keys. A key may find another one's place in its slot: who reads a place looks
@@ -21,10 +21,10 @@ impl<A: Allocator + Copy> NotedPlaces<A> {
 
     /// The slot of a key, where there are any. A text can make keys share one; they are then found by their hashes.
     fn slot_of(&self, key: Key) -> usize {
-        let (layer, row, block) = key;
+        let (layer, major, block) = key;
         let mixed = layer
             .wrapping_mul(0x9e37_79b9_7f4a_7c15)
-            .wrapping_add(row.wrapping_mul(0xc2b2_ae3d_27d4_eb4f))
+            .wrapping_add(major.wrapping_mul(0xc2b2_ae3d_27d4_eb4f))
             .wrapping_add(block.wrapping_mul(0xd6e8_feb8_6659_fd93));
         (mixed >> 32) & self.slots.len().wrapping_sub(1)
     }

@@ -11,9 +11,10 @@ pub(crate) struct Stretch {
     pub(crate) high: i64,
 }
 
-/// Consecutive columns or rows, by their numbers from 0: those from `first` up to, and without, `end`.
+/// A stretch, and the columns or rows that it covers, by their numbers from 0: those from `first` up to, and without, `end`.
 #[derive(Clone, Copy)]
-pub(crate) struct Places {
+pub(crate) struct Covered {
+    pub(crate) stretch: Stretch,
     pub(crate) first: usize,
     pub(crate) end: usize,
 }

@@ -1,6 +1,6 @@
-use Rattle.std.proofs.Common.{◌≡◌, ◌+◌, ◌/◌, ◌^◌, ◌≤◌, ℕ, List, Some, arith, ap, ◌∙◌, length, get_or}
+use Rattle.std.proofs.Common.{◌≡◌, ◌+◌, ◌/◌, ◌^◌, ◌≤◌, ◌<◌, ℕ, List, Some, arith, ap, ◌∙◌, length, get_or}
 use Rattle.std.proofs.lemmas.List.{with_items_is}
-use Rattle.cell_sums.specs.Blocks.{BlockSums, block_at, strip_gains, sum_at}
+use Rattle.cell_sums.specs.Blocks.{BlockSums, block_at, strip_area, strip_gains, sum_at}
 use Rattle.cell_sums.proofs.GainLemmas.{block_gained, fits_at}
 use Rattle.cell_sums.proofs.blocks.Blocks.add_to_block.Goals as goal
 
@@ -19,20 +19,20 @@ add_areas-requires-clause-fits g c n low high =
     let cells = c.args.cells.now in
     let now = c.block.new.self in
     let items = c.as_mut_slice-sums.ensures.value ∙ ap (λ (b : BlockSums). b.sums) c.self.view_is in
-    let fits : (i : ℕ) → cells.first ≤ i → sum_at now cells.layer i cells.row + 2 ^ 64 ≤ 2 ^ 128 = λ i behind. let same = c.in_ok-block.ensures.same cells.layer i cells.row in let room = c.requires.fits i behind in omega (arith, same, room) in
-    let room = fits_at now cells.layer cells.row cells.first cells.end c.in_ok-block.block c.in_ok-block.ensures.place c.requires.together fits n low high in
+    let fits : (i : ℕ) → cells.first ≤ i → i < cells.end → sum_at now cells.layer i cells.major + 2 ^ 64 ≤ 2 ^ 128 = λ i behind below. let same = c.in_ok-block.ensures.same cells.layer i cells.major in let room = c.requires.fits i behind below in omega (arith, same, room) in
+    let room = fits_at now cells.layer cells.major cells.first cells.end c.in_ok-block.block c.in_ok-block.ensures.place c.requires.together fits n low high in
     let is = ap (λ xs. get_or xs n 0) items in
     omega (arith, room, is)
 
 pub returns-clause-added : goal.returns-clause-added
 returns-clause-added g c =
     let cells = c.args.cells.now in
-    let gains = strip_gains c.args.columns.now cells c.args.strip.now in
-    let found : block_at c.self.inside.keys.keys (cells.layer, cells.row, cells.first / 64) ≡ Some c.in_ok-block.block =
-    ap (λ (b : BlockSums). block_at b.keys (cells.layer, cells.row, cells.first / 64)) c.self.view_is ∙ c.in_ok-block.ensures.place in
+    let gains = strip_gains c.args.lines.now cells c.args.strip.now in
+    let found : block_at c.self.inside.keys.keys (cells.layer, cells.major, cells.first / 64) ≡ Some c.in_ok-block.block =
+    ap (λ (b : BlockSums). block_at b.keys (cells.layer, cells.major, cells.first / 64)) c.self.view_is ∙ c.in_ok-block.ensures.place in
     let got = c.as_mut_slice-sums.result.now in
     let keys = c.self.inside.keys.keys in
-    let step = block_gained c.args.columns.now cells c.args.strip.now keys got c.add_areas.new.sums c.in_ok-block.block found c.requires.some c.requires.together c.add_areas.ensures in
+    let step = block_gained cells (strip_area c.args.lines.now c.args.strip.now) keys got c.add_areas.new.sums c.in_ok-block.block found c.requires.some c.requires.together c.add_areas.ensures in
     let put = with_items_is c.self.inside.sums c.add_areas.new.sums (c.add_areas.auto.sums ∙ c.as_mut_slice-sums.ensures.len) in
     record {
       sums = λ l i j.

@@ -1,0 +1,26 @@
+//! Consecutive cells along an axis, and what of a rectangle lies there.
+
+ghost use Rattle.std.specs.Prelude.{◌<◌, ◌^◌};
+
+/// The layer, the major number of a block's cells, and the block's number among those of one major number.
+pub(crate) type Key = (usize, usize, usize);
+
+/// Consecutive cells of a layer that have one major number: those of the minor numbers from `first` up to, and without, `end`.
+/// Where cells run along a row, their major number is the row's and their minor numbers are columns'; along a column it is the other
+/// way around.
+#[derive(Clone, Copy)]
+pub(crate) struct Run {
+    pub(crate) layer: usize,
+    pub(crate) major: usize,
+    pub(crate) first: usize,
+    pub(crate) end: usize,
+}
+
+/// What of a rectangle lies in a row, or in a column: how far it reaches along it, and how high it is there, or how wide.
+#[derive(Clone, Copy)]
+pub(crate) struct Strip {
+    pub(crate) low: i64,
+    pub(crate) high: i64,
+    pub(crate) height: u64,
+    ghost small: { height < 2 ^ 32 },
+}
