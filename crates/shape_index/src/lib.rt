@@ -3,8 +3,8 @@
 //! Begin with `TiledShapes::new`, a set that is searched by tiles, or `PlainShapes::new`, one that is searched from end to end;
 //! both are a `ShapeSet`. `TiledShapes::of` makes a set of many shapes at once. Make room by `reserve`; `insert_reserved` then
 //! takes no memory and picks a number, and `remove` gives the shape under a number back and keeps its room; `TiledShapes::find`
-//! looks a shape's number up. `met_of` lists the shapes on a layer that meet a rectangle, and `for_met`
-//! folds over them. Rectangles meet that share a point (`orient_geom::meets`), where touching is enough.
+//! looks a shape's number up. `met_of` lists the shapes on a layer that meet a rectangle, and `for_met` folds over them. Rectangles
+//! meet that share a point (`orient_geom::meets`), where touching is enough.
 //!
 //! What a set holds is `Shapes` of `specs/Shapes`, what a search finds `met_by` there, and how many shapes it compares
 //! `near_count` of `specs/Tiles`, or all. The laws of `specs/TileLaws` say what tiles mean.

@@ -17,7 +17,7 @@ use std::marker::Model;
 /// Boxes of statements, searched by tiles.
 #[derive(Drop)]
 pub struct StatementBoxes<A: Allocator = Global> {
-    // A shape for each box.
+    // Each box as a shape of one layer, whose net is the statement's number.
     tiles: TiledShapes<A>,
 }
 
