@@ -1,3 +1,4 @@
 pub mod AgreementRows
 pub mod NetRows
 pub mod PartRows
+pub mod PlaceRows

@@ -16,12 +16,12 @@ abbrev two_microns : Distance
 two_microns = record { value = pos 2; places = 0 }
 
 -- a macro of 2 by 2
-abbrev square_library : Library
+abbrev pub square_library : Library
 square_library = record empty_library {
   macros = record { name = codes "M"; class = None; size = Some (two_microns, two_microns); origin = None; sites = []; pins = [] } ∷ [];
 }
 
-abbrev records_of : Result (List Record) Fault → List Record
+abbrev pub records_of : Result (List Record) Fault → List Record
 records_of (Ok design) = design
 records_of (Err fault) = []
 

@@ -3,5 +3,6 @@
 //!
 //! A crate of proofs, with no code. `proofs/AgreementRows` has what entries of small DEF texts show others, what their outline is, the vias that are named
 //! in wires, and what a row refers to. `proofs/PartRows` has the lines on statements and on places of a small design, and what edits leave of them,
-//! and `proofs/NetRows` those on the entries of a net, and what an edit of the net makes of them.
+//! `proofs/NetRows` those on the entries of a net, and what an edit of the net makes of them, and `proofs/PlaceRows` which statements are
+//! of what stands round components, and the lines that components bring which are exchanged.
 #![tactic(auto)]

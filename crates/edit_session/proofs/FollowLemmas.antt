@@ -84,19 +84,3 @@ awaits law library name change before text new (Some k) (Some o) reads also know
   where
     out_is : o ≡ lines_on_net library name before → LinesFollow (lines_on_statements library before) (lines_on_statements library (applied (of_net name change) before)) o (lines_on_net library name (applied (of_net name change) before))
     out_is is = rw is (law library name change before)
-
--- the kept lines of lines, as often
-sorted_are : SortingIsByLines → (kept before : Lines) → kept ≡ sorted_by_bytes before → SameLines kept before
-sorted_are law kept before is = record { often = λ q. ap (times q) is ∙ sorted_same law q before }
-
-can_follow : SortingIsByLines → KeptLinesFollow → (kept before lines out put : Lines) → kept ≡ sorted_by_bytes before → LinesFollow before lines out put → CanFollow kept lines out put
-can_follow sorting law kept before lines out put is follow = law kept before lines out put (sorted_are sorting kept before is) follow
-
-pub out_stands : SortingIsByLines → KeptLinesFollow → (kept before lines out put : Lines) → kept ≡ sorted_by_bytes before → LinesFollow before lines out put → (q : List ℕ) → times q out ≤ times q kept
-out_stands sorting law kept before lines out put is follow = (can_follow sorting law kept before lines out put is follow).stand
-
-pub followed_are : SortingIsByLines → SameLinesSortAlike → KeptLinesFollow → (kept now before lines out put : Lines) → kept ≡ sorted_by_bytes before → LinesFollow before lines out put
-    → LinesFollow kept now out put → sorted_by_bytes now ≡ now → now ≡ sorted_by_bytes lines
-followed_are sorting alike law kept now before lines out put is follow exchanged in_order =
-    let left = (can_follow sorting law kept before lines out put is follow).follow exchanged.stay exchanged.old_is in
-    sym in_order ∙ alike now lines (record { often = λ q. exchanged.new_is.often q ∙ left.often q })

@@ -91,10 +91,10 @@ impl<A: Allocator + Copy> KnownLines<A> {
     ) -> Option<Lines<A>>
         ensures { (design : List Record) → read_def (text_of text.now) ≡ Ok design → IfSome result (AreBefore library.now design (change_of edit.now)) }
     {
-        let Some(kept) = &self.statements else {
+        if self.statements.is_none() {
             return None;
-        };
-        lines_before(alloc, library, text, edit, kept.len())
+        }
+        lines_before(alloc, library, text, edit)
     }
 
     /// Forgets the lines on nets, and lets those on statements follow an edit of a net by those on its entries.

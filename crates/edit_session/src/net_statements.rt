@@ -21,37 +21,12 @@ use design_text::laws::named_once;
 use design_text::text::DesignText;
 use edit_model::edit::Edit;
 use entry_checks::statement_lines::StatementChecks;
-use following_laws::kept_lines_follow;
 use kept_lines::KeptLines;
-use line_laws::sorting::{same_lines_sort_alike, sorting_is_by_lines};
 use report_lines::Lines;
 use std::alloc::{AllocError, Allocator};
 
-/// How many lines may be moved in all where lines on a net are exchanged, if each byte of its entries had one.
+/// How many lines may be moved in all where some are exchanged: beyond that, making all of them anew is quicker.
 const MOST_MOVED: usize = 1 << 28;
-
-/// How many bytes the entry of a section and a name has.
-fn entry_len<A: Allocator + Copy>(text: &DesignText<A>, section: Section, name: &[u8]) -> usize {
-    match text.statement(section, name) {
-        Some(entry) => entry.bytes.len(),
-        None => 0,
-    }
-}
-
-/// Whether the lines on the entries of a net are so few that they are soon exchanged among so many: each that goes or comes moves
-/// those above it, so where they are many, making all lines anew is quicker.
-pub(crate) fn are_few<A: Allocator + Copy>(
-    text: &DesignText<A>,
-    net: &[u8],
-    others: usize,
-) -> bool {
-    let bytes = entry_len(text, Section::Nets, net).saturating_add(entry_len(
-        text,
-        Section::SpecialNets,
-        net,
-    ));
-    bytes.saturating_mul(others.max(bytes)) <= MOST_MOVED
-}
 
 /// The net that an edit is of, if it is one of a net.
 pub(crate) fn net_of<'e>(edit: &Edit<'e>) -> Option<&'e [u8]>
@@ -109,25 +84,20 @@ pub(crate) fn lines_on_net<A: Allocator + Copy>(
     Ok(lines)
 }
 
-/// The lines on the entries of the net that an edit is of, if it is one of a net and they are few beside so many others. Where memory
-/// is refused there are none.
+/// The lines on the entries of the net that an edit is of, if it is one of a net. Where memory is refused there are none.
 pub(crate) fn lines_before<A: Allocator + Copy>(
     alloc: A,
     library: &Library<'_, A>,
     text: &DesignText<A>,
     edit: &Edit<'_>,
-    others: usize,
 ) -> Option<Lines<A>>
     ensures { (design : List Record) → read_def (text_of text.now) ≡ Ok design → IfSome result (AreBefore library.now design (change_of edit.now)) }
 {
     let net = net_of(edit)?;
-    if !are_few(text, net, others) {
-        return None;
-    }
     lines_on_net(alloc, library, text, net).ok()
 }
 
-/// The lines on statements after an edit of a net, from those before it, of which some go.
+/// The lines on statements after an edit of a net, from those before it, of which some go; `None` where they are to be made anew.
 fn followed<A: Allocator + Copy>(
     alloc: A,
     library: &Library<'_, A>,
@@ -135,21 +105,16 @@ fn followed<A: Allocator + Copy>(
     net: &[u8],
     kept: KeptLines<A>,
     out: Lines<A>,
-) -> Result<KeptLines<A>, AllocError>
+) -> Result<Option<KeptLines<A>>, AllocError>
     requires { (new : List Record) → read_def (text_of text.now) ≡ Ok new → Awaits library.now net.now new kept out }
-    ensures { (new : List Record) → read_def (text_of text.now) ≡ Ok new → IfOk result (AreKept (lines_on_statements library.now new)) }
+    ensures { (new : List Record) → read_def (text_of text.now) ≡ Ok new → IfOk result (λ found. IfSome found (AreKept (lines_on_statements library.now new))) }
 {
-    sorting_is_by_lines();
-    same_lines_sort_alike();
-    kept_lines_follow();
     text.design_is_read();
     let put = lines_on_net(alloc, library, text, net)?;
-    let mut kept = kept;
-    kept.exchange(out, put)?;
-    Ok(kept)
+    kept.followed(out, put, MOST_MOVED)
 }
 
-/// The same where the lines before it are known, and those that go, and those that come are few.
+/// The same where the lines before it are known, and those that go.
 pub(crate) fn followed_if_known<A: Allocator + Copy>(
     alloc: A,
     library: &Library<'_, A>,
@@ -163,8 +128,8 @@ pub(crate) fn followed_if_known<A: Allocator + Copy>(
 {
     let kept = kept?;
     let out = out?;
-    if !are_few(text, net, kept.len()) {
-        return None;
+    match followed(alloc, library, text, net, kept, out) {
+        Ok(found) => found,
+        Err(_) => None,
     }
-    followed(alloc, library, text, net, kept, out).ok()
 }

@@ -130,7 +130,9 @@ impl<'s, 'l, A: Allocator + Copy> Session<'s, 'l, A> {
             .before(self.alloc, self.library, &self.text, edit);
         let edited = self.text.edit(self.alloc, self.library, edit);
         self.text.text_reads();
-        let reads = edited?;
+        let made = edited?;
+        let reads = made.reads();
+        self.text.let_go(made);
         self.reports = None;
         self.known
             .follow(self.alloc, self.library, &self.text, edit, out);
@@ -146,7 +148,9 @@ impl<'s, 'l, A: Allocator + Copy> Session<'s, 'l, A> {
     {
         let edited = self.text.replace(self.alloc, a, b, new);
         self.text.text_reads();
-        let reads = edited?;
+        let made = edited?;
+        let reads = made.reads();
+        self.text.let_go(made);
         self.reports = None;
         self.known = KnownLines::none();
         Ok(Done { reads, tests: 0 })

@@ -5,6 +5,7 @@ ghost use Rattle.design_model.specs.declared.identifier.StmtId.{StmtId as Number
 ghost use Rattle.def_grammar.specs.Records.{Record};
 ghost use Rattle.design_tables.specs.TableViews.{numbered_view};
 ghost use Rattle.line_laws.specs.Lines.{SameThings};
+ghost use Rattle.statement_boxes.specs.Boxes.{box_view};
 ghost use Rattle.followed_places.specs.Placed.{placed_view};
 ghost use Rattle.followed_places.specs.Places.{components_under, place_under};
 

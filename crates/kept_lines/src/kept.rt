@@ -168,7 +168,7 @@ impl<A: Allocator + Copy> KeptLines<A> {
         let out = out.into_sorted();
         let mut put = put.into_sorted().into_vec();
         let changed = out.len().saturating_add(put.len());
-        if changed.saturating_mul(self.lines.len()) > most_moved {
+        if changed.saturating_mul(self.lines.len().max(changed)) > most_moved {
             let _ = &self.lines;
             return Ok(false);
         }

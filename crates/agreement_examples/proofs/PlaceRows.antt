@@ -1,0 +1,48 @@
+-- Worked rows of what stands round components, and of the lines that an exchange of components takes and brings, by computing.
+use Rattle.std.proofs.Common.{◌≡◌, ℕ, Bool, true, false, List, [], ◌∷◌, map, refl, codes}
+use Rattle.def_grammar.specs.Records.{Record, read_def}
+use Rattle.lef_grammar.specs.Library.{Library}
+use Rattle.design_rules.specs.Surroundings.{keep_outs, surroundings}
+use Rattle.following_laws.specs.DesignLaws.{lines_of_components}
+use Rattle.place_rules.specs.Covering.{is_covered}
+use Rattle.place_rules.specs.Patterns.{matches}
+use Rattle.entry_examples.proofs.Computing.{def_lines}
+use Rattle.staying_laws.specs.PlaceStatements.{boxes_among, is_surrounding}
+use Rattle.agreement_examples.proofs.PartRows.{records_of, square_library}
+
+-- a statement of each kind, and components with a header and an end
+abbrev floor : List Record
+floor =
+    records_of (read_def (codes "VERSION 5.8 ;\nUNITS DISTANCE MICRONS 1 ;\nDIEAREA ( 0 0 ) ( 9 9 ) ;\nROW r s 0 0 N ;\nTRACKS X 0 DO 2 STEP 1 LAYER m ;\nREGIONS 1 ;\n- f ( 0 0 ) ( 2 2 ) + TYPE FENCE ;\nEND REGIONS\nCOMPONENTS 1 ;\n- c M + PLACED ( 8 8 ) N ;\nEND COMPONENTS\nPINS 1 ;\n- p + NET n ;\nEND PINS\nBLOCKAGES 1 ;\n- PLACEMENT RECT ( 4 4 ) ( 9 9 ) ;\nEND BLOCKAGES\nNETS 1 ;\n- n ( c A ) ;\nEND NETS\nGROUPS 1 ;\n- g c + REGION f ;\nEND GROUPS\nEND DESIGN\n"))
+
+-- UNITS, the die, the row, the tracks, the region, the blockage and the group; no header and no end
+of_each_kind : map is_surrounding floor
+    ≡ false ∷ true ∷ true ∷ true ∷ true ∷ false ∷ true ∷ false ∷ false ∷ false ∷ false ∷ false ∷ false ∷ false ∷ false ∷ true ∷ false ∷ false ∷ false ∷ false ∷ false ∷ true ∷ false ∷ false ∷ []
+unfolding def_lines
+of_each_kind = refl
+
+-- components under other UNITS, of which one isn't placed
+abbrev others : List Record
+others = records_of (read_def (codes "UNITS DISTANCE MICRONS 2 ;\nCOMPONENTS 4 ;\n- d M + PLACED ( 2 2 ) N ;\n- e M ;\n- c M + PLACED ( 0 0 ) N ;\n- a M + PLACED ( 8 0 ) N ;\nEND COMPONENTS\nEND DESIGN\n"))
+
+abbrev lines_among : List Record → List Record → List (List ℕ)
+lines_among some rest = lines_of_components (surroundings square_library floor) (boxes_among square_library floor some) (boxes_among square_library floor rest) (keep_outs floor) []
+
+-- the component that stands at 8, 8 lies out of the die and on the blockage
+one_of_them : lines_among floor [] ≡ codes "outside c" ∷ codes "fence c f" ∷ codes "blocked c 4 4 9 9" ∷ []
+unfolding def_lines is_covered matches
+one_of_them = refl
+
+-- they are measured by the UNITS of the design that they are exchanged in: by their own, two would overlap and leave the fence
+some_of_others : lines_among others [] ≡ codes "outside a" ∷ []
+unfolding def_lines is_covered matches
+some_of_others = refl
+
+-- one with others that stay: each pair once, and no line on those that stay by themselves
+with_others : lines_among floor others ≡ codes "outside c" ∷ codes "fence c f" ∷ codes "blocked c 4 4 9 9" ∷ []
+unfolding def_lines is_covered matches
+with_others = refl
+
+on_another : lines_among others others ≡ codes "overlap d d" ∷ codes "overlap c c" ∷ codes "overlap a a" ∷ codes "outside a" ∷ []
+unfolding def_lines is_covered matches
+on_another = refl

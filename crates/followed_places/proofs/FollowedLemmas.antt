@@ -1,0 +1,248 @@
+-- What is noted of a text whose statements are exchanged.
+use Rattle.std.proofs.Common.{◌≡◌, ◌+◌, ◌||◌, ℕ, Bool, true, false, List, [], ◌∷◌, ◌++◌, filter, flat_map, map, sum_by, Option, Some, None, refl, sym, ap, ap₂, ◌∙◌, append_assoc, arith, if◌then◌else◌}
+use Rattle.std.specs.List.{cons_option, filter_map, list_any}
+use Rattle.std.specs.Option.{option_map}
+use Rattle.std.proofs.lemmas.List.{map-append}
+use Rattle.std.proofs.lemmas.List.Elements.{filter_map-append}
+use Rattle.std.proofs.lemmas.List.Sums.{sum_by-append}
+use Rattle.design_model.specs.declared.identifier.StmtId.{StmtId}
+use Rattle.design_model.specs.Geometry.{Rectangle}
+use Rattle.design_model.specs.Order.{sorted_by_bytes}
+use Rattle.def_grammar.specs.Records.{Record}
+use Rattle.lef_grammar.specs.Library.{Library}
+use Rattle.design_rules.specs.Boxes.{Boxed, box_of, scale}
+use Rattle.design_rules.specs.PlaceLines.{lines_in}
+use Rattle.design_rules.specs.Surroundings.{Surroundings, keep_outs, surroundings}
+use Rattle.place_checks.specs.SameSurroundings.{HaveSameLines}
+use Rattle.line_laws.specs.Lines.{SameThings}
+use Rattle.following_laws.specs.DesignLaws.{lines_of_components}
+use Rattle.following_laws.specs.Following.{Exchange, LinesFollow}
+use Rattle.staying_laws.specs.PlaceStatements.{ComponentsAreExchanged, PlacesFollow, SurroundingsAreTold, boxes_among, is_surrounding}
+use Rattle.staying_laws.specs.Staying.{lines_on_places}
+use Rattle.text_pieces.specs.KeptRecords.{AreKept, HavePieces, HasPiece, record_of, records_under}
+use Rattle.text_pieces.specs.Tables.{Kept, kept_at}
+use Rattle.followed_places.specs.Lines.{AreBoxesOf, Awaits, boxed_under}
+use Rattle.followed_places.specs.Places.{AreOnPlaces, HasPlaces, Places, component_under, components_under, place_under, said}
+
+abbrev surrounds : StmtId × Record → Bool
+surrounds x = is_surrounding x.1
+
+-- the statements of what stands round components, by their numbers or without
+filter_said : (rs : List (StmtId × Record)) → said (filter surrounds rs) ≡ filter is_surrounding (said rs)
+filter_said [] = refl
+filter_said (x ∷ rs) = one (is_surrounding x.1) x (filter surrounds rs) (filter is_surrounding (said rs)) (filter_said rs)
+  where
+    one : (b : Bool) (y : StmtId × Record) (ys : List (StmtId × Record)) (zs : List Record) → said ys ≡ zs → said (if b then y ∷ ys else ys) ≡ (if b then y.1 ∷ zs else zs)
+    one true y ys zs same = ap (λ (l : List Record). y.1 ∷ l) same
+    one false y ys zs same = same
+
+filter-append : {A : Type 0} (p : A → Bool) (xs ys : List A) → filter p (xs ++ ys) ≡ filter p xs ++ filter p ys
+filter-append p [] ys = refl
+filter-append {A = A} p (x ∷ xs) ys = one (p x) (filter p (xs ++ ys)) (filter p xs) (filter-append p xs ys)
+  where
+    one : (b : Bool) (all some : List A) → all ≡ some ++ filter p ys → (if b then x ∷ all else all) ≡ (if b then x ∷ some else some) ++ filter p ys
+    one true all some same = ap (λ (l : List A). x ∷ l) same
+    one false all some same = same
+
+none_of : {A : Type 0} (p : A → Bool) (xs : List A) → list_any p xs ≡ false → filter p xs ≡ []
+none_of p [] none = refl
+none_of {A = A} p (x ∷ xs) none = one (p x) (filter p xs) (list_any p xs) none (none_of p xs)
+  where
+    one : (b : Bool) (others : List A) (any : Bool) → (b || any) ≡ false → (any ≡ false → others ≡ []) → (if b then x ∷ others else others) ≡ []
+    one true others any h later = absurd (cc)
+    one false others any h later = later h
+
+pieces-append : (slots : List (Option Kept)) (a b : List StmtId) → HavePieces slots a → HavePieces slots b → HavePieces slots (a ++ b)
+pieces-append slots [] b pa pb = pb
+pieces-append slots (i ∷ a) b pa pb = (pa.0, pieces-append slots a b pa.1 pb)
+
+pieces-front : (slots : List (Option Kept)) (a b : List StmtId) → HavePieces slots (a ++ b) → HavePieces slots a
+pieces-front slots [] b p = tt
+pieces-front slots (i ∷ a) b p = (p.0, pieces-front slots a b p.1)
+
+pieces-behind : (slots : List (Option Kept)) (a b : List StmtId) → HavePieces slots (a ++ b) → HavePieces slots b
+pieces-behind slots [] b p = p
+pieces-behind slots (i ∷ a) b p = pieces-behind slots a b p.1
+
+firsts_under : (slots : List (Option Kept)) (ids : List StmtId) → map (λ x. x.0) (records_under slots ids) ≡ ids
+firsts_under slots [] = refl
+firsts_under slots (i ∷ ids) = ap (λ (l : List StmtId). i ∷ l) (firsts_under slots ids)
+
+module _ (slots : List (Option Kept)) where
+  abbrev under : List StmtId → List (StmtId × Record)
+  under ids = records_under slots ids
+
+  -- the numbers of the statements of what stands round components
+  abbrev around : List StmtId → List StmtId
+  around ids = map (λ x. x.0) (filter surrounds (under ids))
+
+  pub around_pieces : (ids : List StmtId) → HavePieces slots ids → HavePieces slots (around ids)
+  around_pieces [] p = tt
+  around_pieces (i ∷ ids) p = one (is_surrounding (record_of (kept_at slots i))) (filter surrounds (under ids)) (around_pieces ids p.1)
+    where
+      one : (b : Bool) (others : List (StmtId × Record)) → HavePieces slots (map (λ x. x.0) others)
+          → HavePieces slots (map (λ x. x.0) (if b then (i, record_of (kept_at slots i)) ∷ others else others))
+      one true others later = (p.0, later)
+      one false others later = later
+
+  pub around_said : (ids : List StmtId) → map (λ id. record_of (kept_at slots id)) (around ids) ≡ said (filter surrounds (under ids))
+  around_said [] = refl
+  around_said (i ∷ ids) = one (is_surrounding (record_of (kept_at slots i))) (filter surrounds (under ids)) (around_said ids)
+    where
+      one : (b : Bool) (others : List (StmtId × Record)) → map (λ id. record_of (kept_at slots id)) (map (λ x. x.0) others) ≡ said others
+          → map (λ id. record_of (kept_at slots id)) (map (λ x. x.0) (if b then (i, record_of (kept_at slots i)) ∷ others else others)) ≡ said (if b then (i, record_of (kept_at slots i)) ∷ others else others)
+      one true others later = ap (λ (l : List Record). record_of (kept_at slots i) ∷ l) later
+      one false others later = later
+
+  -- of all statements of a text
+  module _ (records : List (StmtId × Record)) (ids : List StmtId) (is : records ≡ under ids) (pieces : HavePieces slots ids) where
+    pub their_pieces : HavePieces slots (map (λ x. x.0) (filter surrounds records))
+    their_pieces = rw is (around_pieces ids pieces)
+
+    pub their_records : map (λ id. record_of (kept_at slots id)) (map (λ x. x.0) (filter surrounds records)) ≡ filter is_surrounding (said records)
+    their_records = rw is (around_said ids ∙ filter_said (under ids))
+
+-- the components among statements
+seconds : (library : Library) (u : ℕ) (rs : List (StmtId × Record)) → map (λ x. x.1) (components_under library u rs) ≡ filter_map (box_of library u) (said rs)
+seconds library u [] = refl
+seconds library u (x ∷ rs) = one (box_of library u x.1) (components_under library u rs) (filter_map (box_of library u) (said rs)) (seconds library u rs)
+  where
+    one : (b : Option Boxed) (cs : List (StmtId × Boxed)) (bs : List Boxed) → map (λ c. c.1) cs ≡ bs → map (λ c. c.1) (cons_option (option_map (λ d. (x.0, d)) b) cs) ≡ cons_option b bs
+    one None cs bs same = same
+    one (Some b) cs bs same = ap (λ (l : List Boxed). b ∷ l) same
+
+lines_the_same : (s t : Surroundings) → HaveSameLines s t → (cs : List Boxed) → flat_map (lines_in s) cs ≡ flat_map (lines_in t) cs
+lines_the_same s t same [] = refl
+lines_the_same s t same (c ∷ cs) = ap₂ (λ (a b : List (List ℕ)). a ++ b) (rw (same.rows c, same.die, same.fences c) refl) (lines_the_same s t same cs)
+
+-- statements are exchanged
+module _ (library : Library) (slots : List (Option Kept)) (old new : List (StmtId × Record)) (front rest went came : List StmtId)
+    (old_is : old ≡ records_under slots (front ++ (went ++ rest))) (new_is : new ≡ records_under slots (front ++ (came ++ rest)))
+    (went_loose : list_any (λ (x : StmtId × Record). is_surrounding x.1) (records_under slots went) ≡ false)
+    (came_loose : list_any (λ (x : StmtId × Record). is_surrounding x.1) (records_under slots came) ≡ false) where
+  abbrev pub stay : List StmtId
+  stay = front ++ rest
+
+  abbrev these : List StmtId → List (StmtId × Record)
+  these ids = records_under slots ids
+
+  abbrev say : List StmtId → List Record
+  say ids = said (these ids)
+
+  pair : StmtId → StmtId × Record
+  pair id = (id, record_of (kept_at slots id))
+
+  parted : (some : List StmtId) → these (front ++ (some ++ rest)) ≡ these front ++ (these some ++ these rest)
+  parted some = map-append (λ id. (id, record_of (kept_at slots id))) front (some ++ rest) ∙ ap (λ (l : List (StmtId × Record)). these front ++ l) (map-append (λ id. (id, record_of (kept_at slots id))) some rest)
+
+  stay_parted : these stay ≡ these front ++ these rest
+  stay_parted = map-append (λ id. (id, record_of (kept_at slots id))) front rest
+
+  said_parted : (some : List StmtId) → say (front ++ (some ++ rest)) ≡ say front ++ (say some ++ say rest)
+  said_parted some =
+      ap said (parted some)
+      ∙ map-append (λ x. x.1) (these front) (these some ++ these rest)
+      ∙ ap (λ (l : List Record). say front ++ l) (map-append (λ x. x.1) (these some) (these rest))
+
+  said_stay : say stay ≡ say front ++ say rest
+  said_stay = ap said stay_parted ∙ map-append (λ x. x.1) (these front) (these rest)
+
+  one_side : (all : List (StmtId × Record)) (some : List StmtId) → all ≡ these (front ++ (some ++ rest)) → SameThings (said all) (say some ++ say stay)
+  one_side all some is = record {
+    sums = λ w.
+        let here = ap (λ rs. sum_by w (said rs)) is ∙ ap (sum_by w) (said_parted some) in
+        let there = ap (sum_by w) said_stay in
+        omega (arith, here, there, sum_by-append w (say some) (say stay), sum_by-append w (say front) (say some ++ say rest), sum_by-append w (say some) (say rest), sum_by-append w (say front) (say rest));
+  }
+
+  exchange : Exchange (said old) (said new) (say went) (say came) (say stay)
+  exchange = record { old_is = one_side old went old_is; new_is = one_side new came new_is }
+
+  filtered : (all : List (StmtId × Record)) (some : List StmtId) → all ≡ these (front ++ (some ++ rest)) → list_any surrounds (these some) ≡ false
+      → filter surrounds all ≡ filter surrounds (these front) ++ filter surrounds (these rest)
+  filtered all some is loose =
+      ap (filter surrounds) (is ∙ parted some)
+      ∙ filter-append surrounds (these front) (these some ++ these rest)
+      ∙ ap (λ (l : List (StmtId × Record)). filter surrounds (these front) ++ l)
+      (filter-append surrounds (these some) (these rest) ∙ ap (λ (l : List (StmtId × Record)). l ++ filter surrounds (these rest)) (none_of surrounds (these some) loose))
+
+  same_around : filter surrounds old ≡ filter surrounds new
+  same_around = filtered old went old_is went_loose ∙ sym (filtered new came new_is came_loose)
+
+  same_surroundings : filter is_surrounding (said old) ≡ filter is_surrounding (said new)
+  same_surroundings = sym (filter_said old) ∙ ap said same_around ∙ filter_said new
+
+  pub old_pieces : HavePieces slots (front ++ (came ++ rest)) → HavePieces slots went → HavePieces slots (front ++ (went ++ rest))
+  old_pieces all p = pieces-append slots front (went ++ rest) (pieces-front slots front (came ++ rest) all) (pieces-append slots went rest p (pieces-behind slots came rest (pieces-behind slots front (came ++ rest) all)))
+
+  pub stay_pieces : HavePieces slots (front ++ (came ++ rest)) → HavePieces slots stay
+  stay_pieces all = pieces-append slots front rest (pieces-front slots front (came ++ rest) all) (pieces-behind slots came rest (pieces-behind slots front (came ++ rest) all))
+
+  places : ℕ → List StmtId → List (StmtId × Rectangle)
+  places u ids = map place_under (components_under library u (these ids))
+
+  places-append : (u : ℕ) (xs ys : List (StmtId × Record)) → map place_under (components_under library u (xs ++ ys)) ≡ map place_under (components_under library u xs) ++ map place_under (components_under library u ys)
+  places-append u xs ys = ap (map place_under) (filter_map-append (component_under library u) xs ys) ∙ map-append place_under (components_under library u xs) (components_under library u ys)
+
+  places_parted : (u : ℕ) (all : List (StmtId × Record)) (some : List StmtId) → all ≡ these (front ++ (some ++ rest))
+      → SameThings (map place_under (components_under library u all)) (map place_under (components_under library u (these some)) ++ map place_under (components_under library u (these stay)))
+  places_parted u all some is = record {
+    sums = λ w.
+        let p = λ (xs : List (StmtId × Record)). map place_under (components_under library u xs) in
+        let here = ap (λ xs. sum_by w (p xs)) (is ∙ parted some) in
+        let there = ap (λ xs. sum_by w (p xs)) stay_parted in
+        omega (
+          arith,
+          here,
+          there,
+          ap (sum_by w) (places-append u (these front) (these some ++ these rest)),
+          ap (sum_by w) (places-append u (these some) (these rest)),
+          ap (sum_by w) (places-append u (these front) (these rest)),
+          sum_by-append w (p (these some)) (p (these stay)),
+          sum_by-append w (p (these front)) (p (these some ++ these rest)),
+          sum_by-append w (p (these some)) (p (these rest)),
+          sum_by-append w (p (these front)) (p (these rest)),
+        );
+  }
+
+  module _ (told : SurroundingsAreTold) (exchanged : ComponentsAreExchanged) where
+    follow : PlacesFollow library (said old) (said new) (say went) (say came) (say stay)
+    follow = exchanged library (said old) (said new) (say went) (say came) (say stay) exchange same_surroundings
+
+    same_scale : scale (said new) ≡ scale (said old)
+    same_scale = sym (told library (said new)).scale ∙ ap scale (sym same_surroundings) ∙ (told library (said old)).scale
+
+    -- by what the statements of what stands round components say
+    module _ (said_around : List Record) (are : said_around ≡ filter is_surrounding (said old)) (places : Places) (has : HasPlaces library old places) where
+      pub scale_is : scale said_around ≡ scale (said old)
+      scale_is = ap scale are ∙ (told library (said old)).scale
+
+      module _ (u : ℕ) (u_is : u ≡ scale said_around) (s : Surroundings) (s_is : HaveSameLines s (surroundings library said_around)) (outs : List Rectangle) (outs_are : outs ≡ keep_outs said_around) where
+        units : u ≡ scale (said old)
+        units = u_is ∙ scale_is
+
+        around_is : surroundings library said_around ≡ surroundings library (said old)
+        around_is = ap (surroundings library) are ∙ (told library (said old)).surroundings
+
+        lines_are : (some : List StmtId) → lines_of_components s (map (λ x. x.1) (components_under library u (these some))) (boxed_under library u slots stay) outs []
+            ≡ lines_of_components (surroundings library (said old)) (boxes_among library (said old) (say some)) (boxes_among library (said old) (say stay)) (keep_outs (said old)) []
+        lines_are some =
+            rw (lines_the_same s (surroundings library said_around) s_is (map (λ x. x.1) (components_under library u (these some))), around_is, outs_are ∙ ap keep_outs are ∙ (told library (said old)).keep_outs, seconds library u (these some), seconds library u (these stay), units)
+            refl
+
+        pub awaits : (kept : List (List ℕ)) (pieces : HavePieces slots stay) → kept ≡ sorted_by_bytes (lines_on_places library (said old))
+            → Awaits library u slots stay s outs (components_under library u (these went)) (components_under library u (these came)) places.boxes kept (lines_on_places library (said new))
+        awaits kept pieces kept_are = record {
+          pieces = pieces;
+          boxes_are = record { sums = λ w. has.boxes_are.sums w ∙ ap (λ v. sum_by w (map place_under (components_under library v old))) (sym units) ∙ (places_parted u old went old_is).sums w };
+          before = lines_on_places library (said old);
+          kept_are = kept_are;
+          follow = rw (lines_are went, lines_are came) follow.lines;
+        }
+
+        pub has_new : (boxes : List (StmtId × Rectangle)) → SameThings boxes (map place_under (components_under library u (these came)) ++ map place_under (components_under library u (these stay)))
+            → HasPlaces library new (record { boxes = boxes; around = places.around })
+        has_new boxes same = record {
+          boxes_are = record { sums = λ w. same.sums w ∙ sym ((places_parted u new came new_is).sums w) ∙ ap (λ v. sum_by w (map place_under (components_under library v new))) (units ∙ sym same_scale) };
+          around_are = has.around_are ∙ ap (map (λ x. x.0)) same_around;
+        }
