@@ -11,7 +11,7 @@ use Rattle.lef_grammar.specs.MacroShapes.{LibraryMacro, in_library}
 use Rattle.cell_library.specs.PinViews.{pin_view}
 use Rattle.design_wires.specs.Scales.{units_of}
 use Rattle.net_pins.specs.CellPlaces.{origin}
-use Rattle.net_pins.specs.FoundPins.{IsFound, found_pin}
+use Rattle.net_pins.specs.FoundPins.{IsFound}
 use Rattle.net_pins.specs.declared.found_pin.FoundPin.{FoundPin}
 
 module _ (library : Library) where

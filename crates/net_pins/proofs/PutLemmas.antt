@@ -1,5 +1,5 @@
 -- Shapes, parts and pins put in one after the other.
-use Rattle.std.proofs.Common.{◌≡◌, ◌<◌, length, Bool, true, false, ◌||◌, List, [], ◌∷◌, ◌++◌, filter, map, refl, sym, ap, ◌∙◌, Option, Some, None, if◌then◌else◌}
+use Rattle.std.proofs.Common.{◌≡◌, Bool, true, false, ◌||◌, List, [], ◌∷◌, ◌++◌, filter, map, refl, sym, ap, ◌∙◌, Option, Some, None, if◌then◌else◌}
 use Rattle.std.specs.List.{cons_option, filter_map, list_any}
 use Rattle.form_meanings.specs.Words.{◌>>=◌}
 use Rattle.std.specs.Option.{option_to_list}
