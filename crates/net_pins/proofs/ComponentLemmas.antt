@@ -23,7 +23,9 @@ use Rattle.place_parts.specs.declared.standing.Standing.TheVariants.{At}
 use Rattle.design_wires.specs.Scales.{units_of}
 use Rattle.net_pins.specs.CellPlaces.{origin, place_of_spot}
 use Rattle.net_pins.specs.Counting.{counted}
+use Rattle.net_pins.specs.FoundPins.{IsFrameOf}
 use Rattle.net_pins.specs.MacroPins.{all_checked, all_placed, layer_checked, placed_in, rectangles_if}
+use Rattle.net_pins.specs.declared.cell_frame.CellFrame.{CellFrame}
 use Rattle.net_pins.specs.declared.cell_place.CellPlace.{CellPlace}
 use Rattle.net_pins.proofs.MacroLemmas.{boundary_in_order, layer_by_layer, placed_so}
 
@@ -40,21 +42,21 @@ stands_so u m shapes (Some (placed status at o)) spot e =
 
 module _ (p : CellPlace) where
   abbrev placed_there : Shape → Shape
-  placed_there s = placed_shape p.orient (rectangle_of p.boundary) p.at s
+  placed_there s = placed_shape p.orient (rectangle_of p.frame.boundary) p.at s
 
-  on_one : (rs : List (Distances × Distances)) (n : ℕ) → map (placed_in p) (on_layer (units_of p.scale) rs n) ≡ map placed_there (map (moved_by p.origin) (on_layer (units_of p.scale) rs n))
+  on_one : (rs : List (Distances × Distances)) (n : ℕ) → map (placed_in p) (on_layer (units_of p.frame.scale) rs n) ≡ map placed_there (map (moved_by p.frame.origin) (on_layer (units_of p.frame.scale) rs n))
   on_one [] n = refl
-  on_one (r ∷ rs) n = ap (λ (ss : List Shape). placed_in p (record { layer = n; box = rectangle_in (units_of p.scale) r }) ∷ ss) (on_one rs n)
+  on_one (r ∷ rs) n = ap (λ (ss : List Shape). placed_in p (record { layer = n; box = rectangle_in (units_of p.frame.scale) r }) ∷ ss) (on_one rs n)
 
-  on_one_if : (rs : List (Distances × Distances)) (place : Option ℕ) → rectangles_if p rs place ≡ map placed_there (map (moved_by p.origin) (on_layer_if (units_of p.scale) rs place))
+  on_one_if : (rs : List (Distances × Distances)) (place : Option ℕ) → rectangles_if p rs place ≡ map placed_there (map (moved_by p.frame.origin) (on_layer_if (units_of p.frame.scale) rs place))
   on_one_if rs None = refl
   on_one_if rs (Some n) = on_one rs n
 
-  placed_all : (layers : List Layer) (ss : List LayerShapes) → all_placed p layers ss ≡ map placed_there (all_checked (units_of p.scale) p.origin layers ss)
+  placed_all : (layers : List Layer) (ss : List LayerShapes) → all_placed p layers ss ≡ map placed_there (all_checked (units_of p.frame.scale) p.frame.origin layers ss)
   placed_all layers [] = refl
   placed_all layers (s ∷ ss) =
       ap₂ (λ (xs ys : List Shape). xs ++ ys) (on_one_if s.rectangles (checked_place layers s.layer)) (placed_all layers ss)
-      ∙ sym (map-append placed_there (layer_checked (units_of p.scale) p.origin layers s) (all_checked (units_of p.scale) p.origin layers ss))
+      ∙ sym (map-append placed_there (layer_checked (units_of p.frame.scale) p.frame.origin layers s) (all_checked (units_of p.frame.scale) p.frame.origin layers ss))
 
 placed_all_so : (o : Orient) (u : ℕ) (size : Option Distances) (boundary : Rectangle) (at : Point) (ss : List Shape) → boundary ≡ spanned origin (point_or_0 u size)
     → map (placed_shape o boundary at) ss ≡ map (placed_shape o (boundary_of u size) at) ss
@@ -63,15 +65,16 @@ placed_all_so o u size boundary at (s ∷ ss) is =
     ap₂ (λ (t : Shape) (ts : List Shape). t ∷ ts) (placed_so o (boundary_of u size) boundary at s (is ∙ boundary_in_order u size)) (placed_all_so o u size boundary at ss is)
 
 -- the shapes of a pin of a macro where a component stands
-pub pin_placed : (library : Library) (u : ℕ) (m : Macro) (pin : lef.Pin) (p : CellPlace) (spot : Spot) (o : Option Clause)
-    → units_of p.scale ≡ u → p.origin ≡ point_or_0 u m.origin → rectangle_of p.boundary ≡ spanned origin (point_or_0 u m.size) → p.orient ≡ spot.orient → p.at ≡ place_of_spot spot
-    → Some (At spot) ≡ (o >>= standing_by)
-    → all_placed p library.layers pin.shapes ≡ shapes_at u m (macro_pin_shapes library u m pin) o
-pin_placed library u m pin p spot o units from boundary turned at stands =
+pub pin_placed : (library : Library) (m : Macro) (pin : lef.Pin) (f : CellFrame) (p : CellPlace) (spot : Spot) (o : Option Clause)
+    → IsFrameOf m f → p.frame ≡ f → p.orient ≡ spot.orient → p.at ≡ place_of_spot spot → Some (At spot) ≡ (o >>= standing_by)
+    → all_placed p library.layers pin.shapes ≡ shapes_at (units_of f.scale) m (macro_pin_shapes library (units_of f.scale) m pin) o
+pin_placed library m pin f p spot o framed is turned at stands =
+    let u = units_of f.scale in
     placed_all p library.layers pin.shapes
-    ∙ ap₂ (λ (v : ℕ) (q : Point). map (placed_there p) (all_checked v q library.layers pin.shapes)) units from
+    ∙ ap (λ (h : CellFrame). map (placed_there p) (all_checked (units_of h.scale) h.origin library.layers pin.shapes)) is
+    ∙ ap (λ (q : Point). map (placed_there p) (all_checked u q library.layers pin.shapes)) framed.moves
     ∙ ap (map (placed_there p)) (sym (layer_by_layer u (point_or_0 u m.origin) library.layers pin.shapes))
-    ∙ placed_all_so p.orient u m.size (rectangle_of p.boundary) p.at (macro_pin_shapes library u m pin) boundary
+    ∙ placed_all_so p.orient u m.size (rectangle_of p.frame.boundary) p.at (macro_pin_shapes library u m pin) (ap (λ (h : CellFrame). rectangle_of h.boundary) is ∙ framed.spans)
     ∙ ap₂ (λ (t : Orient) (q : Point). map (placed_shape t (boundary_of u m.size) q) (macro_pin_shapes library u m pin)) turned at
     ∙ stands_so u m (macro_pin_shapes library u m pin) o spot stands
 

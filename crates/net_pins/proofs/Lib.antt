@@ -1,5 +1,7 @@
 pub mod ClauseLemmas
 pub mod ComponentLemmas
+pub mod FoundLemmas
+pub mod KeptLemmas
 pub mod MacroLemmas
 pub mod NamingLemmas
 pub mod NearLemmas

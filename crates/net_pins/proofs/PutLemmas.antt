@@ -1,5 +1,5 @@
 -- Shapes, parts and pins put in one after the other.
-use Rattle.std.proofs.Common.{◌≡◌, ◌<◌, length, Bool, true, false, ◌||◌, List, [], ◌∷◌, ◌++◌, filter, map, refl, sym, ap, ◌∙◌, Option, Some, None, if◌then◌else◌}
+use Rattle.std.proofs.Common.{◌≡◌, Bool, true, false, ◌||◌, List, [], ◌∷◌, ◌++◌, filter, map, refl, sym, ap, ◌∙◌, Option, Some, None, if◌then◌else◌}
 use Rattle.std.specs.List.{cons_option, filter_map, list_any}
 use Rattle.form_meanings.specs.Words.{◌>>=◌}
 use Rattle.std.specs.Option.{option_to_list}
@@ -12,8 +12,7 @@ use Rattle.connection_rules.specs.Terminals.{NetPin, each_once}
 use Rattle.net_lists.specs.Building.{with_part, with_parts, with_shape, with_shapes}
 use Rattle.net_pins.specs.Counting.{State, counted, with_pin, with_pins}
 use Rattle.net_pins.specs.Putting.{HasPart, Puts}
-use Rattle.net_pins.specs.Walking.{IsReady, PutsPins}
-use Rattle.net_pins.specs.declared.pin_walk.PinWalk.{PinWalk}
+use Rattle.net_pins.specs.Walking.{IsReady, PutsPins, Walk}
 
 pub with_more_shapes : (xs ys : List Shape) (ns : List Net) → with_shapes (xs ++ ys) ns ≡ with_shapes ys (with_shapes xs ns)
 with_more_shapes [] ys ns = refl
@@ -92,7 +91,7 @@ pub more_put : {all : List Shape} {old : List Net} {left : List Shape} {now next
 more_put {now = now} xs ys is p e h = record { same = ap (with_shapes ys) e ∙ sym (with_more_shapes xs ys now) ∙ ap (λ ss. with_shapes ss now) (sym is) ∙ p.same; part = h }
 
 -- some of the pins that are left were put
-pub more_pins_put : {A : Type 0} {all : List NetPin} {seen : List Key} {nets : List Net} {left : List NetPin} {library : Library} {walk walk_next : PinWalk A} {now next : List Net} (xs ys : List NetPin) → left ≡ xs ++ ys
+pub more_pins_put : {all : List NetPin} {seen : List Key} {nets : List Net} {left : List NetPin} {library : Library} {walk walk_next : Walk} {now next : List Net} (xs ys : List NetPin) → left ≡ xs ++ ys
     → PutsPins all seen nets left library walk now → (walk_next.seen, next) ≡ with_pins xs (walk.seen, now) → IsReady library walk_next next → PutsPins all seen nets ys library walk_next next
 more_pins_put {walk = walk} {now = now} xs ys is p e h = record {
   same = ap (with_pins ys) e ∙ sym (with_more_pins xs ys (walk.seen, now)) ∙ ap (λ ps. with_pins ps (walk.seen, now)) (sym is) ∙ p.same;

@@ -1,6 +1,7 @@
 pub mod CellPlaces
 pub mod Counting
 pub mod EntryPins
+pub mod FoundPins
 pub mod MacroPins
 pub mod PortViews
 pub mod PortsLeft

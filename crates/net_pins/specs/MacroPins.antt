@@ -17,11 +17,11 @@ abbrev pub all_checked : ℕ → Point → List Layer → List LayerShapes → L
 all_checked u o layers ss = flat_map (layer_checked u o layers) ss
 
 abbrev pub placed_in : CellPlace → Shape → Shape
-placed_in p s = placed_shape p.orient (rectangle_of p.boundary) p.at (moved_by p.origin s)
+placed_in p s = placed_shape p.orient (rectangle_of p.frame.boundary) p.at (moved_by p.frame.origin s)
 
 -- those of rectangles on a layer, where the component is placed
 abbrev pub rectangles_placed : CellPlace → List (Distances × Distances) → ℕ → List Shape
-rectangles_placed p rs n = map (placed_in p) (on_layer (units_of p.scale) rs n)
+rectangles_placed p rs n = map (placed_in p) (on_layer (units_of p.frame.scale) rs n)
 
 abbrev pub rectangles_if : CellPlace → List (Distances × Distances) → Option ℕ → List Shape
 rectangles_if p rs None = []

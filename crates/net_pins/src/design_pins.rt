@@ -61,7 +61,7 @@ fn put_named<A: Allocator + Copy>(
     requires { HasPart nets.old }
     ensures ok { OnOk result (nets.new ≡ with_shapes (on_place_if (rectangle_of rect) (checked_place layers.old.layers layer.now)) nets.old) }
     ensures part { OnOk result (HasPart nets.new) }
-    ensures same { OnOk result (layers.new ≡ layers.old) }
+    ensures same { layers.new ≡ layers.old }
 {
     match layers.layer_of(layer) {
         Some(id) => nets.push_shape(id, rect),
@@ -81,7 +81,7 @@ fn put_via<'a, 'l: 'a, 'r: 'a, 't: 'a, A: Allocator + Copy>(
     requires known { layers.old ≡ of.now.library.now }
     ensures ok { OnOk result (nets.new ≡ with_shapes (checked_named of.now.library.now.layers (map (turned_shape (port_place_view place)) (clause_shapes (vias_in of.now) (pin_has_via (pin_via_view via.now))))) nets.old) }
     ensures part { OnOk result (HasPart nets.new) }
-    ensures known { OnOk result (layers.new ≡ of.now.library.now) }
+    ensures known { layers.new ≡ of.now.library.now }
 {
     let at = via.at.place();
     let mut shapes = of.via_shapes(via.name.bytes);
@@ -104,7 +104,7 @@ fn put_clause<'a, 'l: 'a, 'r: 'a, 't: 'a, A: Allocator + Copy>(
     requires known { layers.old ≡ of.now.library.now }
     ensures ok { OnOk result (nets.new ≡ with_shapes (checked_named of.now.library.now.layers (clause_if (vias_in of.now) (option_map port_place_view place) (pin_clause_view clause.now))) nets.old) }
     ensures part { OnOk result (HasPart nets.new) }
-    ensures known { OnOk result (layers.new ≡ of.now.library.now) }
+    ensures known { layers.new ≡ of.now.library.now }
 {
     let Some(place) = place else {
         return Ok(());
@@ -130,7 +130,7 @@ fn put_ports<'a, 'l: 'a, 'r: 'a, 't: 'a, A: Allocator + Copy>(
     requires known { layers.old ≡ of.now.library.now }
     ensures ok { OnOk result (nets.new ≡ with_shapes (design_pin of.now.library.now of.now.names.now (units_of of.now.scale) (pin_view pin.now)).shapes nets.old) }
     ensures part { OnOk result (HasPart nets.new) }
-    ensures known { OnOk result (layers.new ≡ of.now.library.now) }
+    ensures known { layers.new ≡ of.now.library.now }
 {
     let mut place = place_ahead(&pin.clauses);
     let mut left = pin.clauses.again();
@@ -210,7 +210,7 @@ pub(crate) fn put_design_pin<'a, 'l: 'a, 'r: 'a, 't: 'a, A: Allocator + Copy>(
     requires known { layers.old ≡ of.now.library.now }
     ensures ok { OnOk result (nets.new ≡ with_parts (counted (design_pin of.now.library.now of.now.names.now (units_of of.now.scale) (pin_view pin.now))) nets.old) }
     ensures net { OnOk result (0 < length nets.new) }
-    ensures known { OnOk result (layers.new ≡ of.now.library.now) }
+    ensures known { layers.new ≡ of.now.library.now }
 {
     if !counts(of, pin, layers) {
         return Ok(());

@@ -7,15 +7,20 @@
 //! it has a shape on a layer of TYPE ROUTING or CUT, placed or not.
 //!
 //! `specs/Counting` says what one pin more does to the nets and to the pins that were seen, `specs/MacroPins` and `specs/PortsLeft`
-//! have the shapes of pins layer by layer and clause by clause. `Pins` is seen as its library and its design, which it borrows, with
-//! the names in them. A call looks up what the entries name, and goes over all components only where a terminal is of each of them.
+//! have the shapes of pins layer by layer and clause by clause, and `specs/FoundPins` the pins of macros by the names of both.
+//! `Pins` is seen as its library and its design, which it borrows, with the names in them, and `PinWalk` as its library and the pins
+//! that it saw. A call looks up what the entries name, and goes over all components only where a terminal is of each of them. A walk
+//! keeps the pins of macros and the layers that were looked up last, since a design names the same few macros again and again.
 //!
 //! The one error is `AllocError`; then pins of the net may be missing.
 #![tactic(auto)]
 
+mod cell_frame;
 mod cell_place;
 mod component_pins;
 mod design_pins;
+mod found_pin;
+mod last_pins;
 mod lent_pin;
 mod listed_pins;
 mod macro_pins;

@@ -1,13 +1,14 @@
 //! The pins that the terminals of entries stand for (LEF/DEF 5.8 Language Reference, "Nets" and "Special Nets").
 
-ghost use Rattle.std.specs.Prelude.{◌≡◌, ◌∷◌, [], ℕ, OnOk, flat_map};
+ghost use Rattle.std.specs.Prelude.{◌≡◌, ◌<◌, ◌∷◌, [], ℕ, OnOk, flat_map, length};
 ghost use Rattle.std.specs.List.{filter_map};
 ghost use Rattle.std.specs.Option.{option_map, option_to_list};
 ghost use Rattle.form_meanings.specs.Firsts.{find_named};
 ghost use Rattle.def_grammar.specs.Pins.{Pin};
 ghost use Rattle.def_grammar.specs.Records.{component_of};
-ghost use Rattle.lef_grammar.specs.Library.{Library as TheLibrary};
-ghost use Rattle.connection_rules.specs.Terminals.{design_pin, design_pins, pin_of_component, pins_of};
+ghost use Rattle.lef_grammar.specs.Library.{Library as TheLibrary, Macro as TheMacro};
+ghost use Rattle.connection_rules.specs.Terminals.{component_pin, design_pin, design_pins, pin_of_component, pins_of};
+ghost use Rattle.cell_library.specs.PinViews.{pin_view as macro_pin_view};
 ghost use Rattle.place_parts.specs.ComponentViews.{component_view};
 ghost use Rattle.place_parts.specs.PinViews.{pin_view};
 ghost use Rattle.wire_parts.specs.TerminalViews.{terminal_view, terminals_of};
@@ -16,10 +17,12 @@ ghost use Rattle.def_reader.specs.StatementViews.{record_view, records_view};
 ghost use Rattle.design_wires.specs.Scales.{units_of};
 ghost use Rattle.net_pins.specs.Counting.{with_pins};
 ghost use Rattle.net_pins.specs.EntryPins.{borrowed_pin, listed, pin_of_entry, pin_of_record, pins_in};
+ghost use Rattle.net_pins.specs.FoundPins.{IsFrameOf};
 ghost use Rattle.net_pins.specs.Walking.{IsReady};
 
-use crate::component_pins::{MacroPin, put_component_pin};
+use crate::component_pins::put_component_pin;
 use crate::design_pins::put_design_pin;
+use crate::found_pin::FoundPin;
 use crate::pin_walk::PinWalk;
 use crate::seen_pins::PinWords;
 use crate::sources::Sources;
@@ -35,6 +38,28 @@ use std::alloc::{AllocError, Allocator};
 use wire_parts::nets::NetEntry;
 use wire_parts::terminals::Terminal;
 
+/// Puts a pin of a component that its macro has, where it counts, unless it was seen.
+fn put_found<'t, A: Allocator + Copy>(
+    pin: FoundPin<'_, '_, 't, A>,
+    component: &ComponentParts<'t>,
+    walk: &mut PinWalk<'_, '_, 't, A>,
+    nets: &mut NetList<'_, A>,
+) -> Result<(), AllocError>
+    requires { 0 < length nets.old }
+    ensures ok { (m : TheMacro) → IsFrameOf m pin.entry.frame → OnOk result ((walk.new.seen, nets.new) ≡ with_pins (component_pin walk.old.layers (units_of pin.entry.frame.scale) (component_view component.now) m (macro_pin_view (pin.entry.name.now, pin.entry.pin.now)) ∷ []) (walk.old.seen, nets.old)) }
+    ensures net { OnOk result (0 < length nets.new) }
+    ensures same { walk.new.layers ≡ walk.old.layers }
+{
+    let words = PinWords {
+        component: Some(component.name.bytes),
+        pin: pin.name,
+    };
+    if !walk.seen.note(words)? {
+        return Ok(());
+    }
+    put_component_pin(pin, component, &mut walk.layers, nets)
+}
+
 /// Puts the pin of this name of a component, where it has that and it counts, unless it was seen.
 fn put_pin_of<'a, 'l: 'a, 'r: 'a, 't: 'a, A: Allocator + Copy>(
     of: &Sources<'_, 'a, 'l, 'r, 't, A>,
@@ -47,25 +72,10 @@ fn put_pin_of<'a, 'l: 'a, 'r: 'a, 't: 'a, A: Allocator + Copy>(
     ensures ok { OnOk result ((walk.new.seen, nets.new) ≡ with_pins (option_to_list (pin_of_component of.now.library.now (units_of of.now.scale) pin.entry.now (component_view component.now))) (walk.old.seen, nets.old)) }
     ensures ready { OnOk result (IsReady of.now.library.now walk.new nets.new) }
 {
-    let Some(cell) = of.library.macro_of(component.cell.bytes) else {
-        return Ok(());
-    };
-    let Some(found) = cell.pin(pin) else {
-        return Ok(());
-    };
-    let words = PinWords {
-        component: Some(component.name.bytes),
-        pin,
-    };
-    if !walk.seen.note(words)? {
-        return Ok(());
+    match walk.pins.pin_of(of.scale, component.cell.bytes, pin)? {
+        Some(found) => put_found(found, component, walk, nets),
+        None => Ok(()),
     }
-    let pin = MacroPin {
-        cell,
-        name: pin,
-        pin: found,
-    };
-    put_component_pin(pin, of.scale, component, &mut walk.layers, nets)
 }
 
 /// Puts a pin of the design, where it counts, unless it was seen.

@@ -74,7 +74,7 @@ fn put_layer<A: Allocator + Copy>(
     requires { HasPart nets.old }
     ensures ok { OnOk result (nets.new ≡ with_shapes (layer_placed place layers.old.layers (shapes_view layer.now)) nets.old) }
     ensures part { OnOk result (HasPart nets.new) }
-    ensures same { OnOk result (layers.new ≡ layers.old) }
+    ensures same { layers.new ≡ layers.old }
 {
     match layers.layer_of(layer.layer) {
         Some(id) => put_rectangles(place, id, layer.rectangles.as_slice(), nets),
@@ -92,7 +92,7 @@ pub(crate) fn put_shapes<A: Allocator + Copy>(
     requires { HasPart nets.old }
     ensures ok { OnOk result (nets.new ≡ with_shapes (all_placed place layers.old.layers (map shapes_view shapes.now)) nets.old) }
     ensures part { OnOk result (HasPart nets.new) }
-    ensures same { OnOk result (layers.new ≡ layers.old) }
+    ensures same { layers.new ≡ layers.old }
 {
     for layer in shapes {
         put_layer(layers, place, layer, nets)?;
