@@ -5,7 +5,8 @@ use Rattle.std.specs.Int.{int_max, int_min}
 use Rattle.std.specs.Int.Signed.{le_z}
 use Rattle.std.specs.List.{flat_map}
 use Rattle.std.proofs.lemmas.Bool.{and_from, and_parts, both_ways, cases_Bool as cases}
-use Rattle.std.proofs.lemmas.Int.{ints, clamps}
+use Rattle.std.proofs.lemmas.Int.{ints}
+use Rattle.std.proofs.lemmas.List.{drop_all}
 use Rattle.std.proofs.lemmas.List.Sums.{sum_by-append}
 use Rattle.design_model.specs.Families.{cross_lines, pair_lines}
 use Rattle.design_model.specs.Geometry.{Rectangle, overlap}
@@ -112,20 +113,17 @@ one_of_components s outs stay met others components i x old new all below is tho
     (added ∙ ap (λ (xs : List Boxed). old ++ own_lines s outs (component_of x) xs) are)
     (subst (λ (xs : List Placed). SameLines (old ++ lines_of_components s (map component_of xs) stay outs []) all) (left_from components i x below is) so_far)
 
--- before the first
-pub begun : (s : Surroundings) (outs : List Rectangle) (stay : List Boxed) (components : List Placed) (lines : List (List ℕ)) → lines ≡ []
-    → SameLines (lines ++ lines_of_components s (map component_of components) stay outs []) (lines_of_components s (map component_of components) stay outs [])
-begun s outs stay components lines none = rw none (record { often = λ q. refl })
-
 no_blocked : (stay : List Boxed) → cross_lines blocked_of stay [] ≡ []
 no_blocked [] = refl
 no_blocked (x ∷ xs) = no_blocked xs
 
 -- behind the last
-pub ended : (s : Surroundings) (outs : List Rectangle) (stay : List Boxed) (left : List Placed) (lines all : List (List ℕ)) → left ≡ []
-    → SameLines (lines ++ lines_of_components s (map component_of left) stay outs []) all → SameLines lines all
-ended s outs stay left lines all none so_far =
-    let done : SameLines (lines ++ cross_lines blocked_of stay []) all = rw none at so_far in
+pub ended : (s : Surroundings) (outs : List Rectangle) (stay : List Boxed) (components : List Placed) (i : ℕ) (lines all : List (List ℕ)) → length components ≤ i
+    → SameLines (lines ++ lines_of_components s (map component_of (drop i components)) stay outs []) all → SameLines lines all
+ended s outs stay components i lines all over so_far =
+    let done : SameLines (lines ++ cross_lines blocked_of stay []) all =
+    subst (λ (xs : List Placed). SameLines (lines ++ lines_of_components s (map component_of xs) stay outs []) all) (drop_all i components over) so_far
+    in
     record {
       often = λ q.
           let a = done.often q in
