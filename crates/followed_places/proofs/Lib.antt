@@ -1,1 +1,4 @@
+mod ComponentLemmas
 mod FollowedLemmas
+mod MetLemmas
+mod OthersMet

@@ -1,11 +1,11 @@
 //! The components among numbered statements.
 
-ghost use Rattle.std.specs.Prelude.{◌≡◌, ◌<◌, ◌≤◌, ◌++◌, IfOk, OnOk, true, map};
+ghost use Rattle.std.specs.Prelude.{◌≡◌, ◌<◌, ◌≤◌, ◌++◌, IfOk, IsTrue, OnOk, map};
 ghost use Rattle.design_model.specs.declared.identifier.StmtId.{StmtId as Number};
 ghost use Rattle.def_grammar.specs.Records.{Record};
 ghost use Rattle.design_tables.specs.TableViews.{numbered_view};
-ghost use Rattle.line_laws.specs.Lines.{SameThings};
 ghost use Rattle.statement_boxes.specs.Boxes.{box_view};
+ghost use Rattle.line_laws.specs.Lines.{SameThings};
 ghost use Rattle.followed_places.specs.Placed.{placed_view};
 ghost use Rattle.followed_places.specs.Places.{components_under, place_under};
 
@@ -26,7 +26,9 @@ pub(crate) struct Placed<'t> {
 
 impl<'t> Placed<'t> {
     /// Its box.
-    pub(crate) fn place(&self) -> StatementBox {
+    pub(crate) fn place(&self) -> StatementBox
+        ensures { box_view result ≡ place_under (placed_view self.now) }
+    {
         StatementBox {
             id: self.id,
             rect: self.component.rect,
@@ -84,7 +86,7 @@ pub(crate) fn remove_all<A: Allocator + Copy>(
     boxes: &mut StatementBoxes<A>,
     components: &[Placed<'_>],
 ) -> bool
-    ensures { result ≡ true → SameThings boxes.old (map (λ p. place_under (placed_view p)) components.now ++ boxes.new) }
+    ensures { IsTrue result → SameThings boxes.old (map (λ p. place_under (placed_view p)) components.now ++ boxes.new) }
 {
     for placed in components {
         if !boxes.remove(placed.place()) {
