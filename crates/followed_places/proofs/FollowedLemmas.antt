@@ -1,5 +1,6 @@
 -- What is noted of a text whose statements are exchanged.
-use Rattle.std.proofs.Common.{◌≡◌, ◌+◌, ◌||◌, ℕ, Bool, true, false, List, [], ◌∷◌, ◌++◌, filter, flat_map, map, sum_by, Option, Some, None, refl, sym, ap, ap₂, ◌∙◌, append_assoc, arith, if◌then◌else◌}
+use Rattle.std.proofs.Common.{◌≡◌, ◌+◌, ◌||◌, ℕ, Bool, true, false, List, [], ◌∷◌, ◌++◌, filter, flat_map, map, sum_by, Option, Some, None, Result, Ok, Err, refl, sym, ap, ap₂, subst, ◌∙◌, append_assoc, arith, if◌then◌else◌}
+use Rattle.std.specs.Prelude.{IfOk, IfSome}
 use Rattle.std.specs.List.{cons_option, filter_map, list_any}
 use Rattle.std.specs.Option.{option_map}
 use Rattle.std.proofs.lemmas.List.{map-append}
@@ -101,6 +102,17 @@ module _ (slots : List (Option Kept)) where
 
     pub their_records : map (λ id. record_of (kept_at slots id)) (map (λ x. x.0) (filter surrounds records)) ≡ filter is_surrounding (said records)
     their_records = rw is (around_said ids ∙ filter_said (under ids))
+
+-- numbers under which the same statements are kept
+pub standing_pieces : (slots : List (Option Kept)) (records : List (StmtId × Record)) (a b : List StmtId) → records ≡ records_under slots a → records ≡ records_under slots b → HavePieces slots a → HavePieces slots b
+standing_pieces slots records a b is also pieces =
+    let same : a ≡ b = sym (firsts_under slots a) ∙ ap (map (λ x. x.0)) (sym is ∙ also) ∙ firsts_under slots b in
+    subst (HavePieces slots) same pieces
+
+pub of_found : {A E : Type 0} (P Q : Type 0) (r : Result (Option A) E) → (P → Q) → IfOk r (λ found. IfSome found (λ a. P)) → IfOk r (λ found. IfSome found (λ a. Q))
+of_found P Q (Ok (Some a)) f p = f p
+of_found P Q (Ok None) f p = tt
+of_found P Q (Err e) f p = tt
 
 -- the components among statements
 seconds : (library : Library) (u : ℕ) (rs : List (StmtId × Record)) → map (λ x. x.1) (components_under library u rs) ≡ filter_map (box_of library u) (said rs)
@@ -209,7 +221,7 @@ module _ (library : Library) (slots : List (Option Kept)) (old new : List (StmtI
     follow : PlacesFollow library (said old) (said new) (say went) (say came) (say stay)
     follow = exchanged library (said old) (said new) (say went) (say came) (say stay) exchange same_surroundings
 
-    same_scale : scale (said new) ≡ scale (said old)
+    pub same_scale : scale (said new) ≡ scale (said old)
     same_scale = sym (told library (said new)).scale ∙ ap scale (sym same_surroundings) ∙ (told library (said old)).scale
 
     -- by what the statements of what stands round components say
@@ -230,15 +242,20 @@ module _ (library : Library) (slots : List (Option Kept)) (old new : List (StmtI
             rw (lines_the_same s (surroundings library said_around) s_is (map (λ x. x.1) (components_under library u (these some))), around_is, outs_are ∙ ap keep_outs are ∙ (told library (said old)).keep_outs, seconds library u (these some), seconds library u (these stay), units)
             refl
 
-        pub awaits : (kept : List (List ℕ)) (pieces : HavePieces slots stay) → kept ≡ sorted_by_bytes (lines_on_places library (said old))
+        all_awaited : (kept : List (List ℕ)) (pieces : HavePieces slots stay) → kept ≡ sorted_by_bytes (lines_on_places library (said old))
             → Awaits library u slots stay s outs (components_under library u (these went)) (components_under library u (these came)) places.boxes kept (lines_on_places library (said new))
-        awaits kept pieces kept_are = record {
+        all_awaited kept pieces kept_are = record {
           pieces = pieces;
           boxes_are = record { sums = λ w. has.boxes_are.sums w ∙ ap (λ v. sum_by w (map place_under (components_under library v old))) (sym units) ∙ (places_parted u old went old_is).sums w };
           before = lines_on_places library (said old);
           kept_are = kept_are;
           follow = rw (lines_are went, lines_are came) follow.lines;
         }
+
+        pub awaits : (gone come : List (StmtId × Boxed)) → gone ≡ components_under library u (these went) → come ≡ components_under library u (these came)
+            → (kept : List (List ℕ)) (pieces : HavePieces slots stay) → kept ≡ sorted_by_bytes (lines_on_places library (said old))
+            → Awaits library u slots stay s outs gone come places.boxes kept (lines_on_places library (said new))
+        awaits gone come gone_are come_are kept pieces kept_are = rw (gone_are, come_are) (all_awaited kept pieces kept_are)
 
         pub has_new : (boxes : List (StmtId × Rectangle)) → SameThings boxes (map place_under (components_under library u (these came)) ++ map place_under (components_under library u (these stay)))
             → HasPlaces library new (record { boxes = boxes; around = places.around })

@@ -1,4 +1,5 @@
 mod ComponentLemmas
+mod ExchangeLemmas
 mod FollowedLemmas
 mod MetLemmas
 mod OthersMet

@@ -59,11 +59,11 @@ pub(crate) fn components_of<'t, A: Allocator + Copy>(
 }
 
 /// The boxes of the components among statements that take part, in their order.
-pub(crate) fn places_of<A: Allocator + Copy>(
+pub(crate) fn places_of<'t, A: Allocator + Copy>(
     alloc: A,
-    library: &Library<'_, A>,
+    library: &'t Library<'_, A>,
     scale: u32,
-    statements: &[Numbered<'_>],
+    statements: &[Numbered<'t>],
 ) -> Result<Vec<StatementBox, A>, AllocError>
     requires some { 0 < scale }
     requires few { scale ≤ 100000 }

@@ -140,12 +140,12 @@ fn exchanged<'t, A: Allocator + Copy>(
 
 impl<A: Allocator + Copy> FollowedPlaces<A> {
     /// Notes the components of a text. Each statement is read once, from its piece.
-    pub fn of(
+    pub fn of<'t>(
         alloc: A,
-        library: &Library<'_, A>,
-        text: &DesignText<A>,
+        library: &'t Library<'_, A>,
+        text: &'t DesignText<A>,
     ) -> Result<FollowedPlaces<A>, AllocError>
-        ensures { IfOk result (HasPlaces library.now (records_in text.now)) }
+        ensures { IfOk result (HasPlaces library.entry.now (records_in text.entry.now)) }
     {
         scales_are_good();
         surroundings_are_told();
@@ -161,17 +161,17 @@ impl<A: Allocator + Copy> FollowedPlaces<A> {
 
     /// After an edit of a text, by which these statements went out and these came in, the lines on the components of the text, from those
     /// before it; `None` where they are to be made anew. What was noted then follows too, and else isn't to be used any more.
-    pub fn follow(
+    pub fn follow<'t>(
         &mut self,
         alloc: A,
-        library: &Library<'_, A>,
-        text: &DesignText<A>,
+        library: &'t Library<'_, A>,
+        text: &'t DesignText<A>,
         exchange: Exchange<'_>,
         kept: KeptLines<A>,
     ) -> Result<Option<KeptLines<A>>, AllocError>
         requires { (old : Content) × IsExchange old text.now (exchange_view exchange) × HasPlaces library.now (records_in old) self.old × AreOnPlaces library.now (said (records_in old)) kept }
-        ensures lines { IfOk result (λ found. IfSome found (AreOnPlaces library.now (said (records_in text.now)))) }
-        ensures places { IfOk result (λ found. IfSome found (λ _. HasPlaces library.now (records_in text.now) self.new)) }
+        ensures lines { IfOk result (λ found. IfSome found (AreOnPlaces library.entry.now (said (records_in text.entry.now)))) }
+        ensures places { IfOk result (λ found. IfSome found (λ _. HasPlaces library.entry.now (records_in text.entry.now) self.new)) }
     {
         scales_are_good();
         surroundings_are_told();

@@ -1,0 +1,73 @@
+-- Components that go out of those whose boxes are kept, and others that come in.
+use Rattle.std.proofs.Common.{◌≡◌, ◌+◌, ℕ, List, [], ◌∷◌, ◌++◌, map, sum_by, Option, Some, None, Result, Ok, Err, refl, sym, ap, ap₂, ◌∙◌, arith}
+use Rattle.std.specs.Prelude.{IfOk, IfSome}
+use Rattle.std.proofs.lemmas.List.Sums.{sum_by-append}
+use Rattle.design_model.specs.declared.identifier.StmtId.{StmtId}
+use Rattle.design_model.specs.Geometry.{Rectangle}
+use Rattle.design_rules.specs.Boxes.{Boxed}
+use Rattle.design_rules.specs.Surroundings.{Surroundings}
+use Rattle.lef_grammar.specs.Library.{Library}
+use Rattle.line_laws.specs.Lines.{SameLines, SameThings}
+use Rattle.following_laws.specs.DesignLaws.{lines_of_components}
+use Rattle.following_laws.specs.FamilyLaws.{SameLinesFollow}
+use Rattle.following_laws.specs.Following.{LinesFollow}
+use Rattle.text_pieces.specs.KeptRecords.{records_under}
+use Rattle.text_pieces.specs.Tables.{Kept}
+use Rattle.followed_places.specs.Lines.{AreBoxesOf, Awaits, boxed_under}
+use Rattle.followed_places.specs.Placed.{component_of, placed_view}
+use Rattle.followed_places.specs.Places.{components_under, place_under}
+use Rattle.followed_places.specs.declared.components.Placed.{Placed}
+
+pub always : {A E : Type 0} (P : Type 0) (r : Result (Option A) E) → P → IfOk r (λ found. IfSome found (λ a. P))
+always P (Ok (Some a)) p = p
+always P (Ok None) p = tt
+always P (Err e) p = tt
+
+same_components : (ps : List Placed) → map (λ (x : StmtId × Boxed). x.1) (map placed_view ps) ≡ map component_of ps
+same_components [] = refl
+same_components (p ∷ ps) = ap (λ (bs : List Boxed). component_of p ∷ bs) (same_components ps)
+
+same_places : (ps : List Placed) → map (λ p. place_under (placed_view p)) ps ≡ map place_under (map placed_view ps)
+same_places [] = refl
+same_places (p ∷ ps) = ap (λ (bs : List (StmtId × Rectangle)). place_under (placed_view p) ∷ bs) (same_places ps)
+
+module _ (library : Library) (u : ℕ) (slots : List (Option Kept)) (stay : List StmtId) (s : Surroundings) (outs : List Rectangle)
+    (went came : List Placed) (boxes : List (StmtId × Rectangle)) (kept after : List (List ℕ))
+    (a : Awaits library u slots stay s outs (map placed_view went) (map placed_view came) boxes kept after) where
+  -- those that stay are left
+  pub boxes_left : (left : List (StmtId × Rectangle)) → SameThings boxes (map (λ p. place_under (placed_view p)) went ++ left) → AreBoxesOf library u slots stay left
+  boxes_left left taken = record {
+    kept = a.pieces;
+    boxes_are = record {
+      sums = λ w.
+          let these = map place_under (components_under library u (records_under slots stay)) in
+          let x = taken.sums w in
+          let y = a.boxes_are.sums w in
+          let z = ap (sum_by w) (same_places went) in
+          omega (arith, x, y, z, sum_by-append w (map (λ p. place_under (placed_view p)) went) left, sum_by-append w (map place_under (map placed_view went)) these);
+    };
+  }
+
+  -- and those that come stand with them
+  pub boxes_grown : (left grown : List (StmtId × Rectangle)) → SameThings boxes (map (λ p. place_under (placed_view p)) went ++ left) → SameThings grown (map (λ p. place_under (placed_view p)) came ++ left)
+      → SameThings grown (map place_under (map placed_view came) ++ map place_under (components_under library u (records_under slots stay)))
+  boxes_grown left grown taken put = record {
+    sums = λ w.
+        let these = map place_under (components_under library u (records_under slots stay)) in
+        let x = put.sums w in
+        let y = (boxes_left left taken).boxes_are.sums w in
+        let z = ap (sum_by w) (same_places came) in
+        omega (arith, x, y, z, sum_by-append w (map (λ p. place_under (placed_view p)) came) left, sum_by-append w (map place_under (map placed_view came)) these);
+  }
+
+  abbrev on : List Placed → List (List ℕ)
+  on some = lines_of_components s (map component_of some) (boxed_under library u slots stay) outs []
+
+  turned : (lines : List (List ℕ)) (some : List Placed) → SameLines lines (on some) → SameLines (lines_of_components s (map (λ (x : StmtId × Boxed). x.1) (map placed_view some)) (boxed_under library u slots stay) outs []) lines
+  turned lines some same = rw (same_components some) (record { often = λ q. sym (same.often q) })
+
+  same_lines : (lines : List (List ℕ)) → SameLines lines lines
+  same_lines lines = record { often = λ q. refl }
+
+  pub lines_follow : SameLinesFollow → (out put : List (List ℕ)) → SameLines out (on went) → SameLines put (on came) → LinesFollow a.before after out put
+  lines_follow law out put gone come = law _ _ _ _ a.before after out put (same_lines a.before) (same_lines after) (turned out went gone) (turned put came come) a.follow
