@@ -31,4 +31,4 @@ pub record Awaits (library : Library) (u : ℕ) (slots : List (Option Kept)) (st
   pub before : List (List ℕ)
   pub kept_are : kept ≡ sorted_by_bytes before
   pub follow : LinesFollow before after (lines_of_components s (map (λ x. x.1) went) (boxed_under library u slots stay) outs [])
-    (lines_of_components s (map (λ x. x.1) came) (boxed_under library u slots stay) outs [])
+      (lines_of_components s (map (λ x. x.1) came) (boxed_under library u slots stay) outs [])

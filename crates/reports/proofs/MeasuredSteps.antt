@@ -49,14 +49,14 @@ measured_push (m ∷ ns) (k ∷ ls) n l same = ap (λ ms. net_measured m k ∷ m
 capped_twice : (n x : ℕ) → capped (capped n + x) ≡ capped (n + x)
 capped_twice n x = omega arith
 
+firsts_of_none : [] ≡ firsts (measured [] [])
+unfolding with_all
+firsts_of_none = refl
+
 module _ (columns rows : List ℤ) where
   -- no nets
   pub none_measured : (cells : CellTable) → HoldsDensities columns rows [] cells → AreMeasured columns rows [] [] [] 0 cells
   none_measured cells held = record { each = refl; by_name = firsts_of_none; together = refl; densities = held }
-    where
-      firsts_of_none : [] ≡ firsts (measured [] [])
-      unfolding with_all
-      firsts_of_none = refl
 
   -- one net more
   module _ (ns : List Net) (ls : List ℕ) (n : Net) (l : ℕ) (ss : List NetShape) (seen : map shape_view ss ≡ map bare (flat_map shapes_of_net (n ∷ [])))

@@ -45,7 +45,12 @@ impl<A: Allocator + Copy> NetTable<A> {
     }
 
     /// Puts a net behind the others, unless its name is taken. The name is copied.
-    pub(crate) fn add(&mut self, alloc: A, name: &[u8], measures: Measures) -> Result<(), AllocError>
+    pub(crate) fn add(
+        &mut self,
+        alloc: A,
+        name: &[u8],
+        measures: Measures,
+    ) -> Result<(), AllocError>
         ensures { OnOk result (self.new ≡ with_first name_of self.old (measures_view name.now measures)) }
     {
         if self.nets.contains_key(Name { bytes: name }) {

@@ -187,7 +187,7 @@ module _ (component_lines_follow : ComponentLinesFollow) (library : Library) (ol
   pub places_follow : PlacesFollow library old new out put stay
   places_follow =
       let follow = component_lines_follow (surroundings library old) (boxes library old) (boxes library new) (boxes_among library old out) (boxes_among library old put) (boxes_among library old stay)
-            (keep_outs old) (keep_outs old) [] [] (keep_outs old) boxes_exchanged (none_exchanged (keep_outs old)) in
+      (keep_outs old) (keep_outs old) [] [] (keep_outs old) boxes_exchanged (none_exchanged (keep_outs old)) in
       record {
         boxes = boxes_exchanged;
         lines = rw (design_has_component_lines library old, design_has_component_lines library new, surroundings_stay, keep_outs_stay) follow;

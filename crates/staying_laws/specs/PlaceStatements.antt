@@ -39,8 +39,8 @@ SurroundingsAreTold = (library : Library) (design : List Record) → TellsSurrou
 pub record PlacesFollow (library : Library) (old new out put stay : List Record) : Type 0 where
   pub boxes : Exchange (boxes library old) (boxes library new) (boxes_among library old out) (boxes_among library old put) (boxes_among library old stay)
   pub lines : LinesFollow (lines_on_places library old) (lines_on_places library new)
-    (lines_of_components (surroundings library old) (boxes_among library old out) (boxes_among library old stay) (keep_outs old) [])
-    (lines_of_components (surroundings library old) (boxes_among library old put) (boxes_among library old stay) (keep_outs old) [])
+      (lines_of_components (surroundings library old) (boxes_among library old out) (boxes_among library old stay) (keep_outs old) [])
+      (lines_of_components (surroundings library old) (boxes_among library old put) (boxes_among library old stay) (keep_outs old) [])
 
 abbrev pub ComponentsAreExchanged : Type 0
 ComponentsAreExchanged = (library : Library) (old new out put stay : List Record) → Exchange old new out put stay → filter is_surrounding old ≡ filter is_surrounding new

@@ -57,8 +57,8 @@ of-requires-clause-some g c =
     let told = c.surroundings_are_told.ensures in
     let exchanged = c.components_are_exchanged.ensures in
     let unit : scale (map record_view c.deref-2.result.now) ≡ scale (said new) =
-        scale_is library slots old new front rest went came x.old_is x.new_is gone come told exchanged _ read _ has
-        ∙ sym (same_scale library slots old new front rest went came x.old_is x.new_is gone come told exchanged) in
+    scale_is library slots old new front rest went came x.old_is x.new_is gone come told exchanged _ read _ has
+    ∙ sym (same_scale library slots old new front rest went came x.old_is x.new_is gone come told exchanged) in
     let good = c.scales_are_good.ensures (text_of text) _ c.design_is_read.ensures.reads in
     rw (unit ∙ ap scale c.statements_are_kept.ensures.said) good.some
 
@@ -85,8 +85,8 @@ of-requires-clause-few g c =
     let told = c.surroundings_are_told.ensures in
     let exchanged = c.components_are_exchanged.ensures in
     let unit : scale (map record_view c.deref-2.result.now) ≡ scale (said new) =
-        scale_is library slots old new front rest went came x.old_is x.new_is gone come told exchanged _ read _ has
-        ∙ sym (same_scale library slots old new front rest went came x.old_is x.new_is gone come told exchanged) in
+    scale_is library slots old new front rest went came x.old_is x.new_is gone come told exchanged _ read _ has
+    ∙ sym (same_scale library slots old new front rest went came x.old_is x.new_is gone come told exchanged) in
     let good = c.scales_are_good.ensures (text_of text) _ c.design_is_read.ensures.reads in
     rw (unit ∙ ap scale c.statements_are_kept.ensures.said) good.few
 
@@ -113,8 +113,8 @@ exchanged-requires-clause-some g c =
     let told = c.surroundings_are_told.ensures in
     let exchanged = c.components_are_exchanged.ensures in
     let unit : scale (map record_view c.deref-2.result.now) ≡ scale (said new) =
-        scale_is library slots old new front rest went came x.old_is x.new_is gone come told exchanged _ read _ has
-        ∙ sym (same_scale library slots old new front rest went came x.old_is x.new_is gone come told exchanged) in
+    scale_is library slots old new front rest went came x.old_is x.new_is gone come told exchanged _ read _ has
+    ∙ sym (same_scale library slots old new front rest went came x.old_is x.new_is gone come told exchanged) in
     let good = c.scales_are_good.ensures (text_of text) _ c.design_is_read.ensures.reads in
     rw (c.in_ok-change.ensures.scale ∙ unit ∙ ap scale c.statements_are_kept.ensures.said) good.some
 
@@ -141,8 +141,8 @@ exchanged-requires-clause-few g c =
     let told = c.surroundings_are_told.ensures in
     let exchanged = c.components_are_exchanged.ensures in
     let unit : scale (map record_view c.deref-2.result.now) ≡ scale (said new) =
-        scale_is library slots old new front rest went came x.old_is x.new_is gone come told exchanged _ read _ has
-        ∙ sym (same_scale library slots old new front rest went came x.old_is x.new_is gone come told exchanged) in
+    scale_is library slots old new front rest went came x.old_is x.new_is gone come told exchanged _ read _ has
+    ∙ sym (same_scale library slots old new front rest went came x.old_is x.new_is gone come told exchanged) in
     let good = c.scales_are_good.ensures (text_of text) _ c.design_is_read.ensures.reads in
     rw (c.in_ok-change.ensures.scale ∙ unit ∙ ap scale c.statements_are_kept.ensures.said) good.few
 
@@ -169,8 +169,8 @@ exchanged-requires-clause-awaits g c =
     let told = c.surroundings_are_told.ensures in
     let exchanged = c.components_are_exchanged.ensures in
     let unit : scale (map record_view c.deref-2.result.now) ≡ scale (said new) =
-        scale_is library slots old new front rest went came x.old_is x.new_is gone come told exchanged _ read _ has
-        ∙ sym (same_scale library slots old new front rest went came x.old_is x.new_is gone come told exchanged) in
+    scale_is library slots old new front rest went came x.old_is x.new_is gone come told exchanged _ read _ has
+    ∙ sym (same_scale library slots old new front rest went came x.old_is x.new_is gone come told exchanged) in
     let good = c.scales_are_good.ensures (text_of text) _ c.design_is_read.ensures.reads in
     let change = c.in_ok-change.change in
     let seen = rw (c.in-Some.is) at c.in_ok-went.ensures.statements in
@@ -182,8 +182,8 @@ exchanged-requires-clause-awaits g c =
     let put = c.in_ok-change.ensures.came ∙ ap (components_under library (scale (map record_view c.deref-2.result.now))) those ∙ ap (λ (u : ℕ). components_under library u (records_under slots came)) (sym u_is) in
     let staying = stay_pieces library slots old new front rest went came x.old_is x.new_is gone come all in
     let awaited =
-        awaits library slots old new front rest went came x.old_is x.new_is gone come told exchanged _ read _ has change.scale u_is (surroundings_view change.around.surroundings) c.in_ok-change.ensures.surroundings
-        (map rectangle_of change.around.keep_outs.items) c.in_ok-change.ensures.keep_outs _ _ out put c.args.kept.lines staying c.requires.3 in
+    awaits library slots old new front rest went came x.old_is x.new_is gone come told exchanged _ read _ has change.scale u_is (surroundings_view change.around.surroundings) c.in_ok-change.ensures.surroundings
+    (map rectangle_of change.around.keep_outs.items) c.in_ok-change.ensures.keep_outs _ _ out put c.args.kept.lines staying c.requires.3 in
     (front ++ rest, lines_on_places library (said new), awaited)
 
 pub returns-clause-lines : goal.returns-clause-lines
@@ -209,8 +209,8 @@ returns-clause-lines g c =
     let told = c.surroundings_are_told.ensures in
     let exchanged = c.components_are_exchanged.ensures in
     let unit : scale (map record_view c.deref-2.result.now) ≡ scale (said new) =
-        scale_is library slots old new front rest went came x.old_is x.new_is gone come told exchanged _ read _ has
-        ∙ sym (same_scale library slots old new front rest went came x.old_is x.new_is gone come told exchanged) in
+    scale_is library slots old new front rest went came x.old_is x.new_is gone come told exchanged _ read _ has
+    ∙ sym (same_scale library slots old new front rest went came x.old_is x.new_is gone come told exchanged) in
     let good = c.scales_are_good.ensures (text_of text) _ c.design_is_read.ensures.reads in
     let change = c.in_ok-change.change in
     let seen = rw (c.in-Some.is) at c.in_ok-went.ensures.statements in
@@ -222,8 +222,8 @@ returns-clause-lines g c =
     let put = c.in_ok-change.ensures.came ∙ ap (components_under library (scale (map record_view c.deref-2.result.now))) those ∙ ap (λ (u : ℕ). components_under library u (records_under slots came)) (sym u_is) in
     let staying = stay_pieces library slots old new front rest went came x.old_is x.new_is gone come all in
     let awaited =
-        awaits library slots old new front rest went came x.old_is x.new_is gone come told exchanged _ read _ has change.scale u_is (surroundings_view change.around.surroundings) c.in_ok-change.ensures.surroundings
-        (map rectangle_of change.around.keep_outs.items) c.in_ok-change.ensures.keep_outs _ _ out put c.args.kept.lines staying c.requires.3 in
+    awaits library slots old new front rest went came x.old_is x.new_is gone come told exchanged _ read _ has change.scale u_is (surroundings_view change.around.surroundings) c.in_ok-change.ensures.surroundings
+    (map rectangle_of change.around.keep_outs.items) c.in_ok-change.ensures.keep_outs _ _ out put c.args.kept.lines staying c.requires.3 in
     c.exchanged.ensures.lines (front ++ rest) (lines_on_places library (said new)) awaited
 
 pub returns-clause-places : goal.returns-clause-places
@@ -249,8 +249,8 @@ returns-clause-places g c =
     let told = c.surroundings_are_told.ensures in
     let exchanged = c.components_are_exchanged.ensures in
     let unit : scale (map record_view c.deref-2.result.now) ≡ scale (said new) =
-        scale_is library slots old new front rest went came x.old_is x.new_is gone come told exchanged _ read _ has
-        ∙ sym (same_scale library slots old new front rest went came x.old_is x.new_is gone come told exchanged) in
+    scale_is library slots old new front rest went came x.old_is x.new_is gone come told exchanged _ read _ has
+    ∙ sym (same_scale library slots old new front rest went came x.old_is x.new_is gone come told exchanged) in
     let good = c.scales_are_good.ensures (text_of text) _ c.design_is_read.ensures.reads in
     let change = c.in_ok-change.change in
     let seen = rw (c.in-Some.is) at c.in_ok-went.ensures.statements in
@@ -262,8 +262,8 @@ returns-clause-places g c =
     let put = c.in_ok-change.ensures.came ∙ ap (components_under library (scale (map record_view c.deref-2.result.now))) those ∙ ap (λ (u : ℕ). components_under library u (records_under slots came)) (sym u_is) in
     let staying = stay_pieces library slots old new front rest went came x.old_is x.new_is gone come all in
     let awaited =
-        awaits library slots old new front rest went came x.old_is x.new_is gone come told exchanged _ read _ has change.scale u_is (surroundings_view change.around.surroundings) c.in_ok-change.ensures.surroundings
-        (map rectangle_of change.around.keep_outs.items) c.in_ok-change.ensures.keep_outs _ _ out put c.args.kept.lines staying c.requires.3 in
+    awaits library slots old new front rest went came x.old_is x.new_is gone come told exchanged _ read _ has change.scale u_is (surroundings_view change.around.surroundings) c.in_ok-change.ensures.surroundings
+    (map rectangle_of change.around.keep_outs.items) c.in_ok-change.ensures.keep_outs _ _ out put c.args.kept.lines staying c.requires.3 in
     let grown = c.exchanged.ensures.boxes (front ++ rest) (lines_on_places library (said new)) awaited in
     of_found _ _ c.exchanged.result
     (λ same. has_new library slots old new front rest went came x.old_is x.new_is gone come told exchanged _ read _ has change.scale u_is (surroundings_view change.around.surroundings) c.in_ok-change.ensures.surroundings
