@@ -12,6 +12,9 @@ use Rattle.edit_rules.specs.NetEdits.{NetChange}
 use Rattle.following_laws.specs.Following.{LinesFollow}
 use Rattle.staying_laws.specs.NetStatements.{lines_on_net}
 use Rattle.staying_laws.specs.Staying.{lines_on_places, lines_on_statements}
+use Rattle.design_text.specs.DesignTexts.{Content}
+use Rattle.design_text.specs.Exchanges.{Exchanged, IsExchange, records_in}
+use Rattle.followed_places.specs.Places.{HasPlaces, Places, said}
 use Rattle.edit_session.specs.declared.known_lines.KnownLines.{KnownLines}
 
 -- lines that are kept are these, in the order of their bytes
@@ -54,3 +57,10 @@ pub record Led {A : Type 0} (library : Library) (text : List ℕ) (change : Chan
   pub reads : read_def text ≡ Ok (applied change before)
   pub knew : AreKnown library before known
   pub told : IfSome out (AreBefore library before change)
+
+-- A text was edited, and which statements were exchanged is told, or not. What was noted of the components of the text before it, and the
+-- lines that were known, are those of that text.
+pub record Followed {A : Type 0} (library : Library) (old new : Content) (exchanged : Option Exchanged) (noted : Option Places) (known : KnownLines A) : Type 0 where
+  pub exchange : IfSome exchanged (IsExchange old new)
+  pub had : IfSome noted (HasPlaces library (records_in old))
+  pub knew : AreKnown library (said (records_in old)) known

@@ -8,9 +8,9 @@ ghost use Rattle.edit_rules.specs.NetEdits.{NetChange};
 ghost use Rattle.lef_grammar.specs.Library.{Library as TheLibrary};
 ghost use Rattle.report_lines.specs.Kinds.{HaveTheirKinds};
 ghost use Rattle.report_rules.specs.Diagnostics.{diagnostics};
-ghost use Rattle.staying_laws.specs.Staying.{lines_on_statements};
+ghost use Rattle.staying_laws.specs.Staying.{lines_on_places, lines_on_statements};
 ghost use Rattle.design_text.specs.DesignTexts.{text_of};
-ghost use Rattle.edit_session.specs.Known.{AllKnown, AreBefore, AreKnown, Led};
+ghost use Rattle.edit_session.specs.Known.{AllKnown, AreBefore, AreKept, AreKnown, Led};
 
 use crate::net_statements::{followed_if_known, lines_before};
 use cell_library::library::Library;
@@ -71,6 +71,15 @@ impl<A: Allocator + Copy> KnownLines<A> {
         ensures { result ≡ true → AllKnown self.now }
     {
         self.statements.is_some() && self.places.is_some() && self.nets.is_some()
+    }
+
+    /// Makes these lines on components known, if there are some.
+    pub(crate) fn put_places(&mut self, places: Option<KeptLines<A>>)
+        ensures { (library : TheLibrary) (design : List Record) → AreKnown library design self.old → IfSome places (AreKept (lines_on_places library design)) → AreKnown library design self.new }
+    {
+        if places.is_some() {
+            self.places = places;
+        }
     }
 
     /// Forgets all lines but those on statements.

@@ -22,6 +22,7 @@ ghost use Rattle.edit_session.specs.Sessions.{AnswersOn, AreDiagnostics, HasPart
 
 use crate::known_lines::KnownLines;
 use crate::measures::kept_or_made;
+use crate::places::{follow_places, moves_a_component, note_places};
 use crate::report::know_lines;
 use crate::view::{View, view_of};
 use cell_library::library::Library;
@@ -34,6 +35,7 @@ use design_model::identifier::LayerId;
 use design_model::mode::Section;
 use design_text::text::DesignText;
 use edit_model::edit::{Done, Edit, EditRefusal};
+use followed_places::FollowedPlaces;
 use reports::Reports;
 use std::alloc::{AllocError, Allocator, Global};
 use std::io::Write;
@@ -49,12 +51,16 @@ pub struct Session<'s, 'l, A: Allocator + Copy = Global> {
     reports: Option<Reports<A>>,
     /// The lines on the present text that are known.
     known: KnownLines<A>,
+    /// The components of the present text, once an edit moved one while the lines on them were known.
+    places: Option<FollowedPlaces<A>>,
 }
 
 impl<'s, 'l, A: Allocator + Copy> Model for Session<'s, 'l, A> {
     ghost use Rattle.std.specs.Prelude.{IfSome, IsOk};
     ghost use Rattle.def_grammar.specs.Records.{read_def};
     ghost use Rattle.design_text.specs.DesignTexts.{text_of};
+    ghost use Rattle.design_text.specs.Exchanges.{records_in};
+    ghost use Rattle.followed_places.specs.Places.{HasPlaces};
     ghost use Rattle.edit_session.specs.Contents.{Content};
     ghost use Rattle.edit_session.specs.Known.{AreKnownOf};
     ghost use Rattle.edit_session.specs.Sessions.{AnswersOn};
@@ -63,7 +69,7 @@ impl<'s, 'l, A: Allocator + Copy> Model for Session<'s, 'l, A> {
 
     ghost view = { λ s. record { library = s.library.now; text = text_of s.text } };
 
-    ghost invariant = { λ s. IsOk (read_def (text_of s.text)) × IfSome s.reports (AnswersOn s.library.now (text_of s.text)) × AreKnownOf s.library.now (text_of s.text) s.known };
+    ghost invariant = { λ s. IsOk (read_def (text_of s.text)) × IfSome s.reports (AnswersOn s.library.now (text_of s.text)) × AreKnownOf s.library.now (text_of s.text) s.known × IfSome s.places (HasPlaces s.library.now (records_in s.text)) };
 }
 
 impl<'s, 'l, A: Allocator + Copy> Session<'s, 'l, A> {
@@ -99,6 +105,7 @@ impl<'s, 'l, A: Allocator + Copy> Session<'s, 'l, A> {
             text,
             reports: None,
             known: KnownLines::none(),
+            places: None,
         })
     }
 
@@ -128,14 +135,31 @@ impl<'s, 'l, A: Allocator + Copy> Session<'s, 'l, A> {
         let out = self
             .known
             .before(self.alloc, self.library, &self.text, edit);
+        if moves_a_component(edit) {
+            let places = &mut self.places;
+            note_places(self.alloc, self.library, &self.text, &self.known, places);
+        }
+        self.text.statements_are_kept();
+        self.text.design_is_read();
         let edited = self.text.edit(self.alloc, self.library, edit);
         self.text.text_reads();
         let made = edited?;
         let reads = made.reads();
-        self.text.let_go(made);
         self.reports = None;
+        let places = follow_places(
+            self.alloc,
+            self.library,
+            &self.text,
+            &made,
+            &mut self.places,
+            &mut self.known,
+        );
+        self.text.let_go(made);
+        self.text.statements_are_kept();
+        self.text.design_is_read();
         self.known
             .follow(self.alloc, self.library, &self.text, edit, out);
+        self.known.put_places(places);
         Ok(Done { reads, tests: 0 })
     }
 
@@ -146,13 +170,28 @@ impl<'s, 'l, A: Allocator + Copy> Session<'s, 'l, A> {
         ensures library { self.new.library ≡ self.old.library }
         ensures reads { IsOk (read_def self.new.text) }
     {
+        let noted = &mut self.places;
+        note_places(self.alloc, self.library, &self.text, &self.known, noted);
+        self.text.statements_are_kept();
+        self.text.design_is_read();
         let edited = self.text.replace(self.alloc, a, b, new);
         self.text.text_reads();
         let made = edited?;
         let reads = made.reads();
-        self.text.let_go(made);
         self.reports = None;
+        let places = follow_places(
+            self.alloc,
+            self.library,
+            &self.text,
+            &made,
+            &mut self.places,
+            &mut self.known,
+        );
+        self.text.let_go(made);
+        self.text.statements_are_kept();
+        self.text.design_is_read();
         self.known = KnownLines::none();
+        self.known.put_places(places);
         Ok(Done { reads, tests: 0 })
     }
 
