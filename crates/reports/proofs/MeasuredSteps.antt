@@ -98,7 +98,7 @@ module _ (columns rows : List ℤ) where
         rw (nets, lengths) (one_measured (map one (take i gs)) (map long (take i gs)) (one g) (long g) ss seen table table_after total total_after cells cells_after put added held old)
 
     pub all_measured : (i : ℕ) (table : List MeasuredNet) (total : ℕ) (cells : CellTable) → length gs ≤ i → SoMany i table total cells → AreMeasured columns rows (map one gs) (map long gs) table total cells
-    all_measured i table total cells past held = rw (take_all gs i past) at held
+    all_measured i table total cells past held = rw (take_all i gs past) at held
 
 -- what is made of what is seen of each is made of each
 pub map_twice : {G H Y : Type 0} (view : G → H) (make : H → Y) (gs : List G) → map make (map view gs) ≡ map (λ g. make (view g)) gs

@@ -42,7 +42,7 @@ pub(crate) fn add_shapes<A: Allocator + Copy>(
 }
 
 /// Adds components to the densities of cells, all on layer 0.
-pub(crate) fn add_boxes<A: Allocator + Copy>(
+fn add_boxes<A: Allocator + Copy>(
     sums: &mut CellSums<A>,
     boxes: &[PlacedBox<'_>],
 ) -> Result<(), AllocError>
@@ -52,4 +52,19 @@ pub(crate) fn add_boxes<A: Allocator + Copy>(
         sums.add(0, placed.rect)?;
     }
     Ok(())
+}
+
+/// The densities of components, all on layer 0, in the cells of a design.
+pub(crate) fn place_densities<A: Allocator + Copy>(
+    alloc: A,
+    names: &Names<'_, '_, A>,
+    boxes: &[PlacedBox<'_>],
+) -> Result<CellSums<A>, AllocError>
+    requires across { All (IsWithin 2147483647) (flat_map lines_along_x names.now) }
+    requires upward { All (IsWithin 2147483647) (flat_map lines_along_y names.now) }
+    ensures { IfOk result (HoldsDensities (columns names.entry.now) (rows names.entry.now) (map place_shape boxes.now)) }
+{
+    let mut sums = no_densities(alloc, names)?;
+    add_boxes(&mut sums, boxes)?;
+    Ok(sums)
 }

@@ -10,7 +10,7 @@ ghost use Rattle.measure_rules.specs.GridCells.{lines_along_x, lines_along_y};
 ghost use Rattle.measure_rules.specs.Lengths.{total_length};
 ghost use Rattle.reports.specs.Answers.{ReportsOn, box_in, cell_in, length_in, place_cell_in};
 
-use crate::densities::{add_boxes, no_densities};
+use crate::densities::place_densities;
 use crate::measured_nets::measured_nets;
 use crate::net_table::NetTable;
 use cell_library::library::Library;
@@ -59,8 +59,7 @@ impl<A: Allocator + Copy> Reports<A> {
         let layers = library.layer_count();
         let measured = measured_nets(alloc, library, names)?;
         let boxes = boxes_of(alloc, library, names.records())?;
-        let mut place_cells = no_densities(alloc, names)?;
-        add_boxes(&mut place_cells, &boxes)?;
+        let place_cells = place_densities(alloc, names, &boxes)?;
         Ok(Reports {
             layers,
             nets: measured.table,

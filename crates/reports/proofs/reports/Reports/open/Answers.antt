@@ -1,4 +1,4 @@
-use Rattle.std.proofs.Common.{[], ap, map, refl, ◌∙◌}
+use Rattle.std.proofs.Common.{ℕ, List, ap, map, refl, ◌∙◌}
 use Rattle.std.specs.Option.{option_map}
 use Rattle.design_model.specs.Views.{rectangle_of}
 use Rattle.form_meanings.specs.Firsts.{find_named}
@@ -7,7 +7,6 @@ use Rattle.drawn_parts.specs.DrawnLengths.{capped}
 use Rattle.measure_rules.specs.Lengths.{length_of}
 use Rattle.place_checks.specs.Views.{boxed_view}
 use Rattle.place_checks.specs.declared.placed_box.PlacedBox.{PlacedBox}
-use Rattle.measure_rules.specs.GridCells.{columns, rows}
 use Rattle.reports.specs.MeasuredNets.{MeasuredNet, name_of}
 use Rattle.reports.proofs.CellAnswers.{cell_is, place_is}
 use Rattle.reports.proofs.NetAnswers.{box_is, length_is, total_is}
@@ -20,14 +19,13 @@ returns g c =
     let u = scale design in
     let no_longer = c.none_is_longer.ensures in
     let few = c.requires.lengths in
-    let length_by = λ name. capped (length_of library design u name) in
+    let length_by = λ (name : List ℕ). capped (length_of library design u name) in
     let measured_are = c.in_ok-measured.ensures in
     let boxes_are = ap (map boxed_view) c.deref.ensures.value ∙ c.in_ok-boxes.ensures ∙ ap (boxes library) c.records.ensures in
-    let held = c.in_ok-add_boxes.ensures.holds (columns design) (rows design) [] c.in_ok-place_cells.ensures in
     record {
       net_length = λ name. ap (λ ns. option_map (λ (n : MeasuredNet). n.net_length) (find_named name_of ns name)) measured_are.by_name ∙ length_is library design u no_longer few name;
       net_box = λ name. ap (λ ns. option_map (λ (n : MeasuredNet). n.net_box) (find_named name_of ns name)) measured_are.by_name ∙ box_is library design u length_by name;
       total_length = measured_are.together ∙ total_is library design u no_longer few;
       cell = cell_is library design _ _ _ measured_are.densities refl c.layer_count-layers.ensures;
-      place_cell = place_is library design (λ (b : PlacedBox). rectangle_of b.rect) boxed_view (λ b. refl) _ _ held boxes_are;
+      place_cell = place_is library design (λ (b : PlacedBox). rectangle_of b.rect) boxed_view (λ b. refl) _ _ c.in_ok-place_cells.ensures boxes_are;
     }
