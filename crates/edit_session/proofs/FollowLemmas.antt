@@ -1,10 +1,10 @@
 -- Lines on statements that follow an edit of a net.
-use Rattle.std.proofs.Common.{◌≡◌, ◌≤◌, ℕ, List, [], ◌++◌, filter, flat_map, Option, Some, None, refl, sym, ap, ap₂, ◌∙◌, append-nil, option_to_list, Result, Ok, Err}
-use Rattle.std.specs.Prelude.{IfOk, IfSome}
+use Rattle.std.proofs.Common.{◌≡◌, ℕ, List, [], ◌++◌, filter, flat_map, map, Option, Some, None, refl, sym, ap, ap₂, ◌∙◌, append-nil, option_to_list, Result, Ok, Err}
+use Rattle.std.specs.Prelude.{IfOk, IfSome, IsOk}
 use Rattle.std.specs.Result.{result_ok}
 use Rattle.std.specs.Option.{option_map}
 use Rattle.std.proofs.lemmas.Grind.{flat_map-append}
-use Rattle.design_model.specs.Order.{sorted_by_bytes}
+use Rattle.design_model.specs.declared.identifier.StmtId.{StmtId}
 use Rattle.design_model.specs.declared.mode.Section.{Section}
 use Rattle.design_model.specs.declared.mode.Section.TheVariants.{Nets, SpecialNets}
 use Rattle.statement_model.specs.Tokens.{Token}
@@ -14,16 +14,13 @@ use Rattle.lef_grammar.specs.Library.{Library}
 use Rattle.edit_rules.specs.Edits.{Change, applied, of_component, of_net, of_section}
 use Rattle.edit_rules.specs.NetEdits.{NetChange}
 use Rattle.report_rules.specs.Diagnostics.{statement_lines}
-use Rattle.line_laws.specs.Lines.{SameLines, times}
-use Rattle.line_laws.specs.SortingLaws.{SameLinesSortAlike, SortingIsByLines}
-use Rattle.following_laws.specs.FamilyLaws.{CanFollow, KeptLinesFollow}
 use Rattle.following_laws.specs.Following.{LinesFollow}
 use Rattle.staying_laws.specs.NetStatements.{NetEditsFollow, is_named_in, lines_on_net}
 use Rattle.staying_laws.specs.Staying.{lines_on_statements}
 use Rattle.design_text.specs.NamedEntries.{NamedOnce}
 use Rattle.kept_lines.specs.Kept.{Kept}
 use Rattle.edit_session.specs.Known.{AreBefore, AreKept, Awaits}
-use Rattle.edit_session.proofs.ReportLemmas.{of_this, sorted_same}
+use Rattle.edit_session.proofs.ReportLemmas.{of_this}
 
 abbrev Lines : Type 0
 Lines = List (List ℕ)
@@ -84,3 +81,10 @@ awaits law library name change before text new (Some k) (Some o) reads also know
   where
     out_is : o ≡ lines_on_net library name before → LinesFollow (lines_on_statements library before) (lines_on_statements library (applied (of_net name change) before)) o (lines_on_net library name (applied (of_net name change) before))
     out_is is = rw is (law library name change before)
+
+-- what numbered statements say is the design that a text reads as
+pub said_is : (text : List ℕ) (records : List (StmtId × Record)) (design : List Record) → map (λ (x : StmtId × Record). x.1) records ≡ design → read_def text ≡ Ok design → read_def text ≡ Ok (map (λ (x : StmtId × Record). x.1) records)
+said_is text records design are reads = rw are reads
+
+pub is_read : (text : List ℕ) (design : List Record) → read_def text ≡ Ok design → IsOk (read_def text)
+is_read text design reads = rw reads tt

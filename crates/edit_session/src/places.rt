@@ -30,18 +30,20 @@ pub(crate) fn moves_a_component(edit: &Edit<'_>) -> bool {
     }
 }
 
-/// Notes the components of a text, unless they are noted or the lines on them aren't known. Where memory is refused they aren't noted.
+/// Notes the components of a text where an edit is about to move some, unless they are noted or the lines on them aren't known. Where
+/// memory is refused they aren't noted.
 pub(crate) fn note_places<'t, A: Allocator + Copy>(
     alloc: A,
     library: &'t Library<'_, A>,
     text: &'t DesignText<A>,
+    are_moved: bool,
     known: &KnownLines<A>,
     noted: &mut Option<FollowedPlaces<A>>,
 )
     requires { IfSome noted.old (HasPlaces library.now (records_in text.now)) }
     ensures { IfSome noted.new (HasPlaces library.entry.now (records_in text.entry.now)) }
 {
-    if noted.is_none() && known.places.is_some() {
+    if are_moved && noted.is_none() && known.places.is_some() {
         *noted = FollowedPlaces::of(alloc, library, text).ok();
     }
 }

@@ -135,10 +135,14 @@ impl<'s, 'l, A: Allocator + Copy> Session<'s, 'l, A> {
         let out = self
             .known
             .before(self.alloc, self.library, &self.text, edit);
-        if moves_a_component(edit) {
-            let places = &mut self.places;
-            note_places(self.alloc, self.library, &self.text, &self.known, places);
-        }
+        note_places(
+            self.alloc,
+            self.library,
+            &self.text,
+            moves_a_component(edit),
+            &self.known,
+            &mut self.places,
+        );
         self.text.statements_are_kept();
         self.text.design_is_read();
         let edited = self.text.edit(self.alloc, self.library, edit);
@@ -170,8 +174,14 @@ impl<'s, 'l, A: Allocator + Copy> Session<'s, 'l, A> {
         ensures library { self.new.library ≡ self.old.library }
         ensures reads { IsOk (read_def self.new.text) }
     {
-        let noted = &mut self.places;
-        note_places(self.alloc, self.library, &self.text, &self.known, noted);
+        note_places(
+            self.alloc,
+            self.library,
+            &self.text,
+            true,
+            &self.known,
+            &mut self.places,
+        );
         self.text.statements_are_kept();
         self.text.design_is_read();
         let edited = self.text.replace(self.alloc, a, b, new);

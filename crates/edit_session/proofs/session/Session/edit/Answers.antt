@@ -1,33 +1,77 @@
-use Rattle.std.proofs.Common.{ℕ, List, refl, subst, sym}
+use Rattle.std.proofs.Common.{◌≡◌, ◌∙◌, ℕ, List, Ok, refl, ap, subst, sym}
 use Rattle.std.specs.Prelude.{IfSome, IsOk}
-use Rattle.def_grammar.specs.Records.{read_def}
+use Rattle.design_model.specs.declared.identifier.StmtId.{StmtId}
+use Rattle.def_grammar.specs.Records.{Record, read_def}
+use Rattle.design_text.specs.DesignTexts.{text_of}
+use Rattle.design_text.specs.Exchanges.{MadeEdit, records_in}
 use Rattle.edit_rules.specs.Edits.{change_of}
-use Rattle.edit_session.specs.Known.{AreKnownOf}
+use Rattle.followed_places.specs.Places.{AreOnPlaces, HasPlaces, said}
+use Rattle.staying_laws.specs.Staying.{lines_on_places}
+use Rattle.edit_session.specs.Known.{AreKept, AreKnown, AreKnownOf}
 use Rattle.edit_session.specs.Sessions.{AnswersOn}
 use Rattle.edit_session.proofs.EditLemmas.{edits_nothing}
+use Rattle.edit_session.proofs.FollowLemmas.{is_read, said_is}
+use Rattle.edit_session.proofs.ReportLemmas.{of_this}
 use Rattle.edit_session.proofs.session.Session.edit.Goals as goal
 
 pub returns-clause-answer : goal.returns-clause-answer
 returns-clause-answer g c =
     let edits = c.in_ok-made.ensures.edits in
-    rw (← c.self.view_is) (edits.0, edits.1, edits.2, refl)
+    rw (← c.self.view_is) (edits.0, edits.1, c.let_go.ensures.text ∙ edits.2, refl)
+
+pub returns-clause-applied : goal.returns-clause-applied
+returns-clause-applied g c =
+    let applied = c.in_ok-made.ensures.applied in
+    rw (← c.self.view_is) (applied.0, applied.1, ap read_def c.let_go.ensures.text ∙ applied.2)
 
 pub returns-clause-keeps : goal.returns-clause-keeps
-returns-clause-keeps g c = rw (← c.self.view_is) c.in_ok-made.ensures.keeps
+returns-clause-keeps g c =
+    let keeps = c.in_ok-made.ensures.keeps in
+    rw (← c.self.view_is) (keeps.0, keeps.1, c.let_go.ensures.text ∙ keeps.2, keeps.3)
 
 pub returns-clause-few : goal.returns-clause-few
-returns-clause-few g c = rw (← c.self.view_is) c.in_ok-made.ensures.few
+returns-clause-few g c = rw (← c.self.view_is, c.reads.ensures) c.in_ok-made.ensures.few
 
 pub invariant_of-self : goal.invariant_of-self
 invariant_of-self g c =
     let library = c.self.inside.library.now in
-    let same = edits_nothing ℕ library _ (change_of c.args.edit.now) c.in_err-made.field-0.0 _ c.in_err-made.ensures.edits in
-    subst (λ (text : List ℕ). IsOk (read_def text) × IfSome c.self.inside.reports (AnswersOn library text) × AreKnownOf library text c.self.inside.known) (sym same) c.self.invariant
+    let same = edits_nothing MadeEdit library _ (change_of c.args.edit.now) c.in_err-made.field-0.0 _ c.in_err-made.ensures.edits in
+    let i = c.self.invariant in
+    (
+      subst (λ (text : List ℕ). IsOk (read_def text)) (sym same) i.0,
+      subst (λ (text : List ℕ). IfSome c.self.inside.reports (AnswersOn library text)) (sym same) i.1,
+      subst (λ (text : List ℕ). AreKnownOf library text c.self.inside.known) (sym same) i.2,
+      subst (λ (rs : List (StmtId × Record)). IfSome c.note_places.new.noted (HasPlaces library rs)) (sym c.in_err-made.ensures.same) c.note_places.ensures,
+    )
+
+pub follow_places-requires : goal.follow_places-requires
+follow_places-requires g c =
+    let before = c.self.inside.text in
+    let design = said (records_in before) in
+    let reads : read_def (text_of before) ≡ Ok design = said_is (text_of before) (records_in before) _ c.statements_are_kept.ensures.said c.design_is_read.ensures.reads in
+    (before, record { exchange = c.in_ok-made.ensures.exchanged; had = c.note_places.ensures; knew = c.self.invariant.2 design reads })
 
 pub follow-requires : goal.follow-requires
 follow-requires g c =
     let edited = c.in_ok-made.ensures.applied in
-    record { before = edited.0; reads = edited.2; knew = c.self.invariant.2 edited.0 edited.1; told = c.before-out.ensures edited.0 edited.1 }
+    record {
+      before = edited.0;
+      reads = ap read_def c.let_go.ensures.text ∙ edited.2;
+      knew = c.follow_places.ensures.known edited.0 (c.self.invariant.2 edited.0 edited.1);
+      told = c.before-out.ensures edited.0 edited.1;
+    }
 
 pub invariant_of-self-2 : goal.invariant_of-self-2
-invariant_of-self-2 g c = (c.text_reads.ensures.reads, tt, c.follow.ensures)
+invariant_of-self-2 g c =
+    let library = c.self.inside.library.now in
+    let after = c.let_go.new.self in
+    let reads = said_is (text_of after) (records_in after) _ c.statements_are_kept-2.ensures.said c.design_is_read-2.ensures.reads in
+    (
+      is_read (text_of after) _ reads,
+      tt,
+      λ design also.
+          c.put_places.ensures library design (c.follow.ensures design also)
+          (of_this (λ (d : List Record). IfSome c.follow_places.result (AreKept (lines_on_places library d))) (text_of after) (said (records_in after)) design reads also
+          (subst (λ (rs : List (StmtId × Record)). IfSome c.follow_places.result (AreOnPlaces library (said rs))) (sym c.let_go.ensures.records) c.follow_places.ensures.lines)),
+      subst (λ (rs : List (StmtId × Record)). IfSome c.follow_places.new.noted (HasPlaces library rs)) (sym c.let_go.ensures.records) c.follow_places.ensures.noted,
+    )

@@ -1,14 +1,48 @@
-use Rattle.std.proofs.Common.{ℕ, List, subst, sym}
+use Rattle.std.proofs.Common.{◌≡◌, ◌∙◌, ℕ, List, Ok, refl, ap, subst, sym}
 use Rattle.std.specs.Prelude.{IfSome, IsOk}
-use Rattle.def_grammar.specs.Records.{read_def}
-use Rattle.edit_session.specs.Known.{AreKnownOf}
+use Rattle.design_model.specs.declared.identifier.StmtId.{StmtId}
+use Rattle.def_grammar.specs.Records.{Record, read_def}
+use Rattle.design_text.specs.DesignTexts.{text_of}
+use Rattle.design_text.specs.Exchanges.{records_in}
+use Rattle.edit_rules.specs.Runs.{text_outcome}
+use Rattle.followed_places.specs.Places.{AreOnPlaces, HasPlaces, said}
+use Rattle.staying_laws.specs.Staying.{lines_on_places}
+use Rattle.edit_session.specs.Known.{AreKept, AreKnownOf}
 use Rattle.edit_session.specs.Sessions.{AnswersOn}
+use Rattle.edit_session.proofs.FollowLemmas.{is_read, said_is}
+use Rattle.edit_session.proofs.ReportLemmas.{of_this}
 use Rattle.edit_session.proofs.session.Session.text_edit.Goals as goal
 
 pub invariant_of-self : goal.invariant_of-self
 invariant_of-self g c =
     let library = c.self.inside.library.now in
-    subst (λ (text : List ℕ). IsOk (read_def text) × IfSome c.self.inside.reports (AnswersOn library text) × AreKnownOf library text c.self.inside.known) (sym c.in_err-made.ensures.replaces.0) c.self.invariant
+    let same = c.in_err-made.ensures.replaces.0 in
+    let i = c.self.invariant in
+    (
+      subst (λ (text : List ℕ). IsOk (read_def text)) (sym same) i.0,
+      subst (λ (text : List ℕ). IfSome c.self.inside.reports (AnswersOn library text)) (sym same) i.1,
+      subst (λ (text : List ℕ). AreKnownOf library text c.self.inside.known) (sym same) i.2,
+      subst (λ (rs : List (StmtId × Record)). IfSome c.note_places.new.noted (HasPlaces library rs)) (sym c.in_err-made.ensures.same) c.note_places.ensures,
+    )
+
+pub follow_places-requires : goal.follow_places-requires
+follow_places-requires g c =
+    let before = c.self.inside.text in
+    let design = said (records_in before) in
+    let reads : read_def (text_of before) ≡ Ok design = said_is (text_of before) (records_in before) _ c.statements_are_kept.ensures.said c.design_is_read.ensures.reads in
+    (before, record { exchange = c.in_ok-made.ensures.exchanged; had = c.note_places.ensures; knew = c.self.invariant.2 design reads })
 
 pub invariant_of-self-2 : goal.invariant_of-self-2
-invariant_of-self-2 g c = (c.text_reads.ensures.reads, tt, λ design reads. c.none.ensures c.self.inside.library.now design)
+invariant_of-self-2 g c =
+    let library = c.self.inside.library.now in
+    let after = c.let_go.new.self in
+    let reads = said_is (text_of after) (records_in after) _ c.statements_are_kept-2.ensures.said c.design_is_read-2.ensures.reads in
+    (
+      is_read (text_of after) _ reads,
+      tt,
+      λ design also.
+          c.put_places.ensures library design (c.none.ensures library design)
+          (of_this (λ (d : List Record). IfSome c.follow_places.result (AreKept (lines_on_places library d))) (text_of after) (said (records_in after)) design reads also
+          (subst (λ (rs : List (StmtId × Record)). IfSome c.follow_places.result (AreOnPlaces library (said rs))) (sym c.let_go.ensures.records) c.follow_places.ensures.lines)),
+      subst (λ (rs : List (StmtId × Record)). IfSome c.follow_places.new.noted (HasPlaces library rs)) (sym c.let_go.ensures.records) c.follow_places.ensures.noted,
+    )
