@@ -87,4 +87,4 @@ pub said_is : (text : List ℕ) (records : List (StmtId × Record)) (design : Li
 said_is text records design are reads = rw are reads
 
 pub is_read : (text : List ℕ) (design : List Record) → read_def text ≡ Ok design → IsOk (read_def text)
-is_read text design reads = rw reads tt
+is_read text design reads = rw reads refl

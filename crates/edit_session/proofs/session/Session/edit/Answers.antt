@@ -30,7 +30,7 @@ returns-clause-keeps g c =
     rw (← c.self.view_is) (keeps.0, keeps.1, c.let_go.ensures.text ∙ keeps.2, keeps.3)
 
 pub returns-clause-few : goal.returns-clause-few
-returns-clause-few g c = rw (← c.self.view_is, c.reads.ensures) c.in_ok-made.ensures.few
+returns-clause-few g c = rw (← c.self.view_is, c.reads-reads.ensures) c.in_ok-made.ensures.few
 
 pub invariant_of-self : goal.invariant_of-self
 invariant_of-self g c =
@@ -44,8 +44,8 @@ invariant_of-self g c =
       subst (λ (rs : List (StmtId × Record)). IfSome c.note_places.new.noted (HasPlaces library rs)) (sym c.in_err-made.ensures.same) c.note_places.ensures,
     )
 
-pub follow_places-requires : goal.follow_places-requires
-follow_places-requires g c =
+pub follow_places-places-requires : goal.follow_places-places-requires
+follow_places-places-requires g c =
     let before = c.self.inside.text in
     let design = said (records_in before) in
     let reads : read_def (text_of before) ≡ Ok design = said_is (text_of before) (records_in before) _ c.statements_are_kept.ensures.said c.design_is_read.ensures.reads in
@@ -57,7 +57,7 @@ follow-requires g c =
     record {
       before = edited.0;
       reads = ap read_def c.let_go.ensures.text ∙ edited.2;
-      knew = c.follow_places.ensures.known edited.0 (c.self.invariant.2 edited.0 edited.1);
+      knew = c.follow_places-places.ensures.known edited.0 (c.self.invariant.2 edited.0 edited.1);
       told = c.before-out.ensures edited.0 edited.1;
     }
 
@@ -71,7 +71,7 @@ invariant_of-self-2 g c =
       tt,
       λ design also.
           c.put_places.ensures library design (c.follow.ensures design also)
-          (of_this (λ (d : List Record). IfSome c.follow_places.result (AreKept (lines_on_places library d))) (text_of after) (said (records_in after)) design reads also
-          (subst (λ (rs : List (StmtId × Record)). IfSome c.follow_places.result (AreOnPlaces library (said rs))) (sym c.let_go.ensures.records) c.follow_places.ensures.lines)),
-      subst (λ (rs : List (StmtId × Record)). IfSome c.follow_places.new.noted (HasPlaces library rs)) (sym c.let_go.ensures.records) c.follow_places.ensures.noted,
+          (of_this (λ (d : List Record). IfSome c.follow_places-places.result (AreKept (lines_on_places library d))) (text_of after) (said (records_in after)) design reads also
+          (subst (λ (rs : List (StmtId × Record)). IfSome c.follow_places-places.result (AreOnPlaces library (said rs))) (sym c.let_go.ensures.records) c.follow_places-places.ensures.lines)),
+      subst (λ (rs : List (StmtId × Record)). IfSome c.follow_places-places.new.noted (HasPlaces library rs)) (sym c.let_go.ensures.records) c.follow_places-places.ensures.noted,
     )

@@ -25,8 +25,8 @@ invariant_of-self g c =
       subst (λ (rs : List (StmtId × Record)). IfSome c.note_places.new.noted (HasPlaces library rs)) (sym c.in_err-made.ensures.same) c.note_places.ensures,
     )
 
-pub follow_places-requires : goal.follow_places-requires
-follow_places-requires g c =
+pub follow_places-places-requires : goal.follow_places-places-requires
+follow_places-places-requires g c =
     let before = c.self.inside.text in
     let design = said (records_in before) in
     let reads : read_def (text_of before) ≡ Ok design = said_is (text_of before) (records_in before) _ c.statements_are_kept.ensures.said c.design_is_read.ensures.reads in
@@ -42,7 +42,7 @@ invariant_of-self-2 g c =
       tt,
       λ design also.
           c.put_places.ensures library design (c.none.ensures library design)
-          (of_this (λ (d : List Record). IfSome c.follow_places.result (AreKept (lines_on_places library d))) (text_of after) (said (records_in after)) design reads also
-          (subst (λ (rs : List (StmtId × Record)). IfSome c.follow_places.result (AreOnPlaces library (said rs))) (sym c.let_go.ensures.records) c.follow_places.ensures.lines)),
-      subst (λ (rs : List (StmtId × Record)). IfSome c.follow_places.new.noted (HasPlaces library rs)) (sym c.let_go.ensures.records) c.follow_places.ensures.noted,
+          (of_this (λ (d : List Record). IfSome c.follow_places-places.result (AreKept (lines_on_places library d))) (text_of after) (said (records_in after)) design reads also
+          (subst (λ (rs : List (StmtId × Record)). IfSome c.follow_places-places.result (AreOnPlaces library (said rs))) (sym c.let_go.ensures.records) c.follow_places-places.ensures.lines)),
+      subst (λ (rs : List (StmtId × Record)). IfSome c.follow_places-places.new.noted (HasPlaces library rs)) (sym c.let_go.ensures.records) c.follow_places-places.ensures.noted,
     )
