@@ -36,8 +36,7 @@ pub invariant_of-self : goal.invariant_of-self
 invariant_of-self g c =
     let library = c.self.inside.library.now in
     let same = edits_nothing MadeEdit library _ (change_of c.args.edit.now) c.in_err-made.field-0.0 _ c.in_err-made.ensures.edits in
-    let i = c.self.invariant in
-    (
+    let i = c.self.invariant in (
       subst (λ (text : List ℕ). IsOk (read_def text)) (sym same) i.0,
       subst (λ (text : List ℕ). IfSome c.self.inside.reports (AnswersOn library text)) (sym same) i.1,
       subst (λ (text : List ℕ). AreKnownOf library text c.self.inside.known) (sym same) i.2,
@@ -65,8 +64,7 @@ pub invariant_of-self-2 : goal.invariant_of-self-2
 invariant_of-self-2 g c =
     let library = c.self.inside.library.now in
     let after = c.let_go.new.self in
-    let reads = said_is (text_of after) (records_in after) _ c.statements_are_kept-2.ensures.said c.design_is_read-2.ensures.reads in
-    (
+    let reads = said_is (text_of after) (records_in after) _ c.statements_are_kept-2.ensures.said c.design_is_read-2.ensures.reads in (
       is_read (text_of after) _ reads,
       tt,
       λ design also.

@@ -17,8 +17,7 @@ pub invariant_of-self : goal.invariant_of-self
 invariant_of-self g c =
     let library = c.self.inside.library.now in
     let same = c.in_err-made.ensures.replaces.0 in
-    let i = c.self.invariant in
-    (
+    let i = c.self.invariant in (
       subst (λ (text : List ℕ). IsOk (read_def text)) (sym same) i.0,
       subst (λ (text : List ℕ). IfSome c.self.inside.reports (AnswersOn library text)) (sym same) i.1,
       subst (λ (text : List ℕ). AreKnownOf library text c.self.inside.known) (sym same) i.2,
@@ -36,8 +35,7 @@ pub invariant_of-self-2 : goal.invariant_of-self-2
 invariant_of-self-2 g c =
     let library = c.self.inside.library.now in
     let after = c.let_go.new.self in
-    let reads = said_is (text_of after) (records_in after) _ c.statements_are_kept-2.ensures.said c.design_is_read-2.ensures.reads in
-    (
+    let reads = said_is (text_of after) (records_in after) _ c.statements_are_kept-2.ensures.said c.design_is_read-2.ensures.reads in (
       is_read (text_of after) _ reads,
       tt,
       λ design also.
