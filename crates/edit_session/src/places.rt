@@ -16,6 +16,10 @@ use followed_places::FollowedPlaces;
 use kept_lines::KeptLines;
 use std::alloc::Allocator;
 
+/// How many statements an edit may exchange so that the lines on components follow it. Each component among them is looked for by itself
+/// and compared with all the others, so beyond that making all lines anew is sooner done.
+const MOST_STATEMENTS: usize = 256;
+
 /// Whether an edit moves a component, or gives it another macro.
 pub(crate) fn moves_a_component(edit: &Edit<'_>) -> bool {
     match edit {
@@ -49,7 +53,7 @@ pub(crate) fn note_places<'t, A: Allocator + Copy>(
 }
 
 /// The lines on components after an edit, from those that were known, which are so no longer: where components are noted, and the edit
-/// was made as one change that leaves what stands round them. What is noted is then that of the new text, and else forgotten.
+/// was made as one change of few statements that leaves what stands round them. What is noted is then that of the new text, and else forgotten.
 pub(crate) fn follow_places<'t, A: Allocator + Copy>(
     alloc: A,
     library: &'t Library<'_, A>,
@@ -65,6 +69,9 @@ pub(crate) fn follow_places<'t, A: Allocator + Copy>(
 {
     let mut places = noted.take()?;
     let exchange = made.exchanged()?;
+    if exchange.went.len().max(exchange.came.len()) > MOST_STATEMENTS {
+        return None;
+    }
     let kept = known.places.take()?;
     match places.follow(alloc, library, text, exchange, kept) {
         Ok(Some(kept)) => {
