@@ -2,3 +2,4 @@ pub mod AgreementRows
 pub mod NetRows
 pub mod PartRows
 pub mod PlaceRows
+pub mod ToldRows

@@ -142,7 +142,9 @@ impl<A: Allocator + Copy> Blocks<A> {
         place < keys.len() && keys[place] == key
     }
 
-    /// The place of a block among all, by the hash of its key, made where there is none. No sum changes.
+    /// The place of a block among all, by the hash of its key, made where there is none. No sum changes. This is rare, so what it needs
+    /// room for stays out of `block`.
+    #[inline(never)]
     fn hashed_block(&mut self, key: Key) -> Result<usize, AllocError>
         ensures place { IfOk result (λ n. block_at self.new.keys key ≡ Some n) }
         ensures stands { IfOk result (λ n. n * 64 + 64 ≤ length self.new.sums) }
@@ -159,6 +161,7 @@ impl<A: Allocator + Copy> Blocks<A> {
     }
 
     /// The place of a block among all, made where there is none. No sum changes.
+    #[inline(always)]
     fn block(&mut self, key: Key) -> Result<usize, AllocError>
         ensures place { IfOk result (λ n. block_at self.new.keys key ≡ Some n) }
         ensures stands { IfOk result (λ n. n * 64 + 64 ≤ length self.new.sums) }

@@ -145,6 +145,7 @@ impl<A: Allocator> GridLines<A> {
     }
 
     /// About how many lines lie before a place: those before its bucket, where it has one.
+    #[inline(always)]
     fn guess(&self, place: i64) -> usize {
         let Some(first) = self.lines.first() else {
             return 0;
@@ -171,10 +172,9 @@ impl<A: Allocator> GridLines<A> {
         count
     }
 
-    /// A number of lines, and up to two more where those lie before a place.
+    /// A number of lines, and one more where the line behind them lies before a place.
     fn stepped(&self, count: usize, place: i64) -> usize {
-        let next = count.wrapping_add(self.is_before(count, place) as usize);
-        next.wrapping_add(self.is_before(next, place) as usize)
+        count.wrapping_add(self.is_before(count, place) as usize)
     }
 
     /// Whether there is a line of a number, and it lies before a place.
@@ -195,7 +195,9 @@ impl<A: Allocator> GridLines<A> {
         self.is_before(count - 1, place) && !self.is_before(count, place)
     }
 
-    /// How many lines lie before a place. It is looked for from a number on, and then from a guess.
+    /// How many lines lie before a place. It is looked for from a number on, of which it is at most one more for most stretches, and
+    /// then from a guess.
+    #[inline(always)]
     fn before(&self, start: usize, place: i64) -> usize
         ensures { AreBefore self.now place result }
     {
@@ -203,7 +205,7 @@ impl<A: Allocator> GridLines<A> {
         if self.are_before(near, place) {
             return near;
         }
-        let count = self.stepped(self.guess(place), place);
+        let count = self.stepped(self.stepped(self.guess(place), place), place);
         if self.are_before(count, place) {
             return count;
         }

@@ -12,7 +12,7 @@ use Rattle.form_meanings.specs.Firsts.{with_all}
 use Rattle.connection_rules.specs.NetParts.{Net, Part, Wired, all_nets, is_named, net_names, net_of}
 use Rattle.connection_rules.specs.Terminals.{pins_by_name}
 use Rattle.measure_rules.specs.Lengths.{length_of, wired_length}
-use Rattle.name_groups.specs.Groups.{Group, grouped, of_name}
+use Rattle.name_groups.specs.Groups.{grouped, of_name}
 use Rattle.net_entries.specs.NetEntries.{wired_in, wired_name}
 use Rattle.design_nets.specs.NetGroups.{length_of_group, net_of_group}
 

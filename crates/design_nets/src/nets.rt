@@ -4,7 +4,7 @@ ghost use Rattle.std.specs.Prelude.{◌≡◌, ◌++◌, ◌∷◌, ◌<◌, ◌
 ghost use Rattle.std.specs.List.{filter_map, sum_by};
 ghost use Rattle.design_rules.specs.Boxes.{scale};
 ghost use Rattle.net_entries.specs.NetEntries.{entry_lent};
-ghost use Rattle.connection_rules.specs.NetParts.{all_nets, net_of, wired_of};
+ghost use Rattle.connection_rules.specs.NetParts.{all_nets, parts_of, wired_of};
 ghost use Rattle.connection_rules.specs.Terminals.{pins_by_name};
 ghost use Rattle.measure_rules.specs.Lengths.{wired_length};
 ghost use Rattle.drawn_parts.specs.DrawnLengths.{capped};
@@ -19,11 +19,12 @@ use net_pins::{PinWalk, Pins};
 use std::alloc::{AllocError, Allocator};
 
 /// Puts the net of a name and of its entries behind the others, and gives the length of its wires along their centres, in database
-/// units: 2^64 - 1 where it is more.
+/// units: 2^64 - 1 where it is more. Whether the net is of power is the caller's to say, as it costs one more reading of the entries.
 pub fn put_net<'v, 'a, 'l: 'a, 'r: 'a, 't: 'a, A: Allocator + Copy>(
     pins: &Pins<'v, 'a, 'l, 'r, 't, A>,
     wires: &DesignWires<'a, 'l, 'r, 't, A>,
     name: &'t [u8],
+    is_power: bool,
     entries: &[LentEntry<'_, 't>],
     pin_walk: &mut PinWalk<'_, '_, 't, A>,
     part_walk: &mut PartWalk<'_, '_, A>,
@@ -33,14 +34,15 @@ pub fn put_net<'v, 'a, 'l: 'a, 'r: 'a, 't: 'a, A: Allocator + Copy>(
     requires pin_walk { pin_walk.old.layers ≡ wires.now.library }
     requires part_walk { part_walk.old.layers ≡ wires.now.library }
     ensures net { let library = wires.now.library in let design = wires.now.design in let u = scale design in
-        OnOk result (nets.new ≡ nets.old ++ net_of library.layers (pins_by_name library design u) name.now (filter_map (wired_of library design u) (map entry_lent entries.now)) ∷ []) }
+        let parts = parts_of library.layers (pins_by_name library design u) name.now (filter_map (wired_of library design u) (map entry_lent entries.now)) in
+        OnOk result (nets.new ≡ nets.old ++ record { name = name.now; is_power = is_power; parts = parts } ∷ []) }
     ensures length { let library = wires.now.library in let design = wires.now.design in
         IfOk result (λ n. n ≡ capped (sum_by wired_length (filter_map (wired_of library design (scale design)) (map entry_lent entries.now)))) }
     ensures pin_walk { OnOk result (pin_walk.new.layers ≡ wires.now.library) }
     ensures part_walk { OnOk result (part_walk.new.layers ≡ wires.now.library) }
 {
     building_a_net();
-    nets.begin_net(name, is_power(entries))?;
+    nets.begin_net(name, is_power)?;
     pins.put_pins(name, entries, pin_walk, nets)?;
     let length = put_drawn(wires, entries, part_walk, nets)?;
     Ok(length)
@@ -70,6 +72,7 @@ pub fn nets_of<'a, 'l: 'a, 'r: 'a, 't: 'a, A: Allocator + Copy>(
             &pins,
             wires,
             name,
+            is_power(entries),
             entries,
             &mut pin_walk,
             &mut part_walk,

@@ -5,6 +5,7 @@ mod FewMade
 mod FoundNumbers
 mod FoundStatements
 mod KeptDesigns
+pub mod KeptExchanges
 mod KeptKeys
 mod KeyedTexts
 mod NamedEntries

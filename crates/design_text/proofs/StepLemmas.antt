@@ -17,10 +17,9 @@ use Rattle.edit_laws.proofs.PlanTexts.{tokens_read}
 use Rattle.piece_laws.specs.KeyLaws.{FreshIsOnce, KeysAreApart, KeysDecide}
 use Rattle.splicing_laws.specs.KeepingLaws.{AreInOrder}
 use Rattle.text_pieces.specs.Covering as covering
-use Rattle.text_pieces.specs.Changes.{IsBetween, Prepared}
+use Rattle.text_pieces.specs.Changes.{Prepared}
 use Rattle.text_pieces.specs.Content as pieces
 use Rattle.text_pieces.specs.Content.{read_keyless}
-use Rattle.text_pieces.specs.KeptRecords.{AreParted}
 use Rattle.text_pieces.specs.Lent.{numbered_records}
 use Rattle.text_pieces.specs.Lasting.{Leads}
 use Rattle.text_pieces.specs.Preparing.{StandsStill}
@@ -32,7 +31,7 @@ use Rattle.text_pieces.specs.declared.prepared.PrepareError.TheVariants.{Fault, 
 use Rattle.design_tables.specs.Prepared as tables
 use Rattle.design_tables.specs.Prepared.{AreKeyed}
 use Rattle.design_text.specs.DesignTexts.{Content, IsDesignText, IsNumbered, numbers_of}
-use Rattle.design_text.specs.Exchanges.{IsExchange, LeadsToRecords, exchanged_by}
+use Rattle.design_text.specs.Exchanges.{LeadsToRecords}
 use Rattle.design_text.specs.Steps.{Both, LeadsTo, PreparesCuts}
 use Rattle.design_text.proofs.KeyedTexts.{keyed_reads, reads_keyed}
 use Rattle.design_text.proofs.Opened.{opened}
@@ -92,20 +91,6 @@ leads_still old new change text s lasts names l = record {
 pub records_still : (old new : Content) (change : Both) (records : List (StmtId × Record)) → StandsStill old.pieces new.pieces
     → ((c now d : pieces.Content) (p : Prepared) → Leads c p d → StandsStill c now → Leads now p d) → LeadsToRecords old change records → LeadsToRecords new change records
 records_still old new change records s lasts l = record { other = l.other; leads = lasts old.pieces new.pieces l.other change.text l.leads s; says = l.says }
-
--- what a change says that was made, and leads back
-pub exchange_is : (old new : Content) (change : Both) → Leads new.pieces change.text old.pieces
-    → ((base other : pieces.Content) → IsBetween new.pieces change.text base other → AreParted new.pieces.table.slots change.text base other) → IsExchange old new (exchanged_by change)
-exchange_is old new change l law =
-    let parted = law new.pieces l.other l.between in
-    record {
-      front = parted.front;
-      rest = parted.rest;
-      old_is = sym (still_records old.pieces l.other l.still) ∙ parted.comes;
-      new_is = parted.goes;
-      went = parted.put;
-      came = parted.out;
-    }
 
 -- what holds whatever the answer is
 pub always_ok : {X E : Type 0} (P : Type 0) (r : Result (Option X) E) → P → IfOk r (λ x. x ≡ None → P)

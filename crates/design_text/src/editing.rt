@@ -11,11 +11,11 @@ ghost use Rattle.text_pieces.specs.Covering.{cover_of, cut_of};
 ghost use Rattle.text_pieces.specs.declared.prepared.PrepareError.TheVariants.{Memory as IsMemory};
 ghost use Rattle.def_splice.specs.SpliceViews.{cut_view};
 ghost use Rattle.design_text.specs.DesignTexts.{text_of};
-ghost use Rattle.design_text.specs.Exchanges.{IsExchange, records_in};
+ghost use Rattle.design_text.specs.Exchanges.{AreExchanges, records_in};
 ghost use Rattle.design_text.specs.FewReads.{ReadsFew, most_reads, new_in};
 ghost use Rattle.design_text.specs.Editing.{EditsText, IsRefused, KeepsTheRest, MakesCuts, MakesTwo, ReadsEdited, ReplacesIn};
 
-use crate::made::Made;
+use crate::made::{Made, Steps};
 use crate::replacing::replaced_text;
 use crate::text::DesignText;
 use cell_library::library::Library;
@@ -44,7 +44,7 @@ fn text_cuts<'s, A: Allocator + Copy>(
 }
 
 /// What is answered of cuts that aren't prepared: nothing, or want of memory.
-fn not_made(error: PrepareError) -> Result<Option<u64>, AllocError>
+fn not_made<A: Allocator + Copy>(error: PrepareError) -> Result<Option<Made<A>>, AllocError>
     ensures { IfOk result (λ made. (made ≡ None) × (error ≡ IsMemory → ⊥)) }
 {
     match error {
@@ -54,20 +54,20 @@ fn not_made(error: PrepareError) -> Result<Option<u64>, AllocError>
 }
 
 impl<A: Allocator + Copy> DesignText<A> {
-    /// Makes cuts as one change, and says how many statements were read for it and which went and came; or leaves the text as it was. It is a fault where
-    /// the text with the cuts made doesn't read.
+    /// Makes cuts as one change, and says how many statements were read for it and which went and came; or leaves the text as it was.
+    /// It is a fault where the text with the cuts made doesn't read.
     fn make(&mut self, alloc: A, cuts: &[TextCut<'_>]) -> Result<Made<A>, PrepareError>
         ensures makes { MakesCuts (text_of self.old) (map cut_of cuts.now) result (text_of self.new) }
         ensures few { IfOk result (λ made. made.reads ≤ new_in (text_of self.old) (cover_of (text_of self.old) (map cut_of cuts.now))) }
-        ensures exchanged { IfOk result (λ made. IfSome made.exchanged (IsExchange self.old self.new)) }
+        ensures exchanged { IfOk result (λ made. AreExchanges self.new.pieces.table.slots (records_in self.old) made.exchanges (records_in self.new)) }
         ensures same { OnErr result (records_in self.new ≡ records_in self.old) }
     {
         match self.prepare(alloc, cuts) {
             Ok(mut step) => {
                 let reads = step.reads();
                 self.commit(&mut step);
-                let change = Some(step);
-                Ok(Made { reads, change })
+                let steps = Steps::One(step);
+                Ok(Made { reads, steps })
             }
             Err(error) => {
                 self.let_go_unused();
@@ -76,17 +76,18 @@ impl<A: Allocator + Copy> DesignText<A> {
         }
     }
 
-    /// Makes two cuts one after the other, the later one first, so that no statement between them is read, and says how many were;
-    /// or leaves the text as it was: there is nothing where it doesn't read with the later one alone, or with both.
+    /// Makes two cuts one after the other, the later one first, so that no statement between them is read, and says how many were and
+    /// which went and came; or leaves the text as it was: there is nothing where it doesn't read with the later one alone, or with both.
     fn make_two(
         &mut self,
         alloc: A,
         first: TextCut<'_>,
         last: TextCut<'_>,
-    ) -> Result<Option<u64>, AllocError>
+    ) -> Result<Option<Made<A>>, AllocError>
         requires { AreInOrder 0 (cut_of first ∷ cut_of last ∷ []) (length (text_of self.old)) }
         ensures makes { MakesTwo (text_of self.old) (cut_of first.entry) (cut_of last.entry) result (text_of self.new) }
-        ensures few { IfOk result (λ made. IfSome made (λ n. n ≤ new_in (text_of self.old) (cut_of last.entry) + new_in (with_cuts (cut_of last.entry ∷ []) (text_of self.old)) (cut_of first.entry))) }
+        ensures few { IfOk result (λ made. IfSome made (λ m. m.reads ≤ new_in (text_of self.old) (cut_of last.entry) + new_in (with_cuts (cut_of last.entry ∷ []) (text_of self.old)) (cut_of first.entry))) }
+        ensures exchanged { IfOk result (λ made. IfSome made (λ m. AreExchanges self.new.pieces.table.slots (records_in self.old) m.exchanges (records_in self.new))) }
         ensures same { IfOk result (λ made. made ≡ None → records_in self.new ≡ records_in self.old) }
         ensures refused { OnErr result (records_in self.new ≡ records_in self.old) }
     {
@@ -103,9 +104,9 @@ impl<A: Allocator + Copy> DesignText<A> {
             Ok(mut step) => {
                 let first_reads = step.reads();
                 self.commit(&mut step);
-                self.let_go_of(step);
-                self.let_go_of(later);
-                Ok(Some(last_reads.saturating_add(first_reads)))
+                let reads = last_reads.saturating_add(first_reads);
+                let steps = Steps::Two(later, step);
+                Ok(Some(Made { reads, steps }))
             }
             Err(error) => {
                 self.commit(&mut later);
@@ -121,19 +122,16 @@ impl<A: Allocator + Copy> DesignText<A> {
         requires { AreInOrder 0 (map cut_of cuts.now) (length (text_of self.old)) }
         ensures makes { MakesCuts (text_of self.old) (map cut_of cuts.now) result (text_of self.new) }
         ensures few { IfOk result (λ made. made.reads ≤ most_reads (text_of self.old) (map cut_of cuts.now)) }
-        ensures exchanged { IfOk result (λ made. IfSome made.exchanged (IsExchange self.old self.new)) }
+        ensures exchanged { IfOk result (λ made. AreExchanges self.new.pieces.table.slots (records_in self.old) made.exchanges (records_in self.new)) }
         ensures same { OnErr result (records_in self.new ≡ records_in self.old) }
     {
         match cuts {
             [] => Ok(Made {
                 reads: 0,
-                change: None,
+                steps: Steps::Zero,
             }),
             [first, last] => match self.make_two(alloc, *first, *last)? {
-                Some(reads) => Ok(Made {
-                    reads,
-                    change: None,
-                }),
+                Some(made) => Ok(made),
                 None => {
                     let made = self.make(alloc, cuts);
                     self.text_reads();
@@ -156,7 +154,7 @@ impl<A: Allocator + Copy> DesignText<A> {
         ensures applied { IfOk result (λ _. ReadsEdited (text_of self.old) (change_of edit.now) (text_of self.new)) }
         ensures keeps { IfOk result (λ _. KeepsTheRest library.now (text_of self.old) (change_of edit.now) (text_of self.new)) }
         ensures few { IfOk result (λ made. ReadsFew library.now (text_of self.old) (change_of edit.now) made.reads) }
-        ensures exchanged { IfOk result (λ made. IfSome made.exchanged (IsExchange self.old self.new)) }
+        ensures exchanged { IfOk result (λ made. AreExchanges self.new.pieces.table.slots (records_in self.old) made.exchanges (records_in self.new)) }
         ensures same { OnErr result (records_in self.new ≡ records_in self.old) }
     {
         edits_are_applied();
@@ -199,7 +197,7 @@ impl<A: Allocator + Copy> DesignText<A> {
         put: &[u8],
     ) -> Result<Made<A>, EditRefusal>
         ensures replaces { ReplacesIn (text_of self.old) lo hi put.now result (text_of self.new) }
-        ensures exchanged { IfOk result (λ made. IfSome made.exchanged (IsExchange self.old self.new)) }
+        ensures exchanged { IfOk result (λ made. AreExchanges self.new.pieces.table.slots (records_in self.old) made.exchanges (records_in self.new)) }
         ensures same { OnErr result (records_in self.new ≡ records_in self.old) }
         ensures few { IfOk result (λ made. made.reads ≤ new_in (text_of self.old) (record { lo = lo; hi = hi; put = put.now })) }
     {

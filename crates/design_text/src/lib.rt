@@ -6,8 +6,8 @@
 //! By the same tables it gives the entries of the design by their names (`has`, `component_named`, `via_named`, `rule_named`);
 //! `design_is_read` says that this design is the one that the text reads as, and `laws` that a name stands once in its section.
 //!
-//! An edit that was made is `Made`: it says which statements went out and which came in (`specs/Exchanges`), which are both kept until
-//! it is given back by `let_go`.
+//! An edit that was made is `Made`: it says which statements went out and which came in, exchange by exchange (`specs/Exchanges`); all
+//! of them are kept until it is given back by `let_go`.
 //!
 //! It is seen as `Content` of `specs/DesignTexts`. Its invariant is `IsDesignText`: the text reads as a design, and the tables are
 //! those of its statements under their numbers.

@@ -1,9 +1,10 @@
 //! Edits of the text of a design that were made.
 
-ghost use Rattle.std.specs.Prelude.{◌≡◌};
+ghost use Rattle.std.specs.Prelude.{◌≡◌, length};
+ghost use Rattle.std.specs.List.{slice_get};
 ghost use Rattle.std.specs.Option.{option_map};
 ghost use Rattle.design_text.specs.DesignTexts.{text_of};
-ghost use Rattle.design_text.specs.Exchanges.{exchange_view, records_in};
+ghost use Rattle.design_text.specs.Exchanges.{exchange_view, exchanged_by, exchanges_by, records_in};
 
 use crate::step::Step;
 use crate::text::DesignText;
@@ -11,28 +12,62 @@ use design_model::identifier::StmtId;
 use std::alloc::{Allocator, Global};
 use std::marker::Model;
 
-/// The numbers of the statements that went out of a text by an edit, and of those that came in for them, each in their order.
+/// The numbers of the statements that went out of a text, and of those that came in for them, each in their order.
 #[derive(Clone, Copy)]
 pub struct Exchange<'m> {
     pub went: &'m [StmtId],
     pub came: &'m [StmtId],
 }
 
+/// The changes by which an edit was made, one after the other. Each leads back.
+#[derive(Drop)]
+pub(crate) enum Steps<A: Allocator + Copy = Global> {
+    Zero,
+    One(Step<A>),
+    Two(Step<A>, Step<A>),
+}
+
+impl<A: Allocator + Copy> Steps<A> {
+    /// How many there are.
+    fn len(&self) -> usize
+        ensures { result ≡ length (exchanges_by self.now) }
+    {
+        match self {
+            Steps::Zero => 0,
+            Steps::One(_) => 1,
+            Steps::Two(_, _) => 2,
+        }
+    }
+
+    /// The one at a place, in the order in which they were made.
+    fn at(&self, place: usize) -> Option<&Step<A>>
+        ensures { option_map (λ s. exchanged_by s.now) result ≡ slice_get (exchanges_by self.now) place }
+    {
+        match self {
+            Steps::Zero => None,
+            Steps::One(step) => (place == 0).then_some(step),
+            Steps::Two(first, second) => match place {
+                0 => Some(first),
+                1 => Some(second),
+                _ => None,
+            },
+        }
+    }
+}
+
 /// An edit that was made. The statements that went out are kept until it is let go of (`DesignText::let_go`).
 #[derive(Drop)]
 pub struct Made<A: Allocator + Copy = Global> {
     pub(crate) reads: u64,
-    // The change that leads back, where the edit was made as one.
-    pub(crate) change: Option<Step<A>>,
+    pub(crate) steps: Steps<A>,
 }
 
 impl<A: Allocator + Copy> Model for Made<A> {
-    ghost use Rattle.std.specs.Option.{option_map};
-    ghost use Rattle.design_text.specs.Exchanges.{MadeEdit, exchanged_by};
+    ghost use Rattle.design_text.specs.Exchanges.{MadeEdit, exchanges_by};
 
     ghost Value = { MadeEdit };
 
-    ghost view = { λ m. record { reads = m.reads; exchanged = option_map exchanged_by m.change } };
+    ghost view = { λ m. record { reads = m.reads; exchanges = exchanges_by m.steps } };
 }
 
 impl<A: Allocator + Copy> Made<A> {
@@ -43,17 +78,22 @@ impl<A: Allocator + Copy> Made<A> {
         self.reads
     }
 
-    /// Which statements were exchanged; `None` where the edit was made by several changes.
-    pub fn exchanged(&self) -> Option<Exchange<'_>>
-        ensures { option_map exchange_view result ≡ self.now.exchanged }
+    /// In how many exchanges of statements the edit was made.
+    pub fn len(&self) -> usize
+        ensures { result ≡ length self.now.exchanges }
     {
-        match &self.change {
-            Some(step) => Some(Exchange {
-                went: step.went(),
-                came: step.came(),
-            }),
-            None => None,
-        }
+        self.steps.len()
+    }
+
+    /// Which statements were exchanged by the exchange at a place, in the order in which they were made.
+    pub fn exchange(&self, place: usize) -> Option<Exchange<'_>>
+        ensures { option_map exchange_view result ≡ slice_get self.now.exchanges place }
+    {
+        let step = self.steps.at(place)?;
+        Some(Exchange {
+            went: step.went(),
+            came: step.came(),
+        })
     }
 }
 
@@ -63,8 +103,13 @@ impl<A: Allocator + Copy> DesignText<A> {
         ensures text { text_of self.new ≡ text_of self.old }
         ensures records { records_in self.new ≡ records_in self.old }
     {
-        if let Some(step) = made.change {
-            self.let_go_of(step);
+        match made.steps {
+            Steps::Zero => {}
+            Steps::One(step) => self.let_go_of(step),
+            Steps::Two(first, second) => {
+                self.let_go_of(second);
+                self.let_go_of(first);
+            }
         }
     }
 }

@@ -8,6 +8,7 @@ ghost use Rattle.text_pieces.specs.Content as content;
 ghost use Rattle.text_pieces.specs.Covering.{cover_of, cut_of};
 ghost use Rattle.text_pieces.specs.KeptRecords.{HavePieces, records_under};
 ghost use Rattle.text_pieces.specs.Lent.{numbered_records};
+ghost use Rattle.text_pieces.specs.Storing.{StaysKept};
 ghost use Rattle.text_pieces.specs.declared.prepared.PrepareError.TheVariants.{Fault as IsFault, Memory as IsMemory};
 ghost use Rattle.design_tables.specs.Listings.{AreTablesOf, Listing};
 ghost use Rattle.design_tables.specs.Prepared as prepared;
@@ -117,8 +118,8 @@ fn prepare_tables<A: Allocator + Copy>(
 }
 
 impl<A: Allocator + Copy> DesignText<A> {
-    /// Prepares the change by which cuts of the text are made. What stands stays, whatever the answer is, and so does where another
-    /// change leads. It is a fault where the text with the cuts made doesn't read: which one, reading it says.
+    /// Prepares the change by which cuts of the text are made. What stands stays, whatever the answer is, and so does what else is kept
+    /// and where another change leads. It is a fault where the text with the cuts made doesn't read: which one, reading it says.
     pub(crate) fn prepare(
         &mut self,
         alloc: A,
@@ -127,6 +128,7 @@ impl<A: Allocator + Copy> DesignText<A> {
         ensures prepares { PreparesCuts (text_of self.old) (map cut_of cuts.now) result self.new }
         ensures still { text_of self.new ≡ text_of self.old }
         ensures records { records_in self.new ≡ records_in self.old }
+        ensures kept { StaysKept self.old.pieces.table.slots self.new.pieces.table.slots }
         ensures few { IfOk result (λ s. s.text.reads ≤ new_in (text_of self.old) (cover_of (text_of self.old) (map cut_of cuts.now))) }
         ensures lasts { (change : Both) (text : List ℕ) → LeadsTo self.old change text → LeadsTo self.new change text }
         ensures lasts_too { (change : Both) (records : List (Number × Record)) → LeadsToRecords self.old change records → LeadsToRecords self.new change records }
@@ -151,14 +153,15 @@ impl<A: Allocator + Copy> DesignText<A> {
         }
     }
 
-    /// Makes a change that is prepared, which takes no memory. The same change then leads back.
+    /// Makes a change that is prepared, which takes no memory. The same change then leads back, and what is kept stays.
     pub(crate) fn commit(&mut self, step: &mut Step<A>)
         requires { (new : List ℕ) × LeadsTo self.old step.old new }
         ensures made { (new : List ℕ) → LeadsTo self.old step.old new → text_of self.new ≡ new }
         ensures back { LeadsTo self.new step.new (text_of self.old) }
         ensures made_too { (records : List (Number × Record)) → LeadsToRecords self.old step.old records → records_in self.new ≡ records }
         ensures back_too { LeadsToRecords self.new step.new (records_in self.old) }
-        ensures exchanged { IsExchange self.old self.new (exchanged_by step.new) }
+        ensures kept { StaysKept self.old.pieces.table.slots self.new.pieces.table.slots }
+        ensures exchanged { IsExchange self.new.pieces.table.slots (records_in self.old) (records_in self.new) (exchanged_by step.new) }
     {
         records_are_read::<Statement<'_>>();
         contents_stand_still();
@@ -166,6 +169,7 @@ impl<A: Allocator + Copy> DesignText<A> {
         self.text_reads();
         self.pieces.commit(&mut step.text);
         self.tables.commit(&mut step.tables);
+        self.pieces.statements_are_kept();
         self.pieces.statements_are_parted(&step.text);
     }
 

@@ -1,9 +1,11 @@
 -- Lines on statements that follow an edit of a net.
-use Rattle.std.proofs.Common.{◌≡◌, ℕ, List, [], ◌++◌, filter, flat_map, map, Option, Some, None, refl, sym, ap, ap₂, ◌∙◌, append-nil, option_to_list, Result, Ok, Err}
+use Rattle.std.proofs.Common.{◌≡◌, ◌≤◌, ◌+◌, ℕ, List, [], ◌∷◌, ◌++◌, drop, filter, flat_map, length, map, Option, Some, None, refl, sym, ap, ap₂, subst, ◌∙◌, append-nil, option_to_list, Result, Ok, Err, slice_get}
 use Rattle.std.specs.Prelude.{IfOk, IfSome, IsOk}
 use Rattle.std.specs.Result.{result_ok}
 use Rattle.std.specs.Option.{option_map}
 use Rattle.std.proofs.lemmas.Grind.{flat_map-append}
+use Rattle.std.proofs.lemmas.List.{drop_all, drop_more}
+use Rattle.std.proofs.lemmas.Option.{get_or_from_slice_get, slice_get_within}
 use Rattle.design_model.specs.declared.identifier.StmtId.{StmtId}
 use Rattle.design_model.specs.declared.mode.Section.{Section}
 use Rattle.design_model.specs.declared.mode.Section.TheVariants.{Nets, SpecialNets}
@@ -17,6 +19,8 @@ use Rattle.report_rules.specs.Diagnostics.{statement_lines}
 use Rattle.following_laws.specs.Following.{LinesFollow}
 use Rattle.staying_laws.specs.NetStatements.{NetEditsFollow, is_named_in, lines_on_net}
 use Rattle.staying_laws.specs.Staying.{lines_on_statements}
+use Rattle.design_text.specs.DesignTexts.{Content}
+use Rattle.design_text.specs.Exchanges.{AreExchanges, Exchanged, IsExchange}
 use Rattle.design_text.specs.NamedEntries.{NamedOnce}
 use Rattle.kept_lines.specs.Kept.{Kept}
 use Rattle.edit_session.specs.Known.{AreBefore, AreKept, Awaits}
@@ -88,3 +92,18 @@ said_is text records design are reads = rw are reads
 
 pub is_read : (text : List ℕ) (design : List Record) → read_def text ≡ Ok design → IsOk (read_def text)
 is_read text design reads = rw reads refl
+
+-- what holds of a value if there is one, of this one
+pub of_some : {A : Type 0} (P : A → Type 0) (found : Option A) (value : A) → Some value ≡ found → IfSome found P → P value
+of_some P found value is holds = rw (← is) at holds
+
+-- one of some exchanges that were made one after the other
+pub next_exchange : (text : Content) (old new : List (StmtId × Record)) (xs : List Exchanged) (n : ℕ) (x : Exchanged) → Some x ≡ slice_get xs n → AreExchanges text.pieces.table.slots old (drop n xs) new
+    → (between : List (StmtId × Record)) × IsExchange text.pieces.table.slots old between x × AreExchanges text.pieces.table.slots between (drop (n + 1) xs) new
+next_exchange text old new xs n x is exchanges =
+    let there = drop_more xs n x (slice_get_within xs n x (sym is)) ∙ ap (λ (y : Exchanged). y ∷ drop (n + 1) xs) (get_or_from_slice_get xs n x x (sym is)) in
+    subst (λ (ys : List Exchanged). AreExchanges text.pieces.table.slots old ys new) there exchanges
+
+-- behind the last of them
+pub all_exchanged : (text : Content) (old new : List (StmtId × Record)) (xs : List Exchanged) (n : ℕ) → length xs ≤ n → AreExchanges text.pieces.table.slots old (drop n xs) new → new ≡ old
+all_exchanged text old new xs n last exchanges = subst (λ (ys : List Exchanged). AreExchanges text.pieces.table.slots old ys new) (drop_all n xs last) exchanges

@@ -12,8 +12,8 @@ use Rattle.edit_rules.specs.NetEdits.{NetChange}
 use Rattle.following_laws.specs.Following.{LinesFollow}
 use Rattle.staying_laws.specs.NetStatements.{lines_on_net}
 use Rattle.staying_laws.specs.Staying.{lines_on_places, lines_on_statements}
-use Rattle.design_text.specs.DesignTexts.{Content}
-use Rattle.design_text.specs.Exchanges.{Exchanged, IsExchange, records_in}
+use Rattle.design_text.specs.DesignTexts.{Content, text_of}
+use Rattle.design_text.specs.Exchanges.{AreExchanges, Exchanged, records_in}
 use Rattle.followed_places.specs.Places.{HasPlaces, Places, said}
 use Rattle.edit_session.specs.declared.known_lines.KnownLines.{KnownLines}
 
@@ -58,9 +58,10 @@ pub record Led {A : Type 0} (library : Library) (text : List ℕ) (change : Chan
   pub knew : AreKnown library before known
   pub told : IfSome out (AreBefore library before change)
 
--- A text was edited, and which statements were exchanged is told, or not. What was noted of the components of the text before it, and the
--- lines that were known, are those of that text.
-pub record Followed {A : Type 0} (library : Library) (old new : Content) (exchanged : Option Exchanged) (noted : Option Places) (known : KnownLines A) : Type 0 where
-  pub exchange : IfSome exchanged (IsExchange old new)
+-- A text that reads was edited by these exchanges of statements. What was noted of the components of the text before it, and the lines
+-- that were known, are those of that text.
+pub record Followed {A : Type 0} (library : Library) (old new : Content) (exchanges : List Exchanged) (noted : Option Places) (known : KnownLines A) : Type 0 where
+  pub told : AreExchanges new.pieces.table.slots (records_in old) exchanges (records_in new)
+  pub reads : read_def (text_of old) ≡ Ok (said (records_in old))
   pub had : IfSome noted (HasPlaces library (records_in old))
   pub knew : AreKnown library (said (records_in old)) known

@@ -17,6 +17,7 @@ mod defined_text;
 mod known_lines;
 mod measures;
 mod net_statements;
+mod no_nets;
 mod places;
 mod report;
 pub mod session;

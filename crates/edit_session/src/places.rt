@@ -1,10 +1,11 @@
 //! The lines on components, which follow an edit by the components that it touches.
 
 ghost use Rattle.std.specs.Prelude.{IfSome, List};
+ghost use Rattle.design_model.specs.declared.identifier.StmtId.{StmtId as Number};
 ghost use Rattle.def_grammar.specs.Records.{Record};
 ghost use Rattle.design_text.specs.DesignTexts.{Content};
-ghost use Rattle.design_text.specs.Exchanges.{records_in};
-ghost use Rattle.followed_places.specs.Places.{AreOnPlaces, HasPlaces, said};
+ghost use Rattle.design_text.specs.Exchanges.{AreExchanges, records_in};
+ghost use Rattle.followed_places.specs.Places.{AreFollowed, AreOnPlaces, HasPlaces, said};
 ghost use Rattle.edit_session.specs.Known.{AreKnown, Followed};
 
 use crate::known_lines::KnownLines;
@@ -14,46 +15,76 @@ use design_text::text::DesignText;
 use edit_model::edit::Edit;
 use followed_places::FollowedPlaces;
 use kept_lines::KeptLines;
+use line_laws::scales::scales_are_good;
 use std::alloc::Allocator;
 
-/// How many statements an edit may exchange so that the lines on components follow it. Each component among them is looked for by itself
-/// and compared with all the others, so beyond that making all lines anew is sooner done.
+/// How many statements may go out or come in at once so that the lines on components follow. Each component among them is looked for by
+/// itself and compared with all the others, so beyond that making all lines anew is sooner done.
 const MOST_STATEMENTS: usize = 256;
 
-/// Whether an edit moves a component, or gives it another macro.
-pub(crate) fn moves_a_component(edit: &Edit<'_>) -> bool {
+/// Whether an edit adds, removes or moves a component, or gives it another macro.
+pub(crate) fn is_of_a_component(edit: &Edit<'_>) -> bool {
     match edit {
-        Edit::Place { .. } | Edit::Unplace { .. } | Edit::Remaster { .. } => true,
+        Edit::Place { .. }
+        | Edit::Unplace { .. }
+        | Edit::Remaster { .. }
+        | Edit::Add { .. }
+        | Edit::Remove { .. } => true,
         Edit::Connect { .. }
         | Edit::Disconnect { .. }
         | Edit::Route { .. }
         | Edit::Unroute { .. }
-        | Edit::Add { .. }
-        | Edit::Remove { .. }
         | Edit::Block { .. } => false,
     }
 }
 
-/// Notes the components of a text where an edit is about to move some, unless they are noted or the lines on them aren't known. Where
+/// Notes the components of a text where an edit is about to change some, unless they are noted or the lines on them aren't known. Where
 /// memory is refused they aren't noted.
 pub(crate) fn note_places<'t, A: Allocator + Copy>(
     alloc: A,
     library: &'t Library<'_, A>,
     text: &'t DesignText<A>,
-    are_moved: bool,
+    is_wanted: bool,
     known: &KnownLines<A>,
     noted: &mut Option<FollowedPlaces<A>>,
 )
     requires { IfSome noted.old (HasPlaces library.now (records_in text.now)) }
     ensures { IfSome noted.new (HasPlaces library.entry.now (records_in text.entry.now)) }
 {
-    if are_moved && noted.is_none() && known.places.is_some() {
+    if is_wanted && noted.is_none() && known.places.is_some() {
         *noted = FollowedPlaces::of(alloc, library, text).ok();
     }
 }
 
-/// The lines on components after an edit, from those that were known, which are so no longer: where components are noted, and the edit
-/// was made as one change of few statements that leaves what stands round them. What is noted is then that of the new text, and else forgotten.
+/// The lines on components after an edit, from those before it: its exchanges of statements are followed one after the other, where each
+/// is of few statements and leaves what stands round components. What is noted then follows too, and else isn't to be used any more.
+fn followed<'t, A: Allocator + Copy>(
+    alloc: A,
+    library: &'t Library<'_, A>,
+    text: &'t DesignText<A>,
+    made: &Made<A>,
+    places: &mut FollowedPlaces<A>,
+    kept: KeptLines<A>,
+) -> Option<KeptLines<A>>
+    requires { (old : List (Number × Record)) × AreExchanges text.now.pieces.table.slots old made.now.exchanges (records_in text.now) × AreFollowed library.now old places.old kept }
+    ensures { IfSome result (AreFollowed library.entry.now (records_in text.entry.now) places.new) }
+{
+    let mut kept = kept;
+    for place in 0..made.len() {
+        let exchange = made.exchange(place)?;
+        if exchange.went.len().max(exchange.came.len()) > MOST_STATEMENTS {
+            return None;
+        }
+        match places.follow(alloc, library, text, exchange, kept) {
+            Ok(Some(lines)) => kept = lines,
+            _ => return None,
+        }
+    }
+    Some(kept)
+}
+
+/// The lines on components after an edit, from those that were known, which are so no longer, where components are noted and the lines
+/// are soon followed. What is noted is then that of the new text, and else forgotten.
 pub(crate) fn follow_places<'t, A: Allocator + Copy>(
     alloc: A,
     library: &'t Library<'_, A>,
@@ -62,22 +93,15 @@ pub(crate) fn follow_places<'t, A: Allocator + Copy>(
     noted: &mut Option<FollowedPlaces<A>>,
     known: &mut KnownLines<A>,
 ) -> Option<KeptLines<A>>
-    requires { (old : Content) × Followed library.now old text.now made.now.exchanged noted.old known.old }
+    requires { (old : Content) × Followed library.now old text.now made.now.exchanges noted.old known.old }
     ensures lines { IfSome result (AreOnPlaces library.entry.now (said (records_in text.entry.now))) }
     ensures noted { IfSome noted.new (HasPlaces library.entry.now (records_in text.entry.now)) }
     ensures known { (design : List Record) → AreKnown library.entry.now design known.old → AreKnown library.entry.now design known.new }
 {
+    scales_are_good();
     let mut places = noted.take()?;
-    let exchange = made.exchanged()?;
-    if exchange.went.len().max(exchange.came.len()) > MOST_STATEMENTS {
-        return None;
-    }
     let kept = known.places.take()?;
-    match places.follow(alloc, library, text, exchange, kept) {
-        Ok(Some(kept)) => {
-            *noted = Some(places);
-            Some(kept)
-        }
-        _ => None,
-    }
+    let lines = followed(alloc, library, text, made, &mut places, kept)?;
+    *noted = Some(places);
+    Some(lines)
 }

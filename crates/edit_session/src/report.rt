@@ -16,6 +16,7 @@ ghost use Rattle.net_checks.specs.Drawings.{IsDrawingOf};
 ghost use Rattle.edit_session.specs.Known.{AllKnown, AreKept, AreKnown, AreKnownOf, IsDrawingOfText};
 
 use crate::known_lines::KnownLines;
+use crate::no_nets::know_no_nets;
 use cell_library::library::Library;
 use def_reader::statement::Statement;
 use design_names::names::{Names, names_of};
@@ -216,6 +217,7 @@ pub(crate) fn know_lines<A: Allocator + Copy>(
     ensures known { AreKnownOf library.now (text_of text.now) known.new }
     ensures all { OnOk result (AllKnown known.new) }
 {
+    know_no_nets(alloc, text, known);
     if known.are_all() {
         return Ok(());
     }

@@ -22,7 +22,7 @@ ghost use Rattle.edit_session.specs.Sessions.{AnswersOn, AreDiagnostics, HasPart
 
 use crate::known_lines::KnownLines;
 use crate::measures::kept_or_made;
-use crate::places::{follow_places, moves_a_component, note_places};
+use crate::places::{follow_places, is_of_a_component, note_places};
 use crate::report::know_lines;
 use crate::view::{View, view_of};
 use cell_library::library::Library;
@@ -51,7 +51,7 @@ pub struct Session<'s, 'l, A: Allocator + Copy = Global> {
     reports: Option<Reports<A>>,
     /// The lines on the present text that are known.
     known: KnownLines<A>,
-    /// The components of the present text, once an edit moved one while the lines on them were known.
+    /// The components of the present text, once an edit changed one while the lines on them were known.
     places: Option<FollowedPlaces<A>>,
 }
 
@@ -139,7 +139,7 @@ impl<'s, 'l, A: Allocator + Copy> Session<'s, 'l, A> {
             self.alloc,
             self.library,
             &self.text,
-            moves_a_component(edit),
+            is_of_a_component(edit),
             &self.known,
             &mut self.places,
         );

@@ -1,5 +1,5 @@
 -- What is noted of a text whose statements are exchanged.
-use Rattle.std.proofs.Common.{◌≡◌, ◌+◌, ◌||◌, ℕ, Bool, true, false, List, [], ◌∷◌, ◌++◌, filter, flat_map, map, sum_by, Option, Some, None, Result, Ok, Err, refl, sym, ap, ap₂, subst, ◌∙◌, append_assoc, arith, if◌then◌else◌}
+use Rattle.std.proofs.Common.{◌≡◌, ◌<◌, ◌≤◌, ◌+◌, ◌||◌, ℕ, Bool, true, false, List, [], ◌∷◌, ◌++◌, filter, flat_map, map, sum_by, Option, Some, None, Result, Ok, Err, refl, sym, ap, ap₂, ◌∙◌, arith, if◌then◌else◌}
 use Rattle.std.specs.Prelude.{IfOk, IfSome}
 use Rattle.std.specs.List.{cons_option, filter_map, list_any}
 use Rattle.std.specs.Option.{option_map}
@@ -17,13 +17,16 @@ use Rattle.design_rules.specs.Surroundings.{Surroundings, keep_outs, surrounding
 use Rattle.place_checks.specs.SameSurroundings.{HaveSameLines}
 use Rattle.line_laws.specs.Lines.{SameThings}
 use Rattle.following_laws.specs.DesignLaws.{lines_of_components}
-use Rattle.following_laws.specs.Following.{Exchange, LinesFollow}
+use Rattle.following_laws.specs.Following.{Exchange}
 use Rattle.staying_laws.specs.PlaceStatements.{ComponentsAreExchanged, PlacesFollow, SurroundingsAreTold, boxes_among, is_surrounding}
 use Rattle.staying_laws.specs.Staying.{lines_on_places}
-use Rattle.text_pieces.specs.KeptRecords.{AreKept, HavePieces, HasPiece, record_of, records_under}
+use Rattle.text_pieces.specs.KeptRecords.{HavePieces, record_of, records_under}
 use Rattle.text_pieces.specs.Tables.{Kept, kept_at}
-use Rattle.followed_places.specs.Lines.{AreBoxesOf, Awaits, boxed_under}
-use Rattle.followed_places.specs.Places.{AreOnPlaces, HasPlaces, Places, component_under, components_under, place_under, said}
+use Rattle.kept_lines.specs.Kept.{Kept as KeptLines}
+use Rattle.design_text.specs.Exchanges.{Exchanged, IsExchange}
+use Rattle.design_text.proofs.KeptExchanges.{pieces-append}
+use Rattle.followed_places.specs.Lines.{Awaits, boxed_under}
+use Rattle.followed_places.specs.Places.{AreFollowed, Places, component_under, components_under, place_under, said}
 
 abbrev surrounds : StmtId × Record → Bool
 surrounds x = is_surrounding x.1
@@ -52,22 +55,6 @@ none_of {A = A} p (x ∷ xs) none = one (p x) (filter p xs) (list_any p xs) none
     one : (b : Bool) (others : List A) (any : Bool) → (b || any) ≡ false → (any ≡ false → others ≡ []) → (if b then x ∷ others else others) ≡ []
     one true others any h later = absurd (cc)
     one false others any h later = later h
-
-pieces-append : (slots : List (Option Kept)) (a b : List StmtId) → HavePieces slots a → HavePieces slots b → HavePieces slots (a ++ b)
-pieces-append slots [] b pa pb = pb
-pieces-append slots (i ∷ a) b pa pb = (pa.0, pieces-append slots a b pa.1 pb)
-
-pieces-front : (slots : List (Option Kept)) (a b : List StmtId) → HavePieces slots (a ++ b) → HavePieces slots a
-pieces-front slots [] b p = tt
-pieces-front slots (i ∷ a) b p = (p.0, pieces-front slots a b p.1)
-
-pieces-behind : (slots : List (Option Kept)) (a b : List StmtId) → HavePieces slots (a ++ b) → HavePieces slots b
-pieces-behind slots [] b p = p
-pieces-behind slots (i ∷ a) b p = pieces-behind slots a b p.1
-
-firsts_under : (slots : List (Option Kept)) (ids : List StmtId) → map (λ x. x.0) (records_under slots ids) ≡ ids
-firsts_under slots [] = refl
-firsts_under slots (i ∷ ids) = ap (λ (l : List StmtId). i ∷ l) (firsts_under slots ids)
 
 module _ (slots : List (Option Kept)) where
   abbrev under : List StmtId → List (StmtId × Record)
@@ -103,16 +90,11 @@ module _ (slots : List (Option Kept)) where
     pub their_records : map (λ id. record_of (kept_at slots id)) (map (λ x. x.0) (filter surrounds records)) ≡ filter is_surrounding (said records)
     their_records = rw is (around_said ids ∙ filter_said (under ids))
 
--- numbers under which the same statements are kept
-pub standing_pieces : (slots : List (Option Kept)) (records : List (StmtId × Record)) (a b : List StmtId) → records ≡ records_under slots a → records ≡ records_under slots b → HavePieces slots a → HavePieces slots b
-standing_pieces slots records a b is also pieces =
-    let same : a ≡ b = sym (firsts_under slots a) ∙ ap (map (λ x. x.0)) (sym is ∙ also) ∙ firsts_under slots b in
-    subst (HavePieces slots) same pieces
-
-pub of_found : {A E : Type 0} (P Q : Type 0) (r : Result (Option A) E) → (P → Q) → IfOk r (λ found. IfSome found (λ a. P)) → IfOk r (λ found. IfSome found (λ a. Q))
-of_found P Q (Ok (Some a)) f p = f p
-of_found P Q (Ok None) f p = tt
-of_found P Q (Err e) f p = tt
+-- what two clauses say of what was found
+pub both_found : {A E : Type 0} (P R : A → Type 0) (Q : Type 0) (r : Result (Option A) E) → ((a : A) → P a → Q → R a) → IfOk r (λ found. IfSome found P) → IfOk r (λ found. IfSome found (λ a. Q)) → IfOk r (λ found. IfSome found R)
+both_found P R Q (Ok (Some a)) f p q = f a p q
+both_found P R Q (Ok None) f p q = tt
+both_found P R Q (Err e) f p q = tt
 
 -- the components among statements
 seconds : (library : Library) (u : ℕ) (rs : List (StmtId × Record)) → map (λ x. x.1) (components_under library u rs) ≡ filter_map (box_of library u) (said rs)
@@ -128,12 +110,15 @@ lines_the_same s t same [] = refl
 lines_the_same s t same (c ∷ cs) = ap₂ (λ (a b : List (List ℕ)). a ++ b) (rw (same.rows c, same.die, same.fences c) refl) (lines_the_same s t same cs)
 
 -- statements are exchanged
-module _ (library : Library) (slots : List (Option Kept)) (old new : List (StmtId × Record)) (front rest went came : List StmtId)
-    (old_is : old ≡ records_under slots (front ++ (went ++ rest))) (new_is : new ≡ records_under slots (front ++ (came ++ rest)))
-    (went_loose : list_any (λ (x : StmtId × Record). is_surrounding x.1) (records_under slots went) ≡ false)
-    (came_loose : list_any (λ (x : StmtId × Record). is_surrounding x.1) (records_under slots came) ≡ false) where
+module _ (library : Library) (slots : List (Option Kept)) (old new : List (StmtId × Record)) (x : Exchanged) (e : IsExchange slots old new x) where
+  old_pieces : HavePieces slots (e.front ++ (x.went ++ e.rest))
+  old_pieces = pieces-append slots e.front (x.went ++ e.rest) e.in_front (pieces-append slots x.went e.rest e.went e.behind)
+
   abbrev pub stay : List StmtId
-  stay = front ++ rest
+  stay = e.front ++ e.rest
+
+  stay_pieces : HavePieces slots stay
+  stay_pieces = pieces-append slots e.front e.rest e.in_front e.behind
 
   abbrev these : List StmtId → List (StmtId × Record)
   these ids = records_under slots ids
@@ -141,62 +126,47 @@ module _ (library : Library) (slots : List (Option Kept)) (old new : List (StmtI
   abbrev say : List StmtId → List Record
   say ids = said (these ids)
 
-  pair : StmtId → StmtId × Record
-  pair id = (id, record_of (kept_at slots id))
+  abbrev with_these : List StmtId → List StmtId
+  with_these some = e.front ++ (some ++ e.rest)
 
-  parted : (some : List StmtId) → these (front ++ (some ++ rest)) ≡ these front ++ (these some ++ these rest)
-  parted some = map-append (λ id. (id, record_of (kept_at slots id))) front (some ++ rest) ∙ ap (λ (l : List (StmtId × Record)). these front ++ l) (map-append (λ id. (id, record_of (kept_at slots id))) some rest)
+  parted : (some : List StmtId) → these (with_these some) ≡ these e.front ++ (these some ++ these e.rest)
+  parted some = map-append (λ id. (id, record_of (kept_at slots id))) e.front (some ++ e.rest) ∙ ap (λ (l : List (StmtId × Record)). these e.front ++ l) (map-append (λ id. (id, record_of (kept_at slots id))) some e.rest)
 
-  stay_parted : these stay ≡ these front ++ these rest
-  stay_parted = map-append (λ id. (id, record_of (kept_at slots id))) front rest
+  stay_parted : these stay ≡ these e.front ++ these e.rest
+  stay_parted = map-append (λ id. (id, record_of (kept_at slots id))) e.front e.rest
 
-  said_parted : (some : List StmtId) → say (front ++ (some ++ rest)) ≡ say front ++ (say some ++ say rest)
+  said_parted : (some : List StmtId) → say (with_these some) ≡ say e.front ++ (say some ++ say e.rest)
   said_parted some =
       ap said (parted some)
-      ∙ map-append (λ x. x.1) (these front) (these some ++ these rest)
-      ∙ ap (λ (l : List Record). say front ++ l) (map-append (λ x. x.1) (these some) (these rest))
+      ∙ map-append (λ x. x.1) (these e.front) (these some ++ these e.rest)
+      ∙ ap (λ (l : List Record). say e.front ++ l) (map-append (λ x. x.1) (these some) (these e.rest))
 
-  said_stay : say stay ≡ say front ++ say rest
-  said_stay = ap said stay_parted ∙ map-append (λ x. x.1) (these front) (these rest)
+  said_stay : say stay ≡ say e.front ++ say e.rest
+  said_stay = ap said stay_parted ∙ map-append (λ x. x.1) (these e.front) (these e.rest)
 
-  one_side : (all : List (StmtId × Record)) (some : List StmtId) → all ≡ these (front ++ (some ++ rest)) → SameThings (said all) (say some ++ say stay)
+  one_side : (all : List (StmtId × Record)) (some : List StmtId) → all ≡ these (with_these some) → SameThings (said all) (say some ++ say stay)
   one_side all some is = record {
     sums = λ w.
         let here = ap (λ rs. sum_by w (said rs)) is ∙ ap (sum_by w) (said_parted some) in
         let there = ap (sum_by w) said_stay in
-        omega (arith, here, there, sum_by-append w (say some) (say stay), sum_by-append w (say front) (say some ++ say rest), sum_by-append w (say some) (say rest), sum_by-append w (say front) (say rest));
+        omega (
+          arith,
+          here,
+          there,
+          sum_by-append w (say some) (say stay),
+          sum_by-append w (say e.front) (say some ++ say e.rest),
+          sum_by-append w (say some) (say e.rest),
+          sum_by-append w (say e.front) (say e.rest),
+        );
   }
 
-  exchange : Exchange (said old) (said new) (say went) (say came) (say stay)
-  exchange = record { old_is = one_side old went old_is; new_is = one_side new came new_is }
-
-  filtered : (all : List (StmtId × Record)) (some : List StmtId) → all ≡ these (front ++ (some ++ rest)) → list_any surrounds (these some) ≡ false
-      → filter surrounds all ≡ filter surrounds (these front) ++ filter surrounds (these rest)
-  filtered all some is loose =
-      ap (filter surrounds) (is ∙ parted some)
-      ∙ filter-append surrounds (these front) (these some ++ these rest)
-      ∙ ap (λ (l : List (StmtId × Record)). filter surrounds (these front) ++ l)
-      (filter-append surrounds (these some) (these rest) ∙ ap (λ (l : List (StmtId × Record)). l ++ filter surrounds (these rest)) (none_of surrounds (these some) loose))
-
-  same_around : filter surrounds old ≡ filter surrounds new
-  same_around = filtered old went old_is went_loose ∙ sym (filtered new came new_is came_loose)
-
-  same_surroundings : filter is_surrounding (said old) ≡ filter is_surrounding (said new)
-  same_surroundings = sym (filter_said old) ∙ ap said same_around ∙ filter_said new
-
-  pub old_pieces : HavePieces slots (front ++ (came ++ rest)) → HavePieces slots went → HavePieces slots (front ++ (went ++ rest))
-  old_pieces all p = pieces-append slots front (went ++ rest) (pieces-front slots front (came ++ rest) all) (pieces-append slots went rest p (pieces-behind slots came rest (pieces-behind slots front (came ++ rest) all)))
-
-  pub stay_pieces : HavePieces slots (front ++ (came ++ rest)) → HavePieces slots stay
-  stay_pieces all = pieces-append slots front rest (pieces-front slots front (came ++ rest) all) (pieces-behind slots came rest (pieces-behind slots front (came ++ rest) all))
-
-  places : ℕ → List StmtId → List (StmtId × Rectangle)
-  places u ids = map place_under (components_under library u (these ids))
+  exchange : Exchange (said old) (said new) (say x.went) (say x.came) (say stay)
+  exchange = record { old_is = one_side old x.went e.old_is; new_is = one_side new x.came e.new_is }
 
   places-append : (u : ℕ) (xs ys : List (StmtId × Record)) → map place_under (components_under library u (xs ++ ys)) ≡ map place_under (components_under library u xs) ++ map place_under (components_under library u ys)
   places-append u xs ys = ap (map place_under) (filter_map-append (component_under library u) xs ys) ∙ map-append place_under (components_under library u xs) (components_under library u ys)
 
-  places_parted : (u : ℕ) (all : List (StmtId × Record)) (some : List StmtId) → all ≡ these (front ++ (some ++ rest))
+  places_parted : (u : ℕ) (all : List (StmtId × Record)) (some : List StmtId) → all ≡ these (with_these some)
       → SameThings (map place_under (components_under library u all)) (map place_under (components_under library u (these some)) ++ map place_under (components_under library u (these stay)))
   places_parted u all some is = record {
     sums = λ w.
@@ -207,29 +177,59 @@ module _ (library : Library) (slots : List (Option Kept)) (old new : List (StmtI
           arith,
           here,
           there,
-          ap (sum_by w) (places-append u (these front) (these some ++ these rest)),
-          ap (sum_by w) (places-append u (these some) (these rest)),
-          ap (sum_by w) (places-append u (these front) (these rest)),
+          ap (sum_by w) (places-append u (these e.front) (these some ++ these e.rest)),
+          ap (sum_by w) (places-append u (these some) (these e.rest)),
+          ap (sum_by w) (places-append u (these e.front) (these e.rest)),
           sum_by-append w (p (these some)) (p (these stay)),
-          sum_by-append w (p (these front)) (p (these some ++ these rest)),
-          sum_by-append w (p (these some)) (p (these rest)),
-          sum_by-append w (p (these front)) (p (these rest)),
+          sum_by-append w (p (these e.front)) (p (these some ++ these e.rest)),
+          sum_by-append w (p (these some)) (p (these e.rest)),
+          sum_by-append w (p (these e.front)) (p (these e.rest)),
         );
   }
 
-  module _ (told : SurroundingsAreTold) (exchanged : ComponentsAreExchanged) where
-    follow : PlacesFollow library (said old) (said new) (say went) (say came) (say stay)
-    follow = exchanged library (said old) (said new) (say went) (say came) (say stay) exchange same_surroundings
+  module _ (places : Places) (kept : KeptLines) (f : AreFollowed library old places kept) (told : SurroundingsAreTold) where
+    -- by the numbers that are noted of the statements of what stands round components
+    pub around_kept : (numbers : List StmtId) → numbers ≡ places.around → HavePieces slots numbers
+    around_kept numbers are = rw (are ∙ f.places.around_are) (their_pieces slots old (with_these x.went) e.old_is old_pieces)
 
-    pub same_scale : scale (said new) ≡ scale (said old)
-    same_scale = sym (told library (said new)).scale ∙ ap scale (sym same_surroundings) ∙ (told library (said old)).scale
+    pub around_said_is : (numbers : List StmtId) → numbers ≡ places.around → map (λ id. record_of (kept_at slots id)) numbers ≡ filter is_surrounding (said old)
+    around_said_is numbers are = ap (map (λ id. record_of (kept_at slots id))) (are ∙ f.places.around_are) ∙ their_records slots old (with_these x.went) e.old_is old_pieces
 
-    -- by what the statements of what stands round components say
-    module _ (said_around : List Record) (are : said_around ≡ filter is_surrounding (said old)) (places : Places) (has : HasPlaces library old places) where
-      pub scale_is : scale said_around ≡ scale (said old)
+    -- and by what these say
+    module _ (said_around : List Record) (are : said_around ≡ filter is_surrounding (said old)) where
+      scale_is : scale said_around ≡ scale (said old)
       scale_is = ap scale are ∙ (told library (said old)).scale
 
-      module _ (u : ℕ) (u_is : u ≡ scale said_around) (s : Surroundings) (s_is : HaveSameLines s (surroundings library said_around)) (outs : List Rectangle) (outs_are : outs ≡ keep_outs said_around) where
+      pub some_units : 0 < scale said_around
+      some_units = rw scale_is f.some
+
+      pub few_units : scale said_around ≤ 100000
+      few_units = rw scale_is f.few
+
+      -- unless one of those that went or came is one of these
+      module _ (exchanged : ComponentsAreExchanged) (went_loose : list_any (λ (r : StmtId × Record). is_surrounding r.1) (these x.went) ≡ false) (came_loose : list_any (λ (r : StmtId × Record). is_surrounding r.1) (these x.came) ≡ false)
+          (u : ℕ) (u_is : u ≡ scale said_around) (s : Surroundings) (s_is : HaveSameLines s (surroundings library said_around)) (outs : List Rectangle) (outs_are : outs ≡ keep_outs said_around)
+          (went came : List (StmtId × Boxed)) (went_are : went ≡ components_under library (scale said_around) (these x.went)) (came_are : came ≡ components_under library (scale said_around) (these x.came)) where
+        filtered : (all : List (StmtId × Record)) (some : List StmtId) → all ≡ these (with_these some) → list_any surrounds (these some) ≡ false
+            → filter surrounds all ≡ filter surrounds (these e.front) ++ filter surrounds (these e.rest)
+        filtered all some is loose =
+            ap (filter surrounds) (is ∙ parted some)
+            ∙ filter-append surrounds (these e.front) (these some ++ these e.rest)
+            ∙ ap (λ (l : List (StmtId × Record)). filter surrounds (these e.front) ++ l)
+            (filter-append surrounds (these some) (these e.rest) ∙ ap (λ (l : List (StmtId × Record)). l ++ filter surrounds (these e.rest)) (none_of surrounds (these some) loose))
+
+        same_around : filter surrounds old ≡ filter surrounds new
+        same_around = filtered old x.went e.old_is went_loose ∙ sym (filtered new x.came e.new_is came_loose)
+
+        same_surroundings : filter is_surrounding (said old) ≡ filter is_surrounding (said new)
+        same_surroundings = sym (filter_said old) ∙ ap said same_around ∙ filter_said new
+
+        follow : PlacesFollow library (said old) (said new) (say x.went) (say x.came) (say stay)
+        follow = exchanged library (said old) (said new) (say x.went) (say x.came) (say stay) exchange same_surroundings
+
+        same_scale : scale (said new) ≡ scale (said old)
+        same_scale = sym (told library (said new)).scale ∙ ap scale (sym same_surroundings) ∙ (told library (said old)).scale
+
         units : u ≡ scale (said old)
         units = u_is ∙ scale_is
 
@@ -242,24 +242,35 @@ module _ (library : Library) (slots : List (Option Kept)) (old new : List (StmtI
             rw (lines_the_same s (surroundings library said_around) s_is (map (λ x. x.1) (components_under library u (these some))), around_is, outs_are ∙ ap keep_outs are ∙ (told library (said old)).keep_outs, seconds library u (these some), seconds library u (these stay), units)
             refl
 
-        all_awaited : (kept : List (List ℕ)) (pieces : HavePieces slots stay) → kept ≡ sorted_by_bytes (lines_on_places library (said old))
-            → Awaits library u slots stay s outs (components_under library u (these went)) (components_under library u (these came)) places.boxes kept (lines_on_places library (said new))
-        all_awaited kept pieces kept_are = record {
-          pieces = pieces;
-          boxes_are = record { sums = λ w. has.boxes_are.sums w ∙ ap (λ v. sum_by w (map place_under (components_under library v old))) (sym units) ∙ (places_parted u old went old_is).sums w };
+        all_awaited : Awaits library u slots stay s outs (components_under library u (these x.went)) (components_under library u (these x.came)) places.boxes kept.lines (lines_on_places library (said new))
+        all_awaited = record {
+          pieces = stay_pieces;
+          boxes_are = record { sums = λ w. f.places.boxes_are.sums w ∙ ap (λ v. sum_by w (map place_under (components_under library v old))) (sym units) ∙ (places_parted u old x.went e.old_is).sums w };
           before = lines_on_places library (said old);
-          kept_are = kept_are;
-          follow = rw (lines_are went, lines_are came) follow.lines;
+          kept_are = f.lines;
+          follow = rw (lines_are x.went, lines_are x.came) follow.lines;
         }
 
-        pub awaits : (gone come : List (StmtId × Boxed)) → gone ≡ components_under library u (these went) → come ≡ components_under library u (these came)
-            → (kept : List (List ℕ)) (pieces : HavePieces slots stay) → kept ≡ sorted_by_bytes (lines_on_places library (said old))
-            → Awaits library u slots stay s outs gone come places.boxes kept (lines_on_places library (said new))
-        awaits gone come gone_are come_are kept pieces kept_are = rw (gone_are, come_are) (all_awaited kept pieces kept_are)
+        in_units : (some : List StmtId) (those : List (StmtId × Boxed)) → those ≡ components_under library (scale said_around) (these some) → those ≡ components_under library u (these some)
+        in_units some those is = is ∙ ap (λ v. components_under library v (these some)) (sym u_is)
 
-        pub has_new : (boxes : List (StmtId × Rectangle)) → SameThings boxes (map place_under (components_under library u (these came)) ++ map place_under (components_under library u (these stay)))
-            → HasPlaces library new (record { boxes = boxes; around = places.around })
-        has_new boxes same = record {
-          boxes_are = record { sums = λ w. same.sums w ∙ sym ((places_parted u new came new_is).sums w) ∙ ap (λ v. sum_by w (map place_under (components_under library v new))) (units ∙ sym same_scale) };
-          around_are = has.around_are ∙ ap (map (λ x. x.0)) same_around;
+        pub awaits : Awaits library u slots stay s outs went came places.boxes kept.lines (lines_on_places library (said new))
+        awaits = rw (in_units x.went went went_are, in_units x.came came came_are) all_awaited
+
+        pub follows : (boxes : List (StmtId × Rectangle)) (lines : KeptLines) → lines.lines ≡ sorted_by_bytes (lines_on_places library (said new)) → SameThings boxes (map place_under came ++ map place_under (components_under library u (these stay)))
+            → AreFollowed library new (record { boxes = boxes; around = places.around }) lines
+        follows boxes lines lines_are same = record {
+          places = record {
+            boxes_are = record {
+              sums = λ w.
+                  same.sums w
+                  ∙ ap (λ (cs : List (StmtId × Boxed)). sum_by w (map place_under cs ++ map place_under (components_under library u (these stay)))) (in_units x.came came came_are)
+                  ∙ sym ((places_parted u new x.came e.new_is).sums w)
+                  ∙ ap (λ v. sum_by w (map place_under (components_under library v new))) (units ∙ sym same_scale);
+            };
+            around_are = f.places.around_are ∙ ap (map (λ x. x.0)) same_around;
+          };
+          lines = lines_are;
+          some = rw same_scale f.some;
+          few = rw same_scale f.few;
         }

@@ -1,5 +1,5 @@
 -- The components of a text that take part, under the numbers of their statements.
-use Rattle.std.specs.Prelude.{◌≡◌, ℕ, List, [], filter, map, Option}
+use Rattle.std.specs.Prelude.{◌≡◌, ◌<◌, ◌≤◌, ℕ, List, [], filter, map, Option}
 use Rattle.std.specs.List.{filter_map}
 use Rattle.std.specs.Option.{option_map}
 use Rattle.design_model.specs.declared.identifier.StmtId.{StmtId}
@@ -40,3 +40,10 @@ pub record HasPlaces (library : Library) (records : List (StmtId × Record)) (p 
 -- kept lines are those on the components of a design, in the order of their bytes
 abbrev pub AreOnPlaces : Library → List Record → Kept → Type 0
 AreOnPlaces library design kept = kept.lines ≡ sorted_by_bytes (lines_on_places library design)
+
+-- places are noted of numbered statements, and kept lines are those on their components; their scale is one that a text may have
+pub record AreFollowed (library : Library) (records : List (StmtId × Record)) (p : Places) (kept : Kept) : Type 0 where
+  pub places : HasPlaces library records p
+  pub lines : AreOnPlaces library (said records) kept
+  pub some : 0 < scale (said records)
+  pub few : scale (said records) ≤ 100000

@@ -5,6 +5,7 @@ ghost use Rattle.std.specs.List.{list_any};
 ghost use Rattle.design_model.specs.declared.identifier.StmtId.{StmtId as Number};
 ghost use Rattle.design_model.specs.Order.{sorted_by_bytes};
 ghost use Rattle.design_model.specs.Views.{rectangle_of};
+ghost use Rattle.def_grammar.specs.Records.{Record};
 ghost use Rattle.def_reader.specs.StatementViews.{records_view};
 ghost use Rattle.design_rules.specs.Boxes.{scale};
 ghost use Rattle.design_rules.specs.Surroundings.{keep_outs, surroundings};
@@ -14,11 +15,10 @@ ghost use Rattle.place_checks.specs.IndexViews.{surroundings_view};
 ghost use Rattle.place_checks.specs.SameSurroundings.{HaveSameLines};
 ghost use Rattle.staying_laws.specs.PlaceStatements.{is_surrounding};
 ghost use Rattle.text_pieces.specs.KeptRecords.{HavePieces, records_under};
-ghost use Rattle.design_text.specs.DesignTexts.{Content};
 ghost use Rattle.design_text.specs.Exchanges.{IsExchange, exchange_view, records_in};
 ghost use Rattle.followed_places.specs.Lines.{Awaits};
 ghost use Rattle.followed_places.specs.Placed.{placed_view};
-ghost use Rattle.followed_places.specs.Places.{AreOnPlaces, HasPlaces, components_under, place_under, said};
+ghost use Rattle.followed_places.specs.Places.{AreFollowed, HasPlaces, components_under, place_under};
 
 use crate::around::{Around, is_any_surrounding, numbers_around};
 use crate::components::{Placed, components_of, insert_all, places_of, remove_all};
@@ -159,8 +159,9 @@ impl<A: Allocator + Copy> FollowedPlaces<A> {
         Ok(FollowedPlaces { boxes, around })
     }
 
-    /// After an edit of a text, by which these statements went out and these came in, the lines on the components of the text, from those
-    /// before it; `None` where they are to be made anew. What was noted then follows too, and else isn't to be used any more.
+    /// After statements were exchanged that are all kept in a text, the lines on the components among those that stand then, from those
+    /// before it; `None` where they are to be made anew. What was noted then follows too, and else isn't to be used any more. Nothing is
+    /// asked of the text but these statements: of exchanges that were made one after the other, each is followed by itself.
     pub fn follow<'t>(
         &mut self,
         alloc: A,
@@ -169,15 +170,12 @@ impl<A: Allocator + Copy> FollowedPlaces<A> {
         exchange: Exchange<'_>,
         kept: KeptLines<A>,
     ) -> Result<Option<KeptLines<A>>, AllocError>
-        requires { (old : Content) × IsExchange old text.now (exchange_view exchange) × HasPlaces library.now (records_in old) self.old × AreOnPlaces library.now (said (records_in old)) kept }
-        ensures lines { IfOk result (λ found. IfSome found (AreOnPlaces library.entry.now (said (records_in text.entry.now)))) }
-        ensures places { IfOk result (λ found. IfSome found (λ _. HasPlaces library.entry.now (records_in text.entry.now) self.new)) }
+        requires { (old : List (Number × Record)) × (new : List (Number × Record)) × IsExchange text.now.pieces.table.slots old new (exchange_view exchange) × AreFollowed library.now old self.old kept }
+        ensures { (old new : List (Number × Record)) → IsExchange text.entry.now.pieces.table.slots old new (exchange_view exchange.entry) → AreFollowed library.entry.now old self.old kept
+            → IfOk result (λ found. IfSome found (AreFollowed library.entry.now new self.new)) }
     {
-        scales_are_good();
         surroundings_are_told();
         components_are_exchanged();
-        text.statements_are_kept();
-        text.design_is_read();
         let Some(went) = loose_statements(alloc, text, exchange.went)? else {
             return Ok(None);
         };

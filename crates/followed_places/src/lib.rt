@@ -1,11 +1,11 @@
 //! The lines on the components of a text, which follow its edits.
 //!
 //! Begin with `FollowedPlaces::of`, which notes the components of a text that take part, over tiles, and which statements stand round
-//! components. After an edit that was made as one change, `follow` looks at the statements that went out and at those that came in:
-//! unless one of them is of what stands round components, it exchanges in lines that are kept the lines on their components, with
-//! those components alone whose boxes meet theirs. It reads these, and the statements of what stands round components.
+//! components. For each exchange of statements that an edit of the text was made by, `follow` looks at those that went out and at those
+//! that came in: unless one of them is of what stands round components, it exchanges in lines that are kept the lines on their
+//! components, with those components alone whose boxes meet theirs. It reads these, and the statements of what stands round components.
 //!
-//! What is noted is `HasPlaces` of `specs/Places`, and what the kept lines are then `AreOnPlaces`. Statements are asked of
+//! What is noted is `HasPlaces` of `specs/Places`, and with the kept lines `AreFollowed`. Statements are asked of
 //! `design_text` by their numbers, lines are those of `place_checks`, and that they follow is a law of `staying_laws`.
 //!
 //! Nothing is lent. The one error is `AllocError`: what is noted, and the kept lines, are then to be made anew.

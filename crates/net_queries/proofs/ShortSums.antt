@@ -14,7 +14,7 @@ use Rattle.line_laws.proofs.PairSums.{times-append, times-flat_map}
 use Rattle.net_lists.specs.Heads.{Head}
 use Rattle.shape_index.specs.declared.shape.Shape.{Shape as Stored}
 use Rattle.net_queries.specs.Held.{shape_of}
-use Rattle.net_queries.specs.OwnedShapes.{Adds, lines_of, net_shape_of, net_shapes_of, owned_by, owner_at}
+use Rattle.net_queries.specs.OwnedShapes.{Adds, lines_of, net_shape_of, net_shapes_of, owned_by}
 use Rattle.net_queries.specs.declared.owner.PartOwner.{PartOwner}
 use Rattle.net_queries.proofs.Joins.{split}
 use Rattle.net_queries.proofs.Parted.{touch_turned}
@@ -48,8 +48,8 @@ pub added : {E X : Type 0} (R : Result Lists E → X → Result Lists E → Type
 added R f step [] a b e = rw (← e) (adds_none a)
 added R f step (x ∷ xs) a b e = adds_on a e.0 b (f x) (flat_map f xs) (adds a e.0 (f x) (step a x e.0 e.1)) (added R f step xs e.0 b e.2)
 
-pub all_added : {E : Type 0} (start : Lists) (r : Result Lists E) (l more : Lists) → start ≡ [] → r ≡ Ok l → AddsTo (Ok start) more r → l ≡ more
-all_added start r l more first is h = let e : l ≡ start ++ more = rw is at h in e ∙ ap (λ ls. ls ++ more) first
+pub all_added : {E : Type 0} (start : Lists) (r : Result Lists E) (l more : Lists) → r ≡ Ok l → AddsTo (Ok start) more r → l ≡ start ++ more
+all_added start r l more is h = rw is at h
 
 -- one more thing of a list has its lines put
 pub next_put : {X : Type 0} (f : X → Lists) (xs : List X) (i : ℕ) (x : X) (before now all : Lists) → i < length xs → x ≡ get_or xs i x → now ≡ before ++ f x
@@ -78,11 +78,11 @@ one_of_some : (f : NetShape → Lists) (o : Option NetShape) (xs : List NetShape
 one_of_some f None xs ls h = h
 one_of_some f (Some x) xs ls h = ap (λ zs. f x ++ zs) h
 
-module _ (heads : List Head) (parts : List PartOwner) where
+module _ (owner : ℕ → Option (PartOwner × Head)) where
   -- the lines of a whole set, entry by entry
-  each_entry : (f : NetShape → Lists) (entries : List (ShapeId × Stored)) → flat_map f (net_shapes_of heads parts entries) ≡ flat_map (λ e. lines_of f heads parts e.1) entries
+  each_entry : (f : NetShape → Lists) (entries : List (ShapeId × Stored)) → flat_map f (net_shapes_of owner entries) ≡ flat_map (λ e. lines_of f owner e.1) entries
   each_entry f [] = refl
-  each_entry f (e ∷ es) = one_of_some f (net_shape_of heads parts e.1) (net_shapes_of heads parts es) (flat_map (λ e. lines_of f heads parts e.1) es) (each_entry f es)
+  each_entry f (e ∷ es) = one_of_some f (net_shape_of owner e.1) (net_shapes_of owner es) (flat_map (λ e. lines_of f owner e.1) es) (each_entry f es)
 
   -- a shape that doesn't touch has no line
   apart_none : (name_of : ℕ → List ℕ) (a : NetShape) (s : Stored) (o : Option (PartOwner × Head)) → touch (shape_of s) a.shape ≡ false → option_map_or (short_of name_of a) (option_map (owned_by s) o) [] ≡ []
@@ -92,22 +92,31 @@ module _ (heads : List Head) (parts : List PartOwner) where
       (touch_turned a.shape (shape_of s) ∙ h)
 
   module _ (name_of : ℕ → List ℕ) (a : NetShape) (entries met : List (ShapeId × Stored)) (same : SameThings met (filter (λ e. touch (shape_of e.1) a.shape) entries)) where
-    times_met : (q : List ℕ) → times q (flat_map (λ e. lines_of (short_of name_of a) heads parts e.1) met) ≡ times q (flat_map (short_of name_of a) (net_shapes_of heads parts entries))
+    times_met : (q : List ℕ) → times q (flat_map (λ e. lines_of (short_of name_of a) owner e.1) met) ≡ times q (flat_map (short_of name_of a) (net_shapes_of owner entries))
     times_met q =
-        let f : ShapeId × Stored → Lists = λ e. lines_of (short_of name_of a) heads parts e.1 in
+        let f : ShapeId × Stored → Lists = λ e. lines_of (short_of name_of a) owner e.1 in
         let test : ShapeId × Stored → Bool = λ e. touch (shape_of e.1) a.shape in
         times-flat_map q f met
         ∙ same.sums (λ e. times q (f e))
         ∙ sums_tested (λ e. times q (f e)) test entries
         ∙ sums_same (λ e. cond (test e) (times q (f e)) 0) (λ e. times q (f e))
-        (λ e. split (test e) (λ t. ap (λ b. cond b (times q (f e)) 0) t) (λ t. ap (λ b. cond b (times q (f e)) 0) t ∙ sym (ap (times q) (apart_none name_of a e.1 (owner_at heads parts e.1.net) t)))) entries
+        (λ e. split (test e) (λ t. ap (λ b. cond b (times q (f e)) 0) t) (λ t. ap (λ b. cond b (times q (f e)) 0) t ∙ sym (ap (times q) (apart_none name_of a e.1 (owner e.1.net) t)))) entries
         ∙ sym (times-flat_map q f entries)
         ∙ sym (ap (times q) (each_entry (short_of name_of a) entries))
 
-    pub lines_of_shape : (lines ends barred : Lists) → lines ≡ flat_map (λ e. lines_of (short_of name_of a) heads parts e.1) met → ends ≡ lines ++ barred → SameLines ends (flat_map (short_of name_of a) (net_shapes_of heads parts entries) ++ barred)
-    lines_of_shape lines ends barred first second = record {
+    pub touching : (start lines : Lists) → lines ≡ start ++ flat_map (λ e. lines_of (short_of name_of a) owner e.1) met → SameLines lines (start ++ flat_map (short_of name_of a) (net_shapes_of owner entries))
+    touching start lines is = record {
       often = λ q.
-          ap (times q) second ∙ times-append q lines barred
-          ∙ ap (λ k. k + times q barred) (ap (times q) first ∙ times_met q)
-          ∙ sym (times-append q (flat_map (short_of name_of a) (net_shapes_of heads parts entries)) barred);
+          ap (times q) is ∙ times-append q start (flat_map (λ e. lines_of (short_of name_of a) owner e.1) met)
+          ∙ ap (λ k. times q start + k) (times_met q)
+          ∙ sym (times-append q start (flat_map (short_of name_of a) (net_shapes_of owner entries)));
     }
+
+-- lines with barriers behind those with shapes
+pub and_barred : (start lines ends shorts barred : Lists) → start ≡ [] → SameLines lines (start ++ shorts) → ends ≡ lines ++ barred → SameLines ends (shorts ++ barred)
+and_barred start lines ends shorts barred none same is = record {
+  often = λ q.
+      ap (times q) is ∙ times-append q lines barred
+      ∙ ap (λ k. k + times q barred) (same.often q ∙ ap (λ ls. times q (ls ++ shorts)) none)
+      ∙ sym (times-append q shorts barred);
+}

@@ -21,16 +21,16 @@ abbrev pub owned_by : Stored → PartOwner × Head → NetShape
 owned_by s o = record { net = o.1.name; is_power = o.1.is_power; is_drawn = not o.0.is_pin; shape = shape_of s }
 
 -- a shape of a set as one of the net that its part is of, if there is a part of its number
-abbrev pub net_shape_of : List Head → List PartOwner → Stored → Option NetShape
-net_shape_of heads parts s = option_map (owned_by s) (owner_at heads parts s.net)
+abbrev pub net_shape_of : (ℕ → Option (PartOwner × Head)) → Stored → Option NetShape
+net_shape_of owner s = option_map (owned_by s) (owner s.net)
 
 -- all of them
-abbrev pub net_shapes_of : List Head → List PartOwner → List (ShapeId × Stored) → List NetShape
-net_shapes_of heads parts entries = filter_map (λ e. net_shape_of heads parts e.1) entries
+abbrev pub net_shapes_of : (ℕ → Option (PartOwner × Head)) → List (ShapeId × Stored) → List NetShape
+net_shapes_of owner entries = filter_map (λ e. net_shape_of owner e.1) entries
 
 -- the lines of one of them
-abbrev pub lines_of : (NetShape → List (List ℕ)) → List Head → List PartOwner → Stored → List (List ℕ)
-lines_of f heads parts s = option_map_or f (net_shape_of heads parts s) []
+abbrev pub lines_of : (NetShape → List (List ℕ)) → (ℕ → Option (PartOwner × Head)) → Stored → List (List ℕ)
+lines_of f owner s = option_map_or f (net_shape_of owner s) []
 
 -- lines are those that stood and more behind them; where memory was refused before, there are none
 abbrev pub Adds : {E : Type 0} → Result (List (List ℕ)) E → List (List ℕ) → List (List ℕ) → Type 0

@@ -2,7 +2,8 @@
 //!
 //! Begin with `pieces_of`, which says how the parts of a net hang together, or with `shorts_of`, which gives the lines of one shape
 //! with those of a set and with barriers; each also says how many shapes it compared. The set's shapes have their part's number
-//! as their `net`. The parts of one net have numbers one after the other, and `Owners` tells whose each number is.
+//! as their `net`. The parts of one net have numbers one after the other, and `PartOwners` tells whose each number is: `Owners`,
+//! which is two slices, or a table of the caller's own.
 //!
 //! What `pieces_of` says is `with_pins` and `without_pins` of `connection_rules/specs/PartClasses`, where the set holds the net's
 //! parts (`HoldsParts` of `specs/Held`); what `shorts_of` gives is `short_of` and `routeblock_of` of
@@ -21,6 +22,6 @@ mod pieces;
 mod shorts;
 
 pub use laws::{parts_in_any_order, runs_are_held, shapes_in_any_order, short_is_symmetric};
-pub use owner::{Owners, PartOwner};
+pub use owner::{Owners, PartOwner, PartOwners};
 pub use pieces::{NetState, pieces_of};
-pub use shorts::shorts_of;
+pub use shorts::{put_touching, shorts_of};

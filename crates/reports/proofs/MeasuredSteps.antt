@@ -13,7 +13,7 @@ use Rattle.drawn_parts.specs.DrawnLengths.{capped}
 use Rattle.cell_sums.specs.Tables.{CellTable}
 use Rattle.net_lists.specs.PartCuts.{shape_view}
 use Rattle.net_lists.specs.declared.parts.NetShape.{NetShape}
-use Rattle.net_lists.proofs.ShapeLemmas.{bare, of_parts}
+use Rattle.net_lists.proofs.ShapeLemmas.{bare, of_parts, shapes_in}
 use Rattle.measure_rules.specs.NetBoxes.{box_round, rectangles_of}
 use Rattle.reports.specs.Densities.{HoldsDensities, HoldsMore}
 use Rattle.reports.specs.MeasuredNets.{AreMeasured, MeasuredNet, firsts, measured, name_of, shape_box}
@@ -25,11 +25,19 @@ boxes_seen : (ss : List NetShape) → map box_of (map shape_view ss) ≡ map sha
 boxes_seen [] = refl
 boxes_seen (s ∷ ss) = ap (λ rs. shape_box s ∷ rs) (boxes_seen ss)
 
+-- the shapes of a net are those of its parts
+shapes_of_parts : (n : Net) → map bare (flat_map shapes_of_net (n ∷ [])) ≡ flat_map shapes_in n.parts
+shapes_of_parts n = ap (map bare) (append-nil (shapes_of_net n)) ∙ of_parts n n.parts
+
+-- so that nothing else of the net matters to them
+pub same_shapes : (m n : Net) → m.parts ≡ n.parts → map bare (flat_map shapes_of_net (m ∷ [])) ≡ map bare (flat_map shapes_of_net (n ∷ []))
+same_shapes m n same = shapes_of_parts m ∙ ap (flat_map shapes_in) same ∙ sym (shapes_of_parts n)
+
 -- the rectangles of a net are those of its shapes
 rectangles_are : (n : Net) (ss : List NetShape) → map shape_view ss ≡ map bare (flat_map shapes_of_net (n ∷ [])) → map shape_box ss ≡ rectangles_of n
 rectangles_are n ss seen =
     sym (boxes_seen ss)
-    ∙ ap (map box_of) (seen ∙ ap (map bare) (append-nil (shapes_of_net n)) ∙ of_parts n n.parts)
+    ∙ ap (map box_of) (seen ∙ shapes_of_parts n)
 
 -- a net of a length
 abbrev net_measured : Net → ℕ → MeasuredNet

@@ -42,14 +42,15 @@ pub(crate) struct MeasuredNets<A: Allocator = Global> {
 }
 
 impl<A: Allocator + Copy> MeasuredNets<A> {
-    /// No nets of a design.
-    fn new(alloc: A, names: &Names<'_, '_, A>) -> Result<MeasuredNets<A>, AllocError>
+    /// No nets of a design, with room for so many names.
+    fn new(alloc: A, names: &Names<'_, '_, A>, count: usize) -> Result<MeasuredNets<A>, AllocError>
         requires across { All (IsWithin 2147483647) (flat_map lines_along_x names.now) }
         requires upward { All (IsWithin 2147483647) (flat_map lines_along_y names.now) }
         ensures { IfOk result (λ m. AreMeasured (columns names.entry.now) (rows names.entry.now) [] [] m.table m.total m.cells) }
     {
+        let table = NetTable::with_room(alloc, names.hash_builder(), count)?;
         Ok(MeasuredNets {
-            table: NetTable::new(alloc, names.hash_builder()),
+            table,
             total: 0,
             cells: no_densities(alloc, names)?,
         })
@@ -78,7 +79,8 @@ impl<A: Allocator + Copy> MeasuredNets<A> {
     }
 }
 
-/// Measures the nets of these groups of entries. Each is drawn by itself: no list holds the shapes of all.
+/// Measures the nets of these groups of entries. Each is drawn by itself: no list holds the shapes of all. Nothing that is measured
+/// depends on whether a net is of power, so none is asked for it.
 fn add_groups<'a, 'l: 'a, 'r: 'a, 't: 'a, A: Allocator + Copy>(
     alloc: A,
     library: &'a Library<'l, A>,
@@ -105,6 +107,7 @@ fn add_groups<'a, 'l: 'a, 'r: 'a, 't: 'a, A: Allocator + Copy>(
             &pins,
             wires,
             name,
+            false,
             entries,
             &mut pin_walk,
             &mut part_walk,
@@ -130,7 +133,7 @@ pub(crate) fn measured_nets<A: Allocator + Copy>(
 {
     let wires = DesignWires::new(alloc, library, names)?;
     let groups = entries_by_net(alloc, names.hash_builder(), names.records())?;
-    let mut measured = MeasuredNets::new(alloc, names)?;
+    let mut measured = MeasuredNets::new(alloc, names, groups.len())?;
     add_groups(alloc, library, names, &wires, &groups, &mut measured)?;
     Ok(measured)
 }

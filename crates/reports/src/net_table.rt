@@ -1,6 +1,6 @@
 //! Nets by their names.
 
-ghost use Rattle.std.specs.Prelude.{◌≡◌, [], OnOk};
+ghost use Rattle.std.specs.Prelude.{◌≡◌, [], IfOk, OnOk};
 ghost use Rattle.std.specs.Option.{option_map};
 ghost use Rattle.form_meanings.specs.Firsts.{find_named, with_first};
 ghost use Rattle.reports.specs.MeasuredNets.{measures_view, name_of};
@@ -35,13 +35,16 @@ impl<A: Allocator> Model for NetTable<A> {
 }
 
 impl<A: Allocator + Copy> NetTable<A> {
-    /// No nets. It takes no memory.
-    pub(crate) fn new(alloc: A, hash_builder: RandomState) -> NetTable<A>
-        ensures { result ≡ [] }
+    /// No nets, with room for so many.
+    pub(crate) fn with_room(
+        alloc: A,
+        hash_builder: RandomState,
+        count: usize,
+    ) -> Result<NetTable<A>, AllocError>
+        ensures { IfOk result (λ table. table ≡ []) }
     {
-        NetTable {
-            nets: IndexMap::with_hasher(alloc, hash_builder),
-        }
+        let nets = IndexMap::with_capacity_and_hasher(alloc, count, hash_builder)?;
+        Ok(NetTable { nets })
     }
 
     /// Puts a net behind the others, unless its name is taken. The name is copied.

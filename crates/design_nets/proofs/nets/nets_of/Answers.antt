@@ -17,7 +17,7 @@ loop-place-preserved g c =
     let gs = map group_view c.groups.inside.groups.entries in
     let group : Group LentEntry = record { name = c.at.result.0.now; members = c.at.result.1.now } in
     let here = rw (← c.groups.view_is) at c.at.ensures in
-    let net = rw (c.requires.same) at c.in_ok-put_net.ensures.net in
+    let net = rw (c.requires.same, c.is_power.ensures library design u) at c.in_ok-put_net.ensures.net in
     record {
       pin_walk = c.in_ok-put_net.ensures.pin_walk;
       part_walk = c.in_ok-put_net.ensures.part_walk;

@@ -3,7 +3,8 @@ use Rattle.def_grammar.specs.Records.{read_def}
 use Rattle.text_pieces.specs.Lent.{numbered_records}
 use Rattle.design_tables.specs.Listings.{AreTablesOf}
 use Rattle.design_tables.specs.Prepared as tables
-use Rattle.design_text.proofs.StepLemmas.{exchange_is, made_text, still_records}
+use Rattle.design_text.proofs.KeptExchanges.{exchange_is, kept_where_it_leads}
+use Rattle.design_text.proofs.StepLemmas.{made_text, still_records}
 use Rattle.design_text.proofs.text.DesignText.commit.Goals as goal
 
 pub invariant_of-self : goal.invariant_of-self
@@ -38,4 +39,10 @@ pub returns-clause-exchanged : goal.returns-clause-exchanged
 returns-clause-exchanged g c =
     let l = rw (← c.self.view_is, ← c.step.view_is) at c.requires.1 in
     let p = c.commit.ensures.leads l.other l.leads in
-    rw (← c.self.view_is) (exchange_is (record { pieces = c.self.inside.pieces; names = c.self.inside.tables }) (record { pieces = c.commit.new.self; names = c.commit-2.new.self }) (record { text = c.commit.new.change; names = c.commit-2.new.change }) p.1 c.statements_are_parted.ensures)
+    rw (← c.self.view_is) (exchange_is (record { pieces = c.self.inside.pieces; names = c.self.inside.tables }) (record { pieces = c.commit.new.self; names = c.commit-2.new.self }) (record { text = c.commit.new.change; names = c.commit-2.new.change }) p.1 c.statements_are_kept.ensures c.statements_are_parted.ensures)
+
+pub returns-clause-kept : goal.returns-clause-kept
+returns-clause-kept g c =
+    let l = rw (← c.self.view_is, ← c.step.view_is) at c.requires.1 in
+    let p = c.commit.ensures.leads l.other l.leads in
+    rw (← c.self.view_is) (kept_where_it_leads c.self.inside.pieces c.commit.new.self c.commit.new.change p.1)

@@ -75,3 +75,9 @@ returns-in-Err-clause-lasts_too g c = λ change records l. records_still _ _ cha
 
 pub returns-in-Ok-clause-lasts_too : goal.returns-in-Ok-clause-lasts_too
 returns-in-Ok-clause-lasts_too g c = λ change records l. records_still _ _ change records c.prepare_all.ensures.still c.changes_last.ensures.lasts (rw (← c.self.view_is) at l)
+
+pub returns-in-Ok-clause-kept : goal.returns-in-Ok-clause-kept
+returns-in-Ok-clause-kept g c = rw (← c.self.view_is) c.prepare_all.ensures.still.kept
+
+pub returns-in-Err-clause-kept : goal.returns-in-Err-clause-kept
+returns-in-Err-clause-kept g c = rw (← c.self.view_is) c.prepare_all.ensures.still.kept

@@ -48,7 +48,7 @@ follow_places-places-requires g c =
     let before = c.self.inside.text in
     let design = said (records_in before) in
     let reads : read_def (text_of before) ≡ Ok design = said_is (text_of before) (records_in before) _ c.statements_are_kept.ensures.said c.design_is_read.ensures.reads in
-    (before, record { exchange = c.in_ok-made.ensures.exchanged; had = c.note_places.ensures; knew = c.self.invariant.2 design reads })
+    (before, record { told = c.in_ok-made.ensures.exchanged; reads = reads; had = c.note_places.ensures; knew = c.self.invariant.2 design reads })
 
 pub follow-requires : goal.follow-requires
 follow-requires g c =

@@ -1,0 +1,23 @@
+use Rattle.design_text.specs.DesignTexts.{text_of}
+use Rattle.design_text.specs.Exchanges.{records_in}
+use Rattle.followed_places.specs.Places.{HasPlaces, said}
+use Rattle.staying_laws.specs.Staying.{lines_on_places}
+use Rattle.edit_session.specs.Known.{AreKept}
+use Rattle.edit_session.proofs.FollowLemmas.{of_some}
+use Rattle.edit_session.proofs.places.follow_places.Goals as goal
+
+pub followed-requires : goal.followed-requires
+followed-requires g c =
+    let library = c.args.library.now in
+    let before = records_in c.requires.0 in
+    let f = c.requires.1 in
+    let good = c.scales_are_good.ensures (text_of c.requires.0) (said before) f.reads in (
+      before,
+      f.told,
+      record {
+        places = of_some (HasPlaces library before) _ _ c.in_ok-places.ensures.value f.had;
+        lines = of_some (AreKept (lines_on_places library (said before))) _ _ c.in_ok-kept.ensures.value f.knew.places;
+        some = good.some;
+        few = good.few;
+      },
+    )

@@ -1,0 +1,4 @@
+mod Gathered
+mod NamedLists
+mod PlacedLists
+mod ShortSteps

@@ -1,0 +1,11 @@
+use Rattle.std.proofs.Common.{◌++◌, drop, map}
+use Rattle.connection_rules.specs.NetLines.{short_of}
+use Rattle.line_laws.specs.Lines.{SameLines}
+use Rattle.net_touches.specs.Barriers.{name_at}
+use Rattle.named_shapes.proofs.ShortSteps.{crossing}
+use Rattle.named_shapes.proofs.shapes.NamedShapes.put_shorts.Given as goal
+
+abbrev pub invariant-loop-shape : goal.invariant-loop-shape
+invariant-loop-shape g l =
+    let compare = short_of (name_at (map (λ w. w.now) l.layers)) in
+    SameLines (l.lines ++ crossing compare l.net l.self (drop l.shape-index l.shapes)) (l.fn.lines ++ crossing compare l.net l.self l.shapes)

@@ -1,0 +1,6 @@
+mod NetNames
+mod NoNets
+mod OneNet
+mod Selecting
+mod ToldNets
+mod Touched

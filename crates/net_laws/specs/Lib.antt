@@ -1,0 +1,3 @@
+pub mod NetExchanges
+pub mod NetsTold
+pub mod OneNet

@@ -1,0 +1,41 @@
+//! Laws of what the nets of a design hang on, and which of them an edit leaves.
+//!
+//! Each law is an empty function that ensures it; call it to use it. A net is told by its entries, by the components that these list,
+//! and by UNITS, vias, nondefault rules and pins of the design (`specs/NetsTold`). So where statements are exchanged for others, only
+//! those nets change of which one of these is an entry, or which list a component among them (`specs/NetExchanges`). Where they are the
+//! entry of one net, the lines on nets follow by those of the net alone, which few statements tell (`specs/OneNet`).
+#![tactic(auto)]
+
+ghost use Rattle.net_laws.specs.NetsTold.{NetsAreTold};
+ghost use Rattle.net_laws.specs.NetExchanges.{NetsAreExchanged, NoNetsNoLines};
+ghost use Rattle.net_laws.specs.OneNet.{OneNetFollows, OneNetIsTold};
+
+use following_laws::{net_lines_follow, same_lines_follow};
+
+/// A net is the same in two designs that agree on what tells it.
+pub fn nets_are_told()
+    ensures { NetsAreTold }
+{}
+
+/// Where statements are exchanged, the nets that they touch are exchanged, and the others stay.
+pub fn nets_are_exchanged()
+    ensures { NetsAreExchanged }
+{}
+
+/// There are no lines on nets where there is no entry of a net.
+pub fn no_nets_no_lines()
+    ensures { NoNetsNoLines }
+{}
+
+/// Statements that tell one net of a design have that net and no other.
+pub fn one_net_is_told()
+    ensures { OneNetIsTold }
+{}
+
+/// Where the entry of a net is exchanged, the lines on nets follow by the lines on that net, before and after.
+pub fn one_net_follows()
+    ensures { OneNetFollows }
+{
+    net_lines_follow();
+    same_lines_follow();
+}
