@@ -1,3 +1,4 @@
+pub mod NetChanges
 pub mod NetExchanges
 pub mod NetsTold
 pub mod OneNet

@@ -1,0 +1,6 @@
+//! The lines on the nets of a text, which follow its edits.
+#![tactic(auto)]
+
+mod listed;
+mod told;
+mod told_statements;
