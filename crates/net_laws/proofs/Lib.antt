@@ -1,3 +1,4 @@
+mod NetChanges
 mod NetNames
 mod NoNets
 mod OneNet

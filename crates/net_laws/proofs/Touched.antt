@@ -1,5 +1,5 @@
 -- The nets that statements touch which go out of a design or come in, and the others.
-use Rattle.std.proofs.Common.{arith, ◌≡◌, ◌∙◌, ℕ, Bool, true, false, not, ◌||◌, List, [], ◌∷◌, ◌++◌, filter, map, Option, Some, None, refl, sym, ap, ap₂, subst, if◌then◌else◌}
+use Rattle.std.proofs.Common.{arith, ◌≡◌, ◌∙◌, ℕ, Bool, true, false, not, ◌||◌, List, [], ◌∷◌, ◌++◌, filter, Option, Some, None, refl, sym, ap, if◌then◌else◌}
 use Rattle.std.specs.List.{AllByRecursion, cons_option, filter_map, list_any}
 use Rattle.std.specs.Str.{bytes_eq}
 use Rattle.std.proofs.lemmas.List.Elements.{filter-append, filter_map-append}
@@ -10,15 +10,9 @@ use Rattle.def_grammar.specs.Nets.{is_net, must_join}
 use Rattle.def_grammar.specs.Records as records
 use Rattle.def_grammar.specs.Records.{Record, component_of, end_section, entry, in_properties, top}
 use Rattle.def_grammar.specs.Terminals.{Terminal, is_of_all}
-use Rattle.lef_grammar.specs.Library.{Library}
-use Rattle.line_laws.specs.Lines.{SameThings}
-use Rattle.connection_rules.specs.NetParts.{Net, all_nets, net_named, net_names}
-use Rattle.following_laws.specs.Following.{Exchange}
-use Rattle.net_laws.specs.NetExchanges.{NetsAreExchanged, TouchOnly, finds, nets_where, touches}
+use Rattle.net_laws.specs.NetExchanges.{TouchOnly, finds, touches}
 use Rattle.net_laws.specs.NetsTold.{AgreeOnNet, FindsAlike, is_common, is_of_net, net_of_record, terminals_in}
-use Rattle.net_laws.proofs.NetNames.{parted, same_names}
 use Rattle.net_laws.proofs.Selecting.{exchanged_alike, none_of_both}
-use Rattle.net_laws.proofs.ToldNets.{same_net}
 
 -- a component among some statements that a terminal finds, or one of some terminals
 abbrev found_by : Terminal → Record → Bool
@@ -66,7 +60,7 @@ own_net design (entry (records.skipped s x)) net is = absurd (cc)
 own_net design (in_properties p) net is = absurd (cc)
 own_net design (end_section s) net is = absurd (cc)
 
-bytes_eq_sym : (a b : List ℕ) → bytes_eq a b ≡ bytes_eq b a
+pub bytes_eq_sym : (a b : List ℕ) → bytes_eq a b ≡ bytes_eq b a
 bytes_eq_sym a b = grind (arith, bytes_eq-Decides)
 
 -- where one test fails, so do two others
@@ -183,7 +177,7 @@ module _ (front out put rest : List Record) where
   new = front ++ (put ++ rest)
 
   module _ (test : List ℕ → Bool) (goes : TouchOnly old out test) (comes : TouchOnly old put test) where
-    agree : (net : List ℕ) → test net ≡ false → AgreeOnNet old new net
+    pub agree : (net : List ℕ) → test net ≡ false → AgreeOnNet old new net
     agree net fails =
         let outs = fail_both (touches old net) (is_of_net net) (listed_by (terminals_in old net)) (untouched old net) out (goes.passes net fails) in
         let puts = fail_both (touches old net) (is_of_net net) (listed_by (terminals_in old net)) (untouched old net) put (comes.passes net fails) in
@@ -214,7 +208,7 @@ module _ (front out put rest : List Record) where
         (λ net is. passed net (test net) (touches old net r) refl (own_net old r net is) (λ fails. (none_of_both (touches old net r) (list_any (touches old net) some) (h net fails)).0))
         (no_passing some (λ net fails. (none_of_both (touches old net r) (list_any (touches old net) some) (h net fails)).1))
 
-    same_stay : filter stays (filter_map net_of_record old) ≡ filter stays (filter_map net_of_record new)
+    pub same_stay : filter stays (filter_map net_of_record old) ≡ filter stays (filter_map net_of_record new)
     same_stay = parts out goes.passes ∙ sym (parts put comes.passes)
       where
         parts : (some : List Record) → ((net : List ℕ) → test net ≡ false → list_any (touches old net) some ≡ false)
@@ -224,25 +218,3 @@ module _ (front out put rest : List Record) where
             ∙ filter-append stays (filter_map net_of_record front) (filter_map net_of_record some ++ filter_map net_of_record rest)
             ∙ ap (λ (ns : List (List ℕ)). filter stays (filter_map net_of_record front) ++ ns)
             (filter-append stays (filter_map net_of_record some) (filter_map net_of_record rest) ∙ ap (λ (ns : List (List ℕ)). ns ++ filter stays (filter_map net_of_record rest)) (no_passing some h))
-
-    module _ (library : Library) (u : ℕ) where
-      more_nets : (net : List ℕ) (names : List (List ℕ)) (b : Bool) → test net ≡ b → map (net_named library new u) names ≡ map (net_named library old u) names
-          → map (net_named library new u) (if not b then net ∷ names else names) ≡ map (net_named library old u) (if not b then net ∷ names else names)
-      more_nets net names true t later = later
-      more_nets net names false t later = ap₂ (λ (n : Net) (ns : List Net). n ∷ ns) (sym (same_net library old new u net (agree net t))) later
-
-      same_nets : (names : List (List ℕ)) → map (net_named library new u) (filter stays names) ≡ map (net_named library old u) (filter stays names)
-      same_nets [] = refl
-      same_nets (net ∷ names) = more_nets net (filter stays names) (test net) refl (same_nets names)
-
-      stay_alike : nets_where library new u stays ≡ nets_where library old u stays
-      stay_alike = same_nets (net_names library new u) ∙ ap (map (net_named library old u)) (sym (same_names stays library old new u same_stay))
-
-      pub exchanged : Exchange (all_nets library old u) (all_nets library new u) (nets_where library old u test) (nets_where library new u test) (nets_where library old u stays)
-      exchanged = record {
-        old_is = parted (net_named library old u) test (net_names library old u);
-        new_is = subst (λ (ns : List Net). SameThings (all_nets library new u) (nets_where library new u test ++ ns)) stay_alike (parted (net_named library new u) test (net_names library new u));
-      }
-
-pub nets_are_exchanged : NetsAreExchanged
-nets_are_exchanged library front out put behind test goes comes u = exchanged front out put behind test goes comes library u

@@ -2,15 +2,15 @@
 //!
 //! Each law is an empty function that ensures it; call it to use it. A net is told by its entries, by the components that these list,
 //! and by UNITS, vias, nondefault rules and pins of the design (`specs/NetsTold`). So where statements are exchanged for others, only
-//! those nets change of which one of these is an entry, or which list a component among them (`specs/NetExchanges`). Where they are the
-//! entry of one net, the lines on nets follow by those of the net alone, which few statements tell (`specs/OneNet`).
+//! those nets change of which one of these is an entry, or which list a component among them (`specs/NetExchanges`). One net is told by
+//! few statements (`specs/OneNet`), and where designs agree on all nets but some which are so told, these alone are exchanged
+//! (`specs/NetChanges`).
 #![tactic(auto)]
 
 ghost use Rattle.net_laws.specs.NetsTold.{NetsAreTold};
 ghost use Rattle.net_laws.specs.NetExchanges.{NetsAreExchanged, NoNetsNoLines};
-ghost use Rattle.net_laws.specs.OneNet.{OneNetFollows, OneNetIsTold};
-
-use following_laws::{net_lines_follow, same_lines_follow};
+ghost use Rattle.net_laws.specs.NetChanges.{ApartOnAndOn, ToldNetsAreExchanged, TouchedApart};
+ghost use Rattle.net_laws.specs.OneNet.{OneNetIsTold};
 
 /// A net is the same in two designs that agree on what tells it.
 pub fn nets_are_told()
@@ -32,10 +32,17 @@ pub fn one_net_is_told()
     ensures { OneNetIsTold }
 {}
 
-/// Where the entry of a net is exchanged, the lines on nets follow by the lines on that net, before and after.
-pub fn one_net_follows()
-    ensures { OneNetFollows }
-{
-    net_lines_follow();
-    same_lines_follow();
-}
+/// Designs agree apart from the nets that statements touch which are exchanged,
+pub fn touched_apart()
+    ensures { TouchedApart }
+{}
+
+/// also after several such exchanges.
+pub fn apart_on_and_on()
+    ensures { ApartOnAndOn }
+{}
+
+/// Where designs agree apart from some nets that few statements tell in both, these nets are exchanged, and the others stay.
+pub fn told_nets_are_exchanged()
+    ensures { ToldNetsAreExchanged }
+{}

@@ -1,4 +1,4 @@
-use Rattle.net_laws.proofs.Touched.{nets_are_exchanged}
+use Rattle.net_laws.proofs.NetChanges.{nets_are_exchanged}
 use Rattle.net_laws.proofs.nets_are_exchanged.Goals as goal
 
 pub returns : goal.returns
