@@ -1,3 +1,5 @@
+pub mod Exchanging
+pub mod FollowedNets
 pub mod Listed
 pub mod Told
 pub mod ToldViews

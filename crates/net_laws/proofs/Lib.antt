@@ -5,3 +5,4 @@ mod OneNet
 mod Selecting
 mod ToldNets
 mod Touched
+mod Within

@@ -2,3 +2,4 @@ pub mod NetChanges
 pub mod NetExchanges
 pub mod NetsTold
 pub mod OneNet
+pub mod Within

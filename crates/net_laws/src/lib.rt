@@ -11,6 +11,7 @@ ghost use Rattle.net_laws.specs.NetsTold.{NetsAreTold};
 ghost use Rattle.net_laws.specs.NetExchanges.{NetsAreExchanged, NoNetsNoLines};
 ghost use Rattle.net_laws.specs.NetChanges.{ApartOnAndOn, ToldNetsAreExchanged, TouchedApart};
 ghost use Rattle.net_laws.specs.OneNet.{OneNetIsTold};
+ghost use Rattle.net_laws.specs.Within.{WithinApart};
 
 /// A net is the same in two designs that agree on what tells it.
 pub fn nets_are_told()
@@ -40,6 +41,11 @@ pub fn touched_apart()
 /// also after several such exchanges.
 pub fn apart_on_and_on()
     ensures { ApartOnAndOn }
+{}
+
+/// An exchange of entries of some nets, and of a component that no other net lists, leaves the other nets.
+pub fn within_apart()
+    ensures { WithinApart }
 {}
 
 /// Where designs agree apart from some nets that few statements tell in both, these nets are exchanged, and the others stay.
