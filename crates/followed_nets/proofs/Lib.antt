@@ -1,1 +1,2 @@
-mod Exchanging
+mod ExchangingLemmas
+mod NetsLeft

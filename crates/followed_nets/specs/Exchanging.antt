@@ -1,6 +1,6 @@
 -- Nets that are exchanged for others, among nets whose shapes and lines are kept.
 use Rattle.std.specs.Prelude.{◌≡◌, ℕ, List, ◌∷◌, ◌++◌, map}
-use Rattle.std.specs.List.{All}
+use Rattle.std.specs.List.{AllByRecursion}
 use Rattle.def_grammar.specs.Records.{Record}
 use Rattle.design_rules.specs.Boxes.{scale}
 use Rattle.lef_grammar.specs.Library.{Library}
@@ -22,7 +22,7 @@ name_of t = t.name
 
 -- what is told are nets of a design
 abbrev pub AreToldIn : Library → List Record → List Told → Type 0
-AreToldIn library design ts = All (λ t. IsToldIn library design t.name t) ts
+AreToldIn library design ts = AllByRecursion (λ t. IsToldIn library design t.name t) ts
 
 -- the nets of a design that some are told to be
 abbrev pub nets_told : Library → List Record → List Told → List Net

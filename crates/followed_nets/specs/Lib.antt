@@ -1,5 +1,6 @@
 pub mod Exchanging
 pub mod FollowedNets
 pub mod Listed
+pub mod Noted
 pub mod Told
 pub mod ToldViews

@@ -1,8 +1,13 @@
 -- One net is exchanged for another among nets whose shapes and lines are kept.
-use Rattle.std.proofs.Common.{◌≡◌, ◌∙◌, ◌+◌, ℕ, List, [], ◌∷◌, ◌++◌, map, sum_by, refl, sym, ap, ap₂, arith, subst}
-use Rattle.std.specs.Prelude.{flat_map}
+use Rattle.std.proofs.Common.{◌≡◌, ◌∙◌, ◌+◌, ℕ, List, [], ◌∷◌, ◌++◌, map, sum_by, Option, Some, None, Result, Ok, Err, refl, sym, ap, ap₂, arith, subst}
+use Rattle.std.specs.Prelude.{IfOk, IfSome, flat_map}
 use Rattle.std.proofs.lemmas.List.{append-nil, map-append}
 use Rattle.std.proofs.lemmas.List.Sums.{sum_by-append, sum_by-cons}
+use Rattle.design_model.specs.Order.{sorted_by_bytes}
+use Rattle.kept_lines.specs.Kept.{Kept}
+use Rattle.net_touches.specs.Barriers.{name_at}
+use Rattle.net_queries.specs.ShortLaws.{ShortIsSymmetric}
+use Rattle.followed_nets.specs.Exchanging.{AwaitsNet}
 use Rattle.design_model.specs.Families.{cross_lines, pair_lines}
 use Rattle.lef_grammar.specs.Library.{Library}
 use Rattle.lef_grammar.specs.Measures.{Shape}
@@ -18,7 +23,7 @@ use Rattle.named_shapes.specs.Named.{by_name, named, shapes_by_name}
 use Rattle.followed_nets.specs.FollowedNets.{AreOnNets}
 use Rattle.followed_nets.specs.Told.{IsTold, Told}
 
-no_crosses : {A B : Type 0} (f : A → B → List (List ℕ)) (xs : List A) → cross_lines f xs [] ≡ []
+pub no_crosses : {A B : Type 0} (f : A → B → List (List ℕ)) (xs : List A) → cross_lines f xs [] ≡ []
 no_crosses f [] = refl
 no_crosses f (x ∷ xs) = no_crosses f xs
 
@@ -90,7 +95,7 @@ module _ (library : Library) (bars : List Barrier) (net : Net) (others : List Ne
 
 module _ (library : Library) (bars : List Barrier) (old new : Net) (others : List Net) (before after : Told) (kept : List (List ℕ)) (shapes middle put_in : List NetShape)
     (told : IsTold library bars old before) (then_told : IsTold library bars new after) (had : AreOnNets library bars (old ∷ others) shapes kept)
-    (removed : SameThings shapes (map (named before.name) before.shapes ++ middle)) (inserted : SameThings put_in (map (named after.name) after.shapes ++ middle)) where
+    (removed : SameThings shapes (map (named before.name) before.shapes ++ middle)) where
   of_told : (net : Net) (t : Told) → IsTold library bars net t → map (named t.name) t.shapes ≡ shapes_by_name (net ∷ [])
   of_told net t is = ap (λ (n : List ℕ). map (named n) t.shapes) is.name_is ∙ is.shapes_are
 
@@ -104,8 +109,8 @@ module _ (library : Library) (bars : List Barrier) (old new : Net) (others : Lis
         omega (arith, a, b, c, d, sum_by-append w (map (named before.name) before.shapes) middle, sum_by-append w (shapes_by_name (old ∷ [])) (shapes_by_name others));
   }
 
-  pub shapes_then : SameThings put_in (shapes_by_name (new ∷ others))
-  shapes_then = record {
+  pub shapes_then : SameThings put_in (map (named after.name) after.shapes ++ middle) → SameThings put_in (shapes_by_name (new ∷ others))
+  shapes_then inserted = record {
     sums = λ w.
         let a = inserted.sums w in
         let b = left_are.sums w in
@@ -128,3 +133,34 @@ module _ (library : Library) (bars : List Barrier) (old new : Net) (others : Lis
         (record { often = λ q. sym ((own_lines library bars old others before told middle left_are out out_are).often q) })
         (record { often = λ q. sym ((own_lines library bars new others after then_told middle left_are put put_are).often q) })
         f
+
+-- what is awaited of the lines and of the shapes once a net was taken out and another was put in
+module _ (library : Library) (bars : List Barrier) (names : List (List ℕ)) (old new : Net) (others : List Net) (before after : Told) (shapes : List NetShape) (kept : List (List ℕ))
+    (a : AwaitsNet library bars names old new others before after shapes kept) (middle : List NetShape)
+    (removed : SameThings shapes (map (named before.name) before.shapes ++ middle)) where
+  pub then_follow : NetLinesFollow → SameLinesFollow → ShortIsSymmetric → (out put : List (List ℕ))
+      → SameLines out (before.lines ++ cross_lines (short_of (name_at names)) (map (named before.name) before.shapes) middle)
+      → SameLines put (after.lines ++ cross_lines (short_of (name_at names)) (map (named after.name) after.shapes) middle)
+      → LinesFollow (lines_on_nets (layer_name library.layers) (old ∷ others) bars) (lines_on_nets (layer_name library.layers) (new ∷ others) bars) out put
+  then_follow follow alike symmetric out put out_are put_are =
+      lines_follow library bars old new others before after kept shapes middle middle a.told a.then_told a.had removed
+      follow
+      alike
+      (λ x y. record { often = λ q. ap (times q) (symmetric (layer_name library.layers) x y) })
+      out
+      put
+      (subst (λ (f : ℕ → List ℕ). SameLines out (before.lines ++ cross_lines (short_of f) (map (named before.name) before.shapes) middle)) a.names_are out_are)
+      (subst (λ (f : ℕ → List ℕ). SameLines put (after.lines ++ cross_lines (short_of f) (map (named after.name) after.shapes) middle)) a.names_are put_are)
+
+  pub then_kept : {E : Type 0} (put_in : List NetShape) (r : Result (Option Kept) E) → SameThings put_in (map (named after.name) after.shapes ++ middle)
+      → IfOk r (λ found. IfSome found (λ k. k.lines ≡ sorted_by_bytes (lines_on_nets (layer_name library.layers) (new ∷ others) bars)))
+      → IfOk r (λ found. IfSome found (λ k. AreOnNets library bars (new ∷ others) put_in k.lines))
+  then_kept put_in (Ok (Some k)) inserted lines = record {
+    shapes_are = shapes_then library bars old new others before after kept shapes middle put_in a.told a.then_told a.had removed inserted;
+    lines_are = lines;
+  }
+  then_kept put_in (Ok None) inserted lines = tt
+  then_kept put_in (Err e) inserted lines = tt
+
+pub same_shorts : ShortIsSymmetric → (library : Library) → IsSymmetric (short_of (layer_name library.layers))
+same_shorts symmetric library x y = record { often = λ q. ap (times q) (symmetric (layer_name library.layers) x y) }
