@@ -1,2 +1,3 @@
 mod ExchangingLemmas
+mod FollowLemmas
 mod NetsLeft

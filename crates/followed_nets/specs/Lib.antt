@@ -4,3 +4,4 @@ pub mod Listed
 pub mod Noted
 pub mod Told
 pub mod ToldViews
+pub mod Touched

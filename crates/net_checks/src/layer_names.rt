@@ -8,7 +8,7 @@ use design_model::identifier::LayerId;
 use std::alloc::{AllocError, Allocator};
 
 /// The names of all layers of a library, from the bottom up.
-pub(crate) fn layer_names<'l, A: Allocator + Copy>(
+pub fn layer_names<'l, A: Allocator + Copy>(
     alloc: A,
     library: &Library<'l, A>,
 ) -> Result<Vec<&'l [u8], A>, AllocError>

@@ -10,7 +10,7 @@
 #![tactic(auto)]
 
 mod barriers;
-mod layer_names;
+pub mod layer_names;
 mod net_lines;
 
 pub use net_lines::NetDrawing;
