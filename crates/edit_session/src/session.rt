@@ -22,7 +22,7 @@ ghost use Rattle.edit_session.specs.Sessions.{AnswersOn, AreDiagnostics, HasPart
 
 use crate::known_lines::KnownLines;
 use crate::measures::kept_or_made;
-use crate::places::{follow_places, is_of_a_component, note_places};
+use crate::noted::Noted;
 use crate::report::know_lines;
 use crate::view::{View, view_of};
 use cell_library::library::Library;
@@ -35,7 +35,6 @@ use design_model::identifier::LayerId;
 use design_model::mode::Section;
 use design_text::text::DesignText;
 use edit_model::edit::{Done, Edit, EditRefusal};
-use followed_places::FollowedPlaces;
 use reports::Reports;
 use std::alloc::{AllocError, Allocator, Global};
 use std::io::Write;
@@ -51,8 +50,8 @@ pub struct Session<'s, 'l, A: Allocator + Copy = Global> {
     reports: Option<Reports<A>>,
     /// The lines on the present text that are known.
     known: KnownLines<A>,
-    /// The components of the present text, once an edit changed one while the lines on them were known.
-    places: Option<FollowedPlaces<A>>,
+    /// What is noted of the present text, so that lines follow an edit.
+    noted: Noted<A>,
 }
 
 impl<'s, 'l, A: Allocator + Copy> Model for Session<'s, 'l, A> {
@@ -60,16 +59,15 @@ impl<'s, 'l, A: Allocator + Copy> Model for Session<'s, 'l, A> {
     ghost use Rattle.def_grammar.specs.Records.{read_def};
     ghost use Rattle.design_text.specs.DesignTexts.{text_of};
     ghost use Rattle.design_text.specs.Exchanges.{records_in};
-    ghost use Rattle.followed_places.specs.Places.{HasPlaces};
     ghost use Rattle.edit_session.specs.Contents.{Content};
-    ghost use Rattle.edit_session.specs.Known.{AreKnownOf};
+    ghost use Rattle.edit_session.specs.Known.{AreKnownOf, HasNoted};
     ghost use Rattle.edit_session.specs.Sessions.{AnswersOn};
 
     ghost Value = { Content };
 
     ghost view = { λ s. record { library = s.library.now; text = text_of s.text } };
 
-    ghost invariant = { λ s. IsOk (read_def (text_of s.text)) × IfSome s.reports (AnswersOn s.library.now (text_of s.text)) × AreKnownOf s.library.now (text_of s.text) s.known × IfSome s.places (HasPlaces s.library.now (records_in s.text)) };
+    ghost invariant = { λ s. IsOk (read_def (text_of s.text)) × IfSome s.reports (AnswersOn s.library.now (text_of s.text)) × AreKnownOf s.library.now (text_of s.text) s.known × HasNoted s.library.now (records_in s.text) s.noted };
 }
 
 impl<'s, 'l, A: Allocator + Copy> Session<'s, 'l, A> {
@@ -105,7 +103,7 @@ impl<'s, 'l, A: Allocator + Copy> Session<'s, 'l, A> {
             text,
             reports: None,
             known: KnownLines::none(),
-            places: None,
+            noted: Noted::none(),
         })
     }
 
@@ -135,14 +133,9 @@ impl<'s, 'l, A: Allocator + Copy> Session<'s, 'l, A> {
         let out = self
             .known
             .before(self.alloc, self.library, &self.text, edit);
-        note_places(
-            self.alloc,
-            self.library,
-            &self.text,
-            is_of_a_component(edit),
-            &self.known,
-            &mut self.places,
-        );
+        let touched = self
+            .noted
+            .note(self.alloc, self.library, &self.text, Some(edit), &self.known);
         self.text.statements_are_kept();
         self.text.design_is_read();
         let edited = self.text.edit(self.alloc, self.library, edit);
@@ -150,12 +143,12 @@ impl<'s, 'l, A: Allocator + Copy> Session<'s, 'l, A> {
         let made = edited?;
         let reads = made.reads();
         self.reports = None;
-        let places = follow_places(
+        let followed = self.noted.follow(
             self.alloc,
             self.library,
             &self.text,
             &made,
-            &mut self.places,
+            touched,
             &mut self.known,
         );
         self.text.let_go(made);
@@ -163,7 +156,7 @@ impl<'s, 'l, A: Allocator + Copy> Session<'s, 'l, A> {
         self.text.design_is_read();
         self.known
             .follow(self.alloc, self.library, &self.text, edit, out);
-        self.known.put_places(places);
+        self.known.put(followed);
         Ok(Done { reads, tests: 0 })
     }
 
@@ -174,14 +167,9 @@ impl<'s, 'l, A: Allocator + Copy> Session<'s, 'l, A> {
         ensures library { self.new.library ≡ self.old.library }
         ensures reads { IsOk (read_def self.new.text) }
     {
-        note_places(
-            self.alloc,
-            self.library,
-            &self.text,
-            true,
-            &self.known,
-            &mut self.places,
-        );
+        let touched = self
+            .noted
+            .note(self.alloc, self.library, &self.text, None, &self.known);
         self.text.statements_are_kept();
         self.text.design_is_read();
         let edited = self.text.replace(self.alloc, a, b, new);
@@ -189,19 +177,19 @@ impl<'s, 'l, A: Allocator + Copy> Session<'s, 'l, A> {
         let made = edited?;
         let reads = made.reads();
         self.reports = None;
-        let places = follow_places(
+        let followed = self.noted.follow(
             self.alloc,
             self.library,
             &self.text,
             &made,
-            &mut self.places,
+            touched,
             &mut self.known,
         );
         self.text.let_go(made);
         self.text.statements_are_kept();
         self.text.design_is_read();
         self.known = KnownLines::none();
-        self.known.put_places(places);
+        self.known.put(followed);
         Ok(Done { reads, tests: 0 })
     }
 
