@@ -8,6 +8,7 @@ mod KeptDesigns
 pub mod KeptExchanges
 mod KeptKeys
 mod KeyedTexts
+mod ListedEntries
 mod NamedEntries
 mod Opened
 mod Pushing

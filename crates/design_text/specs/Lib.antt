@@ -3,6 +3,7 @@ pub mod Editing
 pub mod EntryBytes
 pub mod Exchanges
 pub mod FewReads
+pub mod Listings
 pub mod NamedEntries
 pub mod Steps
 pub mod ToldStatements

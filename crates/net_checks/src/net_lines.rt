@@ -63,6 +63,13 @@ impl<'l, 't, A: Allocator + Copy> NetDrawing<'l, 't, A> {
         })
     }
 
+    /// The nets, with their parts and shapes.
+    pub fn nets(&self) -> &NetList<'t, A>
+        ensures { result.now ≡ self.now.nets }
+    {
+        &self.nets
+    }
+
     /// Puts the lines on shapes of two nets that touch, on wires where routing is blocked, and on what hangs together in each net
     /// behind others, in an order that is left open.
     pub fn put_lines(&self, alloc: A, lines: Lines<A>) -> Result<Lines<A>, AllocError>
