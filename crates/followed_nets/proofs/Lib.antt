@@ -1,3 +1,4 @@
 mod ExchangingLemmas
 mod FollowLemmas
 mod NetsLeft
+mod ToldNets
