@@ -1,4 +1,10 @@
 mod ExchangingLemmas
 mod FollowLemmas
+mod KeptStatements
+mod ListedNets
 mod NetsLeft
+mod OneEntry
+mod TellLemmas
+mod ToldLemmas
 mod ToldNets
+mod WithinLemmas

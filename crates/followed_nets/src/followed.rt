@@ -25,8 +25,9 @@ ghost use Rattle.followed_nets.specs.Touched.{AreFollowed, AreTouched};
 
 use crate::exchanging::exchange_nets;
 use crate::listed::nets_listing;
+use crate::stars::lists_all;
 use crate::told::{ToldNet, told_net};
-use crate::within::{exchanges_are_within, lists_all};
+use crate::within::exchanges_are_within;
 use cell_library::library::Library;
 use def_reader::entry::Entry;
 use def_reader::statement::Statement;

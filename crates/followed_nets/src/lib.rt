@@ -2,7 +2,11 @@
 #![tactic(auto)]
 
 mod exchanging;
+mod followed;
 mod listed;
+mod stars;
 mod told;
 mod told_statements;
 mod within;
+
+pub use followed::{FollowedNets, TouchedNets};

@@ -1,15 +1,31 @@
 //! What is told of one net of a text.
 
-ghost use Rattle.std.specs.Prelude.{◌≡◌, IfOk, IfSome, filter, map};
+ghost use Rattle.std.specs.Prelude.{◌≡◌, ◌<◌, ◌≤◌, ◌++◌, [], IfOk, IfSome, List, filter, flat_map, map};
+ghost use Rattle.def_grammar.specs.Records.{Record};
+ghost use Rattle.def_reader.specs.StatementViews.{record_view};
+ghost use Rattle.lef_grammar.specs.Library.{Library as TheLibrary};
+ghost use Rattle.connection_rules.specs.NetLines.{barriers, net_lines, shapes_of_net};
+ghost use Rattle.connection_rules.specs.NetParts.{net_named};
+ghost use Rattle.design_rules.specs.Boxes.{scale};
+ghost use Rattle.line_laws.specs.Lines.{SameLines};
 ghost use Rattle.net_laws.specs.NetsTold.{is_common};
+ghost use Rattle.net_laws.specs.OneNet.{TellNet};
+ghost use Rattle.net_lists.specs.PartCuts.{shape_view};
+ghost use Rattle.net_checks.specs.Drawings.{IsDrawingOf};
 ghost use Rattle.design_text.specs.DesignTexts.{design_of};
 ghost use Rattle.design_text.specs.Exchanges.{records_in};
-ghost use Rattle.followed_nets.specs.Told.{IsToldIn};
+ghost use Rattle.followed_nets.specs.Told.{IsTold, IsToldIn};
 ghost use Rattle.followed_nets.specs.ToldViews.{told_view};
 
+use crate::told_statements::told_statements;
 use cell_library::library::Library;
+use def_reader::statement::Statement;
 use design_model::identifier::StmtId;
+use design_names::names::names_of;
 use design_text::text::DesignText;
+use line_laws::scales::scales_are_good;
+use net_checks::NetDrawing;
+use net_laws::one_net_is_told;
 use net_lists::NetShape;
 use report_lines::Lines;
 use std::alloc::{AllocError, Allocator, Global};
@@ -20,6 +36,44 @@ pub(crate) struct ToldNet<A: Allocator = Global> {
     pub(crate) name: Vec<u8, A>,
     pub(crate) lines: Lines<A>,
     pub(crate) shapes: Vec<NetShape, A>,
+}
+
+/// The lines on the nets that are drawn, and their shapes, under a name.
+fn told_by<A: Allocator + Copy>(
+    alloc: A,
+    drawing: &NetDrawing<'_, '_, A>,
+    net: &[u8],
+) -> Result<ToldNet<A>, AllocError>
+    ensures name { IfOk result (λ t. t.name.items ≡ net.now) }
+    ensures lines { (library : TheLibrary) (design : List Record) → IsDrawingOf library design drawing.now → IfOk result (λ t. SameLines t.lines ([] ++ net_lines library design (scale design))) }
+    ensures shapes { IfOk result (λ t. map shape_view t.shapes.items ≡ map (λ s. s.shape) (flat_map shapes_of_net drawing.now.nets)) }
+{
+    let name = Vec::from_slice(alloc, net)?;
+    let lines = drawing.put_lines(alloc, Lines::new(alloc))?;
+    let shapes = Vec::from_slice(alloc, drawing.nets().shapes())?;
+    Ok(ToldNet {
+        name,
+        lines,
+        shapes,
+    })
+}
+
+/// What statements tell of the net that they have an entry of.
+fn told_of<A: Allocator + Copy>(
+    alloc: A,
+    library: &Library<'_, A>,
+    statements: &[Statement<'_>],
+    net: &[u8],
+) -> Result<ToldNet<A>, AllocError>
+    requires some { 0 < scale (map record_view statements.now) }
+    requires few { scale (map record_view statements.now) ≤ 100000 }
+    ensures { (design : List Record) → TellNet (map record_view statements.now) design net.now
+        → IfOk result (λ t. IsTold library.now (barriers library.now design (scale design)) (net_named library.now design (scale design) net.now) (told_view t)) }
+{
+    one_net_is_told();
+    let names = names_of(alloc, library.hash_builder(), statements)?;
+    let drawing = NetDrawing::new(alloc, library, &names)?;
+    told_by(alloc, &drawing, net)
 }
 
 /// What is told of a net of a text, by its statements alone (`told_statements`).
@@ -33,5 +87,12 @@ pub(crate) fn told_net<A: Allocator + Copy>(
     requires { common.now ≡ map (λ x. x.0) (filter (λ x. is_common x.1) (records_in text.now)) }
     ensures { IfOk result (λ found. IfSome found (λ t. IsToldIn library.now (design_of text.now) net.now (told_view t))) }
 {
-    todo
+    one_net_is_told();
+    scales_are_good();
+    text.design_is_read();
+    let Some(statements) = told_statements(alloc, text, common, net)? else {
+        return Ok(None);
+    };
+    let told = told_of(alloc, library, &statements, net)?;
+    Ok(Some(told))
 }

@@ -1,19 +1,134 @@
 //! Statements that an edit exchanges: whether they are of some nets, and of a component that no other net lists.
 
-ghost use Rattle.std.specs.Prelude.{◌≡◌, ◌×◌, true, IfOk, List};
+ghost use Rattle.std.specs.Prelude.{◌≡◌, ◌||◌, not, true, IfOk, List, map};
+ghost use Rattle.std.specs.List.{list_any};
 ghost use Rattle.std.specs.Option.{option_map};
 ghost use Rattle.design_model.specs.declared.identifier.StmtId.{StmtId as Number};
-ghost use Rattle.def_grammar.specs.Records.{Record};
+ghost use Rattle.def_grammar.specs.Records.{Record, entry as said_entry};
+ghost use Rattle.def_grammar.specs.Terminals.{is_of_all};
+ghost use Rattle.def_reader.specs.EntryViews.{entry_view};
+ghost use Rattle.def_reader.specs.StatementViews.{record_view, records_view};
 ghost use Rattle.net_laws.specs.NetChanges.{AgreeApart, is_one_of};
-ghost use Rattle.net_laws.specs.Within.{NoOtherLists};
-ghost use Rattle.design_text.specs.Exchanges.{AreExchanges, records_in};
+ghost use Rattle.net_laws.specs.NetsTold.{terminals_of};
+ghost use Rattle.net_laws.specs.Within.{NoOtherLists, is_component, is_within};
+ghost use Rattle.text_pieces.specs.KeptRecords.{HavePieces, record_of};
+ghost use Rattle.text_pieces.specs.Tables.{kept_at};
+ghost use Rattle.design_text.specs.Exchanges.{AreExchanges, IsExchange, exchange_view, records_in};
 ghost use Rattle.followed_nets.specs.Noted.{IsNoted, said};
 
+use crate::stars::lists_all;
+use def_reader::entry::Entry;
+use def_reader::statement::Statement;
 use design_model::identifier::StmtId;
-use design_text::made::Made;
+use design_text::made::{Exchange, Made};
 use design_text::text::DesignText;
 use name_keys::OwnName;
+use net_laws::{apart_on_and_on, within_apart};
 use std::alloc::{AllocError, Allocator};
+use wire_parts::nets::NetEntry;
+
+/// Whether a name is one of these.
+pub(crate) fn is_one_of<A: Allocator>(nets: &[OwnName<A>], name: &[u8]) -> bool
+    ensures { result ≡ is_one_of nets.now name.now }
+{
+    for net in nets {
+        if net.bytes() == name {
+            return true;
+        }
+    }
+    false
+}
+
+/// Whether a name is that of the component, where there is one.
+fn is_component(component: Option<&[u8]>, name: &[u8]) -> bool
+    ensures { result ≡ is_component (option_map (λ w. w.now) component.entry) name.now }
+{
+    match component {
+        Some(own) => own == name,
+        None => false,
+    }
+}
+
+/// Whether an entry is one of these nets, or that component, or of what no net is made of.
+fn is_entry_within<A: Allocator>(
+    entry: &Entry<'_>,
+    nets: &[OwnName<A>],
+    component: Option<&[u8]>,
+) -> bool
+    ensures { result ≡ is_within nets.now (option_map (λ w. w.now) component.entry) (said_entry (entry_view entry.now)) }
+{
+    match entry {
+        Entry::Component(parts) => is_component(component, parts.name.bytes),
+        Entry::Net(NetEntry::Net(net)) => is_one_of(nets, net.name.bytes),
+        Entry::SpecialNet(net) => is_one_of(nets, net.name.bytes),
+        Entry::Pin(_) | Entry::Blockage(_) | Entry::Via(_) | Entry::Rule(_) => false,
+        _ => true,
+    }
+}
+
+/// Whether a statement is.
+fn is_within<A: Allocator>(
+    statement: &Statement<'_>,
+    nets: &[OwnName<A>],
+    component: Option<&[u8]>,
+) -> bool
+    ensures { result ≡ is_within nets.now (option_map (λ w. w.now) component.entry) (record_view statement.now) }
+{
+    match statement {
+        Statement::Entry(entry) => is_entry_within(entry, nets, component),
+        Statement::Units(_) => false,
+        _ => true,
+    }
+}
+
+/// Whether one of these statements isn't within, or lists a pin of all components.
+fn is_any_outside<A: Allocator>(
+    statements: &[Statement<'_>],
+    nets: &[OwnName<A>],
+    component: Option<&[u8]>,
+) -> bool
+    ensures { result ≡ list_any (λ r. not (is_within nets.now (option_map (λ w. w.now) component.entry) r) || list_any is_of_all (terminals_of r)) (records_view statements.now) }
+{
+    for statement in statements {
+        if !is_within(statement, nets, component) || lists_all(statement) {
+            return true;
+        }
+    }
+    false
+}
+
+/// Whether none of the statements that are kept under these numbers is.
+fn are_within<A: Allocator + Copy>(
+    alloc: A,
+    text: &DesignText<A>,
+    ids: &[StmtId],
+    nets: &[OwnName<A>],
+    component: Option<&[u8]>,
+) -> Result<bool, AllocError>
+    requires { HavePieces text.now.pieces.table.slots ids.now }
+    ensures { IfOk result (λ b. b ≡ not (list_any (λ r. not (is_within nets.now (option_map (λ w. w.now) component.entry) r) || list_any is_of_all (terminals_of r)) (map (λ id. record_of (kept_at text.now.pieces.table.slots id)) ids.now))) }
+{
+    let statements = text.kept(alloc, ids)?;
+    Ok(!is_any_outside(&statements, nets, component))
+}
+
+/// Whether the statements of one exchange are all within, and none lists a pin of all components.
+fn exchange_is_within<A: Allocator + Copy>(
+    alloc: A,
+    text: &DesignText<A>,
+    exchange: Exchange<'_>,
+    nets: &[OwnName<A>],
+    component: Option<&[u8]>,
+) -> Result<bool, AllocError>
+    requires { (old : List (Number × Record)) × (new : List (Number × Record)) × IsExchange text.now.pieces.table.slots old new (exchange_view exchange) }
+    ensures { (old new : List (Number × Record)) (common : List Number) → IsExchange text.now.pieces.table.slots old new (exchange_view exchange.entry)
+        → NoOtherLists (said old) nets.now (option_map (λ w. w.now) component.entry) → IsNoted old common
+        → IfOk result (λ b. b ≡ true → AgreeApart (said old) (said new) (is_one_of nets.now) × NoOtherLists (said new) nets.now (option_map (λ w. w.now) component.entry) × IsNoted new common) }
+{
+    within_apart();
+    Ok(are_within(alloc, text, exchange.went, nets, component)?
+        && are_within(alloc, text, exchange.came, nets, component)?)
+}
 
 /// Whether the statements that an edit exchanged are all entries of these nets, or that component, or of what no net is made of. Then the
 /// other nets stay, if none of them lists the component; and so does what is noted.
@@ -29,5 +144,14 @@ pub(crate) fn exchanges_are_within<A: Allocator + Copy>(
         → NoOtherLists (said old) nets.now (option_map (λ w. w.now) component.entry) → IsNoted old common
         → IfOk result (λ b. b ≡ true → AgreeApart (said old) (said (records_in text.now)) (is_one_of nets.now) × IsNoted (records_in text.now) common) }
 {
-    todo
+    apart_on_and_on();
+    for place in 0..made.len() {
+        let Some(exchange) = made.exchange(place) else {
+            return Ok(false);
+        };
+        if !exchange_is_within(alloc, text, exchange, nets, component)? {
+            return Ok(false);
+        }
+    }
+    Ok(true)
 }

@@ -2,7 +2,7 @@ mod NetChanges
 mod NetNames
 mod NoNets
 mod OneNet
-mod Selecting
+pub mod Selecting
 mod ToldNets
 mod Touched
-mod Within
+pub mod Within

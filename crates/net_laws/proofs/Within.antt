@@ -57,6 +57,19 @@ module _ (nets : List (List ℕ)) (component : Option (List ℕ)) where
   of_no_other name net true h g is = absurd (let same : name ≡ net = (bytes_eq-Decides name net).0 is in let yes : is_one_of nets net ≡ true = ap (is_one_of nets) (sym same) ∙ h in cc)
   of_no_other name net false h g is = refl
 
+  within_or_not : (b : Bool) → not b ≡ false → b ≡ true
+  within_or_not true h = refl
+  within_or_not false h = absurd (cc)
+
+  none_of : (test : Record → Bool) → ((r : Record) → within r ≡ true → test r ≡ false) → (some : List Record) → AreWithin nets component some → list_any test some ≡ false
+  none_of test h [] all = refl
+  none_of test h (r ∷ some) all =
+      let both = none_of_both (not (within r)) (list_any (λ (x : Record). not (within x)) some) all in
+      ap (λ (b : Bool). b || list_any test some) (h r (within_or_not (within r) both.0)) ∙ none_of test h some both.1
+
+  pub none_common : (some : List Record) → AreWithin nets component some → list_any is_common some ≡ false
+  none_common some all = none_of is_common no_common some all
+
   module _ (design : List Record) (lists : NoOtherLists design nets component) where
     untouched : (net : List ℕ) → is_one_of nets net ≡ false → (r : Record) → within r ≡ true → touches design net r ≡ false
     untouched net out (entry (records.component c)) h = sym (found_as component c.name (terminals_in design net) h) ∙ lists net out
@@ -74,19 +87,9 @@ module _ (nets : List (List ℕ)) (component : Option (List ℕ)) where
     untouched net out (in_properties x) h = refl
     untouched net out (end_section s) h = refl
 
-    within_or_not : (b : Bool) → not b ≡ false → b ≡ true
-    within_or_not true h = refl
-    within_or_not false h = absurd (cc)
-
-    none_of : (test : Record → Bool) → ((r : Record) → within r ≡ true → test r ≡ false) → (some : List Record) → AreWithin nets component some → list_any test some ≡ false
-    none_of test h [] all = refl
-    none_of test h (r ∷ some) all =
-        let both = none_of_both (not (within r)) (list_any (λ (x : Record). not (within x)) some) all in
-        ap (λ (b : Bool). b || list_any test some) (h r (within_or_not (within r) both.0)) ∙ none_of test h some both.1
-
     touch_only : (some : List Record) → AreWithin nets component some → TouchOnly design some (is_one_of nets)
     touch_only some all = record {
-      none_common = none_of is_common no_common some all;
+      none_common = none_common some all;
       passes = λ net out. none_of (touches design net) (untouched net out) some all;
     }
 

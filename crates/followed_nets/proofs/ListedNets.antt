@@ -1,0 +1,100 @@
+-- The names of nets whose entries list a component.
+use Rattle.std.proofs.Common.{◌≡◌, ◌&&◌, ◌||◌, ℕ, Bool, true, false, List, [], ◌∷◌, ◌++◌, refl, sym, ap, ap₂, ◌∙◌, inl, inr}
+use Rattle.std.specs.Prelude.{filter, flat_map}
+use Rattle.std.specs.List.{list_any}
+use Rattle.std.specs.Str.{bytes_eq}
+use Rattle.std.proofs.lemmas.Bool.{cases_Bool}
+use Rattle.std.proofs.lemmas.List.Folds.{list_any-append}
+use Rattle.std.proofs.lemmas.Slice.Eq.{bytes_eq-Decides}
+use Rattle.def_grammar.specs.Nets.{is_net, must_join}
+use Rattle.def_grammar.specs.Records as records
+use Rattle.def_grammar.specs.Records.{Record, end_section, entry, in_properties, top}
+use Rattle.design_tables.specs.Lookups.{is_of, lists}
+use Rattle.design_text.specs.Listings.{HasListing}
+use Rattle.net_laws.specs.NetChanges.{is_one_of}
+use Rattle.net_laws.specs.NetsTold.{is_of_net, terminals_in, terminals_of}
+use Rattle.followed_nets.specs.Listed.{AreApart, AreListing, is_pin_of}
+
+or_none : (a : Bool) → (a || false) ≡ a
+or_none true = refl
+or_none false = refl
+
+swap : (a b : Bool) → (a && b) ≡ (b && a)
+swap true true = refl
+swap true false = refl
+swap false true = refl
+swap false false = refl
+
+or_parts : (a b : Bool) → (a || b) ≡ false → (a ≡ false) × (b ≡ false)
+or_parts true b h = absurd (cc)
+or_parts false b h = (refl, h)
+
+any_filter : {X : Type 0} (p q : X → Bool) (xs : List X) → list_any q (filter p xs) ≡ list_any (λ x. p x && q x) xs
+any_filter p q [] = refl
+any_filter p q (x ∷ xs) = elim (cases_Bool (p x)) [ inl is ↦ rw is (ap (λ (b : Bool). q x || b) (any_filter p q xs)) | inr other ↦ rw other (any_filter p q xs) ]
+
+any_flat : {X Y : Type 0} (p : Y → Bool) (f : X → List Y) (xs : List X) → list_any p (flat_map f xs) ≡ list_any (λ x. list_any p (f x)) xs
+any_flat p f [] = refl
+any_flat p f (x ∷ xs) = list_any-append p (f x) (flat_map f xs) ∙ ap (λ (b : Bool). list_any p (f x) || b) (any_flat p f xs)
+
+any_same : {X : Type 0} (f g : X → Bool) → ((x : X) → f x ≡ g x) → (xs : List X) → list_any f xs ≡ list_any g xs
+any_same f g each [] = refl
+any_same f g each (x ∷ xs) = ap₂ (λ (a b : Bool). a || b) (each x) (any_same f g each xs)
+
+module _ (component net : List ℕ) where
+  -- an entry of a net with a pin of the component
+  each_entry : (r : Record) → (is_of_net net r && list_any (is_pin_of component) (terminals_of r)) ≡ (lists (is_of component) r && is_of_net net r)
+  each_entry (top t) = refl
+  each_entry (in_properties p) = refl
+  each_entry (end_section s) = refl
+  each_entry (entry (records.component c)) = refl
+  each_entry (entry (records.pin p)) = refl
+  each_entry (entry (records.region r)) = refl
+  each_entry (entry (records.group g)) = refl
+  each_entry (entry (records.blockage b)) = refl
+  each_entry (entry (records.net (must_join tokens))) = refl
+  each_entry (entry (records.net (is_net n))) = swap (bytes_eq n.name net) (list_any (is_pin_of component) n.terminals)
+  each_entry (entry (records.special_net n)) = swap (bytes_eq n.name net) (list_any (is_pin_of component) n.terminals)
+  each_entry (entry (records.via v)) = refl
+  each_entry (entry (records.rule r)) = refl
+  each_entry (entry (records.skipped s tokens)) = refl
+
+  -- a net of none of the entries that list it has no pin of it
+  none_listed : (design found : List Record) → HasListing component design found → list_any (is_of_net net) found ≡ false → list_any (is_pin_of component) (terminals_in design net) ≡ false
+  none_listed design found same none =
+      any_flat (is_pin_of component) terminals_of (filter (is_of_net net) design)
+      ∙ any_filter (is_of_net net) (λ r. list_any (is_pin_of component) (terminals_of r)) design
+      ∙ any_same (λ r. is_of_net net r && list_any (is_pin_of component) (terminals_of r)) (λ r. lists (is_of component) r && is_of_net net r) each_entry design
+      ∙ sym (any_filter (lists (is_of component)) (is_of_net net) design)
+      ∙ same (is_of_net net)
+      ∙ none
+
+pub are_listing : (component : List ℕ) (design found : List Record) (nets : List (List ℕ)) → HasListing component design found → ((net : List ℕ) → is_one_of nets net ≡ list_any (is_of_net net) found)
+    → AreListing design component nets
+are_listing component design found nets same names net other = none_listed component net design found same (sym (names net) ∙ other)
+
+-- one more name
+one_more : (nets : List (List ℕ)) (name net : List ℕ) → is_one_of (nets ++ name ∷ []) net ≡ (is_one_of nets net || bytes_eq name net)
+one_more nets name net = list_any-append (λ n. bytes_eq n net) nets (name ∷ []) ∙ ap (λ (b : Bool). is_one_of nets net || b) (or_none (bytes_eq name net))
+
+other_name : (a b : List ℕ) → bytes_eq a b ≡ false → bytes_eq b a ≡ false
+other_name a b other = elim (cases_Bool (bytes_eq b a)) [
+  | inl is ↦
+      let e = (bytes_eq-Decides b a).0 is in
+      let same : bytes_eq a b ≡ true = ap (bytes_eq a) e ∙ (bytes_eq-Decides a a).1 refl in
+      let both = sym same ∙ other in
+      absurd (cc)
+  | inr is_other ↦ is_other
+]
+
+pub still_apart : (nets : List (List ℕ)) (name : List ℕ) → is_one_of nets name ≡ false → AreApart nets → AreApart (nets ++ name ∷ [])
+still_apart [] name new apart = (refl, tt)
+still_apart (n ∷ ns) name new apart =
+    let both = or_parts (bytes_eq n name) (is_one_of ns name) new in
+    let e = one_more ns name n in
+    (e ∙ ap₂ (λ (a b : Bool). a || b) apart.0 (other_name n name both.0), still_apart ns name both.1 apart.1)
+
+-- the names of the nets of some entries, each once
+pub record AreNamed (nets : List (List ℕ)) (entries : List Record) : Type 0 where
+  pub all : (net : List ℕ) → is_one_of nets net ≡ list_any (is_of_net net) entries
+  pub apart : AreApart nets

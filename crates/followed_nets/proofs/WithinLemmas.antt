@@ -1,0 +1,179 @@
+-- Statements within some nets, which an edit exchanges one exchange after the other.
+use Rattle.std.proofs.Common.{◌≡◌, ◌≤◌, ◌+◌, ℕ, Bool, true, false, not, ◌||◌, List, [], ◌∷◌, ◌++◌, drop, filter, length, map, slice_get, Option, Some, None, Result, Ok, Err, refl, sym, ap, ap₂, subst, ◌∙◌}
+use Rattle.std.specs.Prelude.{IfOk, flat_map}
+use Rattle.std.specs.List.{AllByRecursion, list_any}
+use Rattle.std.proofs.lemmas.Grind.{flat_map-append}
+use Rattle.std.proofs.lemmas.List.{drop_all, drop_more, map-append}
+use Rattle.std.proofs.lemmas.List.Folds.{list_any-append}
+use Rattle.std.proofs.lemmas.Option.{get_or_from_slice_get, slice_get_within}
+use Rattle.design_model.specs.declared.identifier.StmtId.{StmtId}
+use Rattle.def_grammar.specs.Records.{Record}
+use Rattle.def_grammar.specs.Terminals.{Terminal, is_of_all}
+use Rattle.net_laws.specs.NetChanges.{AgreeApart, ApartOnAndOn, is_one_of}
+use Rattle.net_laws.specs.NetsTold.{AgreeOnNet, FindsAlike, is_common, terminals_in, terminals_of}
+use Rattle.net_laws.specs.Within.{AreWithin, NoOtherLists, WithinApart, is_within}
+use Rattle.net_laws.proofs.Selecting.{exchanged_alike, none_of_both}
+use Rattle.net_laws.proofs.Within.{none_common}
+use Rattle.text_pieces.specs.KeptRecords.{record_of, records_under}
+use Rattle.text_pieces.specs.Tables.{Kept, kept_at}
+use Rattle.design_text.specs.Exchanges.{AreExchanges, Exchanged, IsExchange}
+use Rattle.followed_nets.specs.Noted.{IsNoted, said}
+
+-- a design agrees with itself apart from any nets
+finds_itself : (design : List Record) (ts : List Terminal) → AllByRecursion (FindsAlike design design) ts
+finds_itself design [] = tt
+finds_itself design (t ∷ ts) = (record { named = refl; all = λ h. refl }, finds_itself design ts)
+
+agrees : (design : List Record) (test : List ℕ → Bool) → AgreeApart design design test
+agrees design test = record { common = refl; names = refl; agree = λ net h. record { common = refl; entries = refl; components = finds_itself design (terminals_in design net) } }
+
+-- numbered statements by what they say
+any_said : (test : Record → Bool) (rs : List (StmtId × Record)) → list_any (λ (x : StmtId × Record). test x.1) rs ≡ list_any test (said rs)
+any_said test [] = refl
+any_said test (x ∷ rs) = ap (λ (b : Bool). test x.1 || b) (any_said test rs)
+
+-- whether one of some statements lists a pin of all components
+abbrev stars : List Record → Bool
+stars rs = list_any is_of_all (flat_map terminals_of rs)
+
+stars-append : (xs ys : List Record) → stars (xs ++ ys) ≡ (stars xs || stars ys)
+stars-append xs ys = ap (list_any is_of_all) (flat_map-append terminals_of xs ys) ∙ list_any-append is_of_all (flat_map terminals_of xs) (flat_map terminals_of ys)
+
+no_stars : (xs ys : List Record) → stars xs ≡ false → stars ys ≡ false → stars (xs ++ ys) ≡ false
+no_stars xs ys g h = stars-append xs ys ∙ ap₂ (λ (a b : Bool). a || b) g h
+
+stars_of_both : (xs ys : List Record) → stars (xs ++ ys) ≡ false → (stars xs ≡ false) × (stars ys ≡ false)
+stars_of_both xs ys h = none_of_both (stars xs) (stars ys) (sym (stars-append xs ys) ∙ h)
+
+-- one of some exchanges, and those behind it
+pub next_of : (slots : List (Option Kept)) (old last : List (StmtId × Record)) (xs : List Exchanged) (n : ℕ) (x : Exchanged) → Some x ≡ slice_get xs n → AreExchanges slots old (drop n xs) last
+    → (between : List (StmtId × Record)) × IsExchange slots old between x × AreExchanges slots between (drop (n + 1) xs) last
+next_of slots old last xs n x is made =
+    let there = drop_more xs n x (slice_get_within xs n x (sym is)) ∙ ap (λ (y : Exchanged). y ∷ drop (n + 1) xs) (get_or_from_slice_get xs n x x (sym is)) in
+    subst (λ (ys : List Exchanged). AreExchanges slots old ys last) there made
+
+-- what a test says of a list in which it finds none
+pub none_where : (found any : Bool) → found ≡ not any → found ≡ true → any ≡ false
+none_where found true is h = absurd (cc)
+none_where found false is h = refl
+
+-- Statements are within some nets and a component, and none of them lists a pin of all components.
+module _ (nets : List (List ℕ)) (component : Option (List ℕ)) where
+  abbrev pub outside : Record → Bool
+  outside r = not (is_within nets component r) || list_any is_of_all (terminals_of r)
+
+  record Within (rs : List Record) : Type 0 where
+    are : AreWithin nets component rs
+    stars_are : stars rs ≡ false
+
+  all_within : (rs : List Record) → list_any outside rs ≡ false → Within rs
+  all_within [] h = record { are = refl; stars_are = refl }
+  all_within (r ∷ rs) h =
+      let both = none_of_both (outside r) (list_any outside rs) h in
+      let here = none_of_both (not (is_within nets component r)) (list_any is_of_all (terminals_of r)) both.0 in
+      let later = all_within rs both.1 in
+      record {
+        are = ap₂ (λ (a b : Bool). a || b) here.0 later.are;
+        stars_are = list_any-append is_of_all (terminals_of r) (flat_map terminals_of rs) ∙ ap₂ (λ (a b : Bool). a || b) here.1 later.stars_are;
+      }
+
+  module _ (slots : List (Option Kept)) where
+    abbrev these : List StmtId → List (StmtId × Record)
+    these ids = records_under slots ids
+
+    abbrev say : List StmtId → List Record
+    say ids = said (these ids)
+
+    abbrev kept : List StmtId → List Record
+    kept ids = map (λ id. record_of (kept_at slots id)) ids
+
+    kept_said : (ids : List StmtId) → kept ids ≡ say ids
+    kept_said [] = refl
+    kept_said (i ∷ ids) = ap (λ (l : List Record). record_of (kept_at slots i) ∷ l) (kept_said ids)
+
+    within_said : (ids : List StmtId) → list_any outside (kept ids) ≡ false → Within (say ids)
+    within_said ids h = all_within (say ids) (ap (list_any outside) (sym (kept_said ids)) ∙ h)
+
+    parted : (front some rest : List StmtId) → these (front ++ (some ++ rest)) ≡ these front ++ (these some ++ these rest)
+    parted front some rest =
+        map-append (λ id. (id, record_of (kept_at slots id))) front (some ++ rest)
+        ∙ ap (λ (l : List (StmtId × Record)). these front ++ l) (map-append (λ id. (id, record_of (kept_at slots id))) some rest)
+
+    said_parted : (front some rest : List StmtId) → say (front ++ (some ++ rest)) ≡ say front ++ (say some ++ say rest)
+    said_parted front some rest =
+        ap said (parted front some rest)
+        ∙ map-append (λ x. x.1) (these front) (these some ++ these rest)
+        ∙ ap (λ (l : List Record). say front ++ l) (map-append (λ x. x.1) (these some) (these rest))
+
+    none_numbered : (ids : List StmtId) → Within (say ids) → list_any (λ (x : StmtId × Record). is_common x.1) (these ids) ≡ false
+    none_numbered ids w = any_said is_common (these ids) ∙ none_common nets component (say ids) w.are
+
+    -- one exchange
+    module _ (law : WithinApart) (old new : List (StmtId × Record)) (x : Exchanged) (e : IsExchange slots old new x) (goes : Within (say x.went)) (comes : Within (say x.came)) where
+      old_said : said old ≡ say e.front ++ (say x.went ++ say e.rest)
+      old_said = ap said e.old_is ∙ said_parted e.front x.went e.rest
+
+      new_said : said new ≡ say e.front ++ (say x.came ++ say e.rest)
+      new_said = ap said e.new_is ∙ said_parted e.front x.came e.rest
+
+      same_common : filter (λ (y : StmtId × Record). is_common y.1) old ≡ filter (λ (y : StmtId × Record). is_common y.1) new
+      same_common =
+          let f = filter (λ (y : StmtId × Record). is_common y.1) in
+          ap f (e.old_is ∙ parted e.front x.went e.rest)
+          ∙ exchanged_alike (λ (y : StmtId × Record). is_common y.1) (these e.front) (these x.went) (these x.came) (these e.rest) (none_numbered x.went goes) (none_numbered x.came comes)
+          ∙ ap f (sym (e.new_is ∙ parted e.front x.came e.rest))
+
+      still_noted : (common : List StmtId) → IsNoted old common → IsNoted new common
+      still_noted common noted =
+          let before = stars_of_both (say e.front) (say x.went ++ say e.rest) (ap stars (sym old_said) ∙ noted.no_stars) in
+          let behind = stars_of_both (say x.went) (say e.rest) before.1 in
+          record {
+            common_are = noted.common_are ∙ ap (map (λ (y : StmtId × Record). y.0)) same_common;
+            no_stars = ap stars new_said ∙ no_stars (say e.front) (say x.came ++ say e.rest) before.0 (no_stars (say x.came) (say e.rest) comes.stars_are behind.1);
+          }
+
+      exchanged : NoOtherLists (said old) nets component → AgreeApart (said old) (said new) (is_one_of nets) × NoOtherLists (said new) nets component
+      exchanged lists =
+          rw (old_said, new_said)
+          (law (say e.front) (say x.went) (say x.came) (say e.rest) nets component (subst (λ (rs : List Record). NoOtherLists rs nets component) old_said lists) goes.are comes.are)
+
+    pub exchange_within : WithinApart → (old new : List (StmtId × Record)) (common : List StmtId) (x : Exchanged) → list_any outside (kept x.went) ≡ false → list_any outside (kept x.came) ≡ false → IsExchange slots old new x
+        → NoOtherLists (said old) nets component → IsNoted old common → AgreeApart (said old) (said new) (is_one_of nets) × NoOtherLists (said new) nets component × IsNoted new common
+    exchange_within law old new common x goes comes e lists noted =
+        let w = within_said x.went goes in
+        let c = within_said x.came comes in
+        let both = exchanged law old new x e w c lists in
+        (both.0, both.1, still_noted law old new x e w c common noted)
+
+    -- Some exchanges are left: whatever statements all began with, these begin with some that agree with those apart from the nets.
+    abbrev pub StaysWithin : List Exchanged → List Exchanged → List (StmtId × Record) → Type 0
+    StaysWithin all left last = (old : List (StmtId × Record)) (common : List StmtId) → AreExchanges slots old all last → NoOtherLists (said old) nets component → IsNoted old common
+        → (between : List (StmtId × Record))
+        × AreExchanges slots between left last
+        × AgreeApart (said old) (said between) (is_one_of nets)
+        × NoOtherLists (said between) nets component
+        × IsNoted between common
+
+    pub none_yet : (all : List Exchanged) (last : List (StmtId × Record)) → StaysWithin all all last
+    none_yet all last old common made lists noted = (old, made, agrees (said old) (is_one_of nets), lists, noted)
+
+    -- what is known of one exchange
+    abbrev pub StepStays : Exchanged → Type 0
+    StepStays x = (old new : List (StmtId × Record)) (common : List StmtId) → IsExchange slots old new x → NoOtherLists (said old) nets component → IsNoted old common
+        → AgreeApart (said old) (said new) (is_one_of nets) × NoOtherLists (said new) nets component × IsNoted new common
+
+    pub one_more : ApartOnAndOn → (all : List Exchanged) (last : List (StmtId × Record)) (n : ℕ) (x : Exchanged) → Some x ≡ slice_get all n → StepStays x
+        → StaysWithin all (drop n all) last → StaysWithin all (drop (n + 1) all) last
+    one_more on_and_on all last n x is step stays old common made lists noted =
+        let before = stays old common made lists noted in
+        let next = next_of slots before.0 last all n x is before.1 in
+        let after = step before.0 next.0 common next.1 before.3 before.4 in
+        (next.0, next.2, on_and_on (said old) (said before.0) (said next.0) (is_one_of nets) before.2 after.0, after.1, after.2)
+
+    pub in_the_end : (all : List Exchanged) (last : List (StmtId × Record)) (n : ℕ) → length all ≤ n → StaysWithin all (drop n all) last
+        → (old : List (StmtId × Record)) (common : List StmtId) → AreExchanges slots old all last → NoOtherLists (said old) nets component → IsNoted old common
+        → AgreeApart (said old) (said last) (is_one_of nets) × IsNoted last common
+    in_the_end all last n done stays old common made lists noted =
+        let at_last = stays old common made lists noted in
+        let same : last ≡ at_last.0 = subst (λ (ys : List Exchanged). AreExchanges slots at_last.0 ys last) (drop_all n all done) at_last.1 in
+        (subst (λ (rs : List (StmtId × Record)). AgreeApart (said old) (said rs) (is_one_of nets)) (sym same) at_last.2, subst (λ (rs : List (StmtId × Record)). IsNoted rs common) (sym same) at_last.4)

@@ -1,0 +1,14 @@
+use Rattle.std.specs.Option.{option_map}
+use Rattle.design_text.specs.Exchanges.{exchange_view}
+use Rattle.followed_nets.proofs.WithinLemmas.{exchange_within, none_where}
+use Rattle.followed_nets.proofs.within.exchange_is_within.Goals as goal
+
+pub returns-in_ok-are_within-2 : goal.returns-in_ok-are_within-2
+returns-in_ok-are_within-2 g c =
+    λ old new common exchange lists noted within.
+        exchange_within c.args.nets.now (option_map (λ w. w.now) c.args.component) c.args.text.now.pieces.table.slots c.within_apart.ensures old new common (exchange_view c.args.exchange)
+        (none_where _ _ c.in_ok-are_within.ensures c.if-branch.true)
+        (none_where _ _ c.in_ok-are_within-2.ensures within)
+        exchange
+        lists
+        noted
