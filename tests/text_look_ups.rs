@@ -10,6 +10,9 @@ use std::test::Fail;
 
 const TEXT: &[u8] = b"VERSION 5.8 ;\nDESIGN d ;\nUNITS DISTANCE MICRONS 1000 ;\nCOMPONENTS 2 ;\n- u1 INV ;\n# two\n- u2 INV ;\nEND COMPONENTS\nPINS 1 ;\n- a + NET n ;\nEND PINS\nNETS 2 ;\n- n ( PIN a ) ( u1 A ) ;\n- m ( u2 A ) ;\nEND NETS\nEND DESIGN\n";
 
+/// A component whose pins three entries list, one of them two.
+const LISTED: &[u8] = b"UNITS DISTANCE MICRONS 1000 ;\nNETS 3 ;\n- n ( PIN a ) ( u1 A ) ;\n- m ( u1 B ) ( u1 C ) ( u2 A ) ;\n- o ( * D ) ;\nEND NETS\nSPECIALNETS 1 ;\n- p ( u1 E ) ;\nEND SPECIALNETS\nEND DESIGN\n";
+
 /// The bytes of an entry and their place.
 fn entry<'t>(text: &'t DesignText, section: Section, name: &[u8]) -> Option<(&'t [u8], usize)> {
     let entry = text.statement(section, name)?;
@@ -53,6 +56,25 @@ fn terminals(rt: HostRuntime) -> Result<(), Fail> {
     assert_eq!(rt; text.is_connected(b"u1", b"B"), false);
     assert_eq!(rt; text.is_connected(b"PIN", b"a"), true);
     assert_eq!(rt; text.is_connected(b"PIN", b"A"), false);
+    Ok(())
+}
+
+/// How many entries list a component, unless there are more than `most`.
+fn listing(rt: &HostRuntime, text: &DesignText, component: &[u8], most: usize) -> Result<Option<usize>, Fail> {
+    match text.entries_listing(rt.alloc(), component, most)? {
+        Some(entries) => Ok(Some(entries.len())),
+        None => Ok(None),
+    }
+}
+
+#[test]
+fn entries_that_list_a_component(rt: HostRuntime) -> Result<(), Fail> {
+    let text = DesignText::open(rt.alloc(), RandomState::new(&rt)?, LISTED)?;
+    assert_eq!(rt; listing(&rt, &text, b"u1", 3)?, Some(3));
+    assert_eq!(rt; listing(&rt, &text, b"u1", 2)?, None);
+    assert_eq!(rt; listing(&rt, &text, b"u2", 3)?, Some(1));
+    assert_eq!(rt; listing(&rt, &text, b"PIN", 3)?, Some(0));
+    assert_eq!(rt; listing(&rt, &text, b"u3", 0)?, Some(0));
     Ok(())
 }
 
