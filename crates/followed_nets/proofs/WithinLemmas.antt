@@ -1,6 +1,6 @@
 -- Statements within some nets, which an edit exchanges one exchange after the other.
-use Rattle.std.proofs.Common.{◌≡◌, ◌≤◌, ◌+◌, ℕ, Bool, true, false, not, ◌||◌, List, [], ◌∷◌, ◌++◌, drop, filter, length, map, slice_get, Option, Some, None, Result, Ok, Err, refl, sym, ap, ap₂, subst, ◌∙◌}
-use Rattle.std.specs.Prelude.{IfOk, flat_map}
+use Rattle.std.proofs.Common.{◌≡◌, ◌≤◌, ◌+◌, ℕ, Bool, true, false, not, ◌||◌, List, [], ◌∷◌, ◌++◌, drop, filter, length, map, slice_get, Option, Some, refl, sym, ap, ap₂, subst, ◌∙◌}
+use Rattle.std.specs.Prelude.{flat_map}
 use Rattle.std.specs.List.{AllByRecursion, list_any}
 use Rattle.std.proofs.lemmas.Grind.{flat_map-append}
 use Rattle.std.proofs.lemmas.List.{drop_all, drop_more, map-append}
@@ -10,7 +10,7 @@ use Rattle.design_model.specs.declared.identifier.StmtId.{StmtId}
 use Rattle.def_grammar.specs.Records.{Record}
 use Rattle.def_grammar.specs.Terminals.{Terminal, is_of_all}
 use Rattle.net_laws.specs.NetChanges.{AgreeApart, ApartOnAndOn, is_one_of}
-use Rattle.net_laws.specs.NetsTold.{AgreeOnNet, FindsAlike, is_common, terminals_in, terminals_of}
+use Rattle.net_laws.specs.NetsTold.{FindsAlike, is_common, terminals_in, terminals_of}
 use Rattle.net_laws.specs.Within.{AreWithin, NoOtherLists, WithinApart, is_within}
 use Rattle.net_laws.proofs.Selecting.{exchanged_alike, none_of_both}
 use Rattle.net_laws.proofs.Within.{none_common}

@@ -1,6 +1,6 @@
 //! The nets of a text that are noted, and the lines on them that follow.
 
-ghost use Rattle.std.specs.Prelude.{◌≡◌, ◌×◌, false, true, filter, IfOk, IfSome, IsTrue, List, map};
+ghost use Rattle.std.specs.Prelude.{◌≡◌, false, true, filter, IfOk, IfSome, IsTrue, List, map};
 ghost use Rattle.std.specs.List.{list_any};
 ghost use Rattle.std.specs.Option.{option_map};
 ghost use Rattle.design_model.specs.declared.identifier.StmtId.{StmtId as Number};
@@ -12,6 +12,7 @@ ghost use Rattle.connection_rules.specs.NetParts.{all_nets};
 ghost use Rattle.line_laws.specs.Lines.{SameThings};
 ghost use Rattle.named_shapes.specs.Named.{shapes_by_name};
 ghost use Rattle.net_laws.specs.NetsTold.{is_common, terminals_of};
+ghost use Rattle.net_laws.specs.NetChanges.{AgreeApart, is_one_of};
 ghost use Rattle.net_laws.specs.Within.{NoOtherLists};
 ghost use Rattle.design_tables.specs.TableViews.{numbered_view};
 ghost use Rattle.design_text.specs.DesignTexts.{design_of};
@@ -19,7 +20,7 @@ ghost use Rattle.design_text.specs.Exchanges.{AreExchanges, records_in};
 ghost use Rattle.followed_nets.specs.Exchanging.{AreToldIn, name_of};
 ghost use Rattle.followed_nets.specs.FollowedNets.{HasNets};
 ghost use Rattle.followed_nets.specs.Listed.{AreApart};
-ghost use Rattle.followed_nets.specs.Noted.{IsNoted};
+ghost use Rattle.followed_nets.specs.Noted.{IsNoted, said};
 ghost use Rattle.followed_nets.specs.ToldViews.{told_view};
 ghost use Rattle.followed_nets.specs.Touched.{AreFollowed, AreTouched};
 
@@ -84,6 +85,21 @@ impl<A: Allocator> Model for TouchedNets<A> {
     ghost Value = { Touched };
 
     ghost view = { λ t. record { names = t.names.items; component = t.component; before = map told_view t.before.items } };
+}
+
+impl<A: Allocator + Copy> TouchedNets<A> {
+    /// Whether an edit that was made changed no other nets.
+    fn are_all(&self, alloc: A, text: &DesignText<A>, made: &Made<A>) -> Result<bool, AllocError>
+        requires { (old : List (Number × Record)) × AreExchanges text.now.pieces.table.slots old made.now.exchanges (records_in text.now) }
+        ensures { (old : List (Number × Record)) (common : List Number) → AreExchanges text.now.pieces.table.slots old made.now.exchanges (records_in text.now)
+            → NoOtherLists (said old) self.now.names self.now.component → IsNoted old common
+            → IfOk result (λ b. b ≡ true → AgreeApart (said old) (said (records_in text.now)) (is_one_of self.now.names) × IsNoted (records_in text.now) common) }
+    {
+        match &self.component {
+            Some(name) => exchanges_are_within(alloc, text, made, &self.names, Some(name.bytes())),
+            None => exchanges_are_within(alloc, text, made, &self.names, None),
+        }
+    }
 }
 
 /// Whether a statement is of what any net may be made of.
@@ -237,6 +253,7 @@ impl<A: Allocator + Copy> FollowedNets<A> {
         requires { IsNoted (records_in text.now) self.now.common }
         ensures { IfOk result (λ found. IfSome found (AreTouched library.now (design_of text.now))) }
     {
+        text.statements_are_kept();
         // (pins of the design, and virtual ones, stand under these names in entries of nets)
         if is_word(component, b"PIN") || is_word(component, b"VPIN") {
             return Ok(None);
@@ -259,8 +276,8 @@ impl<A: Allocator + Copy> FollowedNets<A> {
         touched: TouchedNets<A>,
         kept: KeptLines<A>,
     ) -> Result<Option<KeptLines<A>>, AllocError>
-        requires { (old : List (Number × Record)) × AreExchanges text.now.pieces.table.slots old made.now.exchanges (records_in text.now) × AreTouched library.now (map (λ x. x.1) old) touched × AreFollowed library.now old self.old kept }
-        ensures { (old : List (Number × Record)) → AreExchanges text.now.pieces.table.slots old made.now.exchanges (records_in text.now) → AreTouched library.now (map (λ x. x.1) old) touched → AreFollowed library.now old self.old kept
+        requires { (old : List (Number × Record)) × AreExchanges text.now.pieces.table.slots old made.now.exchanges (records_in text.now) × AreTouched library.now (said old) touched × AreFollowed library.now old self.old kept }
+        ensures { (old : List (Number × Record)) → AreExchanges text.now.pieces.table.slots old made.now.exchanges (records_in text.now) → AreTouched library.now (said old) touched → AreFollowed library.now old self.old kept
             → IfOk result (λ found. IfSome found (AreFollowed library.now (records_in text.now) self.new)) }
     {
         told_nets_are_exchanged();
@@ -269,18 +286,10 @@ impl<A: Allocator + Copy> FollowedNets<A> {
         same_lines_sort_alike();
         layers_have_their_names();
         text.statements_are_kept();
-        let TouchedNets {
-            names,
-            component,
-            before,
-        } = touched;
-        let component = match &component {
-            Some(name) => Some(name.bytes()),
-            None => None,
-        };
-        if !exchanges_are_within(alloc, text, made, &names, component)? {
+        if !touched.are_all(alloc, text, made)? {
             return Ok(None);
         }
+        let TouchedNets { names, before, .. } = touched;
         let Some(after) = told_nets(alloc, library, text, &self.common, &names)? else {
             return Ok(None);
         };

@@ -49,7 +49,7 @@ fn is_component(component: Option<&[u8]>, name: &[u8]) -> bool
     }
 }
 
-/// Whether an entry is one of these nets, or that component, or of what no net is made of.
+/// Whether an entry is one of these nets, or that component, or one that no net is made of.
 fn is_entry_within<A: Allocator>(
     entry: &Entry<'_>,
     nets: &[OwnName<A>],
@@ -66,7 +66,7 @@ fn is_entry_within<A: Allocator>(
     }
 }
 
-/// Whether a statement is.
+/// Whether a statement is such an entry, or of what no net is made of.
 fn is_within<A: Allocator>(
     statement: &Statement<'_>,
     nets: &[OwnName<A>],
@@ -97,7 +97,7 @@ fn is_any_outside<A: Allocator>(
     false
 }
 
-/// Whether none of the statements that are kept under these numbers is.
+/// Whether all statements that are kept under these numbers are within, and none of them lists a pin of all components.
 fn are_within<A: Allocator + Copy>(
     alloc: A,
     text: &DesignText<A>,
@@ -126,8 +126,8 @@ fn exchange_is_within<A: Allocator + Copy>(
         → IfOk result (λ b. b ≡ true → AgreeApart (said old) (said new) (is_one_of nets.now) × NoOtherLists (said new) nets.now (option_map (λ w. w.now) component.entry) × IsNoted new common) }
 {
     within_apart();
-    Ok(are_within(alloc, text, exchange.went, nets, component)?
-        && are_within(alloc, text, exchange.came, nets, component)?)
+    let goes = are_within(alloc, text, exchange.went, nets, component)?;
+    Ok(goes && are_within(alloc, text, exchange.came, nets, component)?)
 }
 
 /// Whether the statements that an edit exchanged are all entries of these nets, or that component, or of what no net is made of. Then the

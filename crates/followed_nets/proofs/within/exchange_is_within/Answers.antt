@@ -3,12 +3,12 @@ use Rattle.design_text.specs.Exchanges.{exchange_view}
 use Rattle.followed_nets.proofs.WithinLemmas.{exchange_within, none_where}
 use Rattle.followed_nets.proofs.within.exchange_is_within.Goals as goal
 
-pub returns-in_ok-are_within-2 : goal.returns-in_ok-are_within-2
-returns-in_ok-are_within-2 g c =
+pub returns-in_ok-are_within : goal.returns-in_ok-are_within
+returns-in_ok-are_within g c =
     λ old new common exchange lists noted within.
-        exchange_within c.args.nets.now (option_map (λ w. w.now) c.args.component) c.args.text.now.pieces.table.slots c.within_apart.ensures old new common (exchange_view c.args.exchange)
-        (none_where _ _ c.in_ok-are_within.ensures c.if-branch.true)
-        (none_where _ _ c.in_ok-are_within-2.ensures within)
-        exchange
-        lists
-        noted
+    exchange_within c.args.nets.now (option_map (λ w. w.now) c.args.component) c.args.text.now.pieces.table.slots c.within_apart.ensures old new common (exchange_view c.args.exchange)
+    (none_where _ _ c.in_ok-goes.ensures c.if-goes.true)
+    (none_where _ _ c.in_ok-are_within.ensures within)
+    exchange
+    lists
+    noted
