@@ -1,6 +1,6 @@
 //! The lines on nets, which follow an edit by the nets that it touches.
 
-ghost use Rattle.std.specs.Prelude.{◌≡◌, IfSome, List, map};
+ghost use Rattle.std.specs.Prelude.{IfOk, IfSome, List};
 ghost use Rattle.def_grammar.specs.Records.{Record};
 ghost use Rattle.design_text.specs.DesignTexts.{Content};
 ghost use Rattle.design_text.specs.Exchanges.{records_in};

@@ -1,6 +1,6 @@
 //! What is noted of a text, so that lines follow its edits.
 
-ghost use Rattle.std.specs.Prelude.{◌≡◌, IfSome, List};
+ghost use Rattle.std.specs.Prelude.{◌≡◌, IfSome, List, None};
 ghost use Rattle.def_grammar.specs.Records.{Record};
 ghost use Rattle.design_text.specs.DesignTexts.{Content};
 ghost use Rattle.design_text.specs.Exchanges.{records_in};

@@ -74,9 +74,9 @@ module _ (library : Library) (bars : List Barrier) (net : Net) (others : List Ne
         let mine = told.lines_are.often q in
         let given = h.often q in
         let met : times q (cross_lines (short_of name_of_layer) (map (named t.name) t.shapes) middle) ≡ times q shorts =
-            ap (λ (ss : List NetShape). times q (cross_lines (short_of name_of_layer) ss middle)) (ap (λ (n : List ℕ). map (named n) t.shapes) told.name_is ∙ told.shapes_are)
-            ∙ in_any_order name_of_layer q (map by_name shapes) middle (map by_name rest) left
-            ∙ ap (times q) (by_names name_of_layer shapes rest) in
+        ap (λ (ss : List NetShape). times q (cross_lines (short_of name_of_layer) ss middle)) (ap (λ (n : List ℕ). map (named n) t.shapes) told.name_is ∙ told.shapes_are)
+        ∙ in_any_order name_of_layer q (map by_name shapes) middle (map by_name rest) left
+        ∙ ap (times q) (by_names name_of_layer shapes rest) in
         omega (
           arith,
           zero,
@@ -125,8 +125,8 @@ module _ (library : Library) (bars : List Barrier) (old new : Net) (others : Lis
     pub lines_follow : LinesFollow (lines_on_nets (layer_name library.layers) (old ∷ others) bars) (lines_on_nets (layer_name library.layers) (new ∷ others) bars) out put
     lines_follow =
         let f = follow (layer_name library.layers) (old ∷ others) (new ∷ others) (old ∷ []) (new ∷ []) others bars bars [] [] bars symmetric
-            (record { old_is = record { sums = λ w. refl }; new_is = record { sums = λ w. refl } })
-            (record { old_is = record { sums = λ w. refl }; new_is = record { sums = λ w. refl } }) in
+        (record { old_is = record { sums = λ w. refl }; new_is = record { sums = λ w. refl } })
+        (record { old_is = record { sums = λ w. refl }; new_is = record { sums = λ w. refl } }) in
         alike _ _ _ _ (lines_on_nets (layer_name library.layers) (old ∷ others) bars) (lines_on_nets (layer_name library.layers) (new ∷ others) bars) out put
         (record { often = λ q. refl })
         (record { often = λ q. refl })

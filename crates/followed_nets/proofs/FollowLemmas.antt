@@ -76,7 +76,7 @@ module _ (library : Library) (records then_records : List (StmtId × Record)) (n
       → IfOk r (λ found. IfSome found (λ k. AreFollowed library then_records (record { shapes = shapes; common = noted.common }) k))
   then_followed shapes (Ok (Some k)) note had =
       let all = in_any_order library (barriers library new (scale new)) follow sorted (same_shorts symmetric library) (nets_told library new after ++ stay) (all_nets library new (scale new))
-          (record { sums = λ w. sym ((nets_of_names new after then_named (all_nets library new (scale new)) told.exchange.new_is).sums w) }) shapes k.lines had in
+      (record { sums = λ w. sym ((nets_of_names new after then_named (all_nets library new (scale new)) told.exchange.new_is).sums w) }) shapes k.lines had in
       record { nets = record { shapes_are = all.shapes_are; noted = note }; lines = all.lines_are }
   then_followed shapes (Ok None) note had = tt
   then_followed shapes (Err e) note had = tt

@@ -57,8 +57,8 @@ module _ (library : Library) (bars : List Barrier) where
     same_lines : SameLines (lines_on_nets names xs bars) (lines_on_nets names ys bars)
     same_lines =
         let f = follow names xs ys [] [] xs bars bars [] [] bars symmetric
-            (record { old_is = record { sums = λ w. refl }; new_is = record { sums = λ w. sym (same.sums w) } })
-            (record { old_is = record { sums = λ w. refl }; new_is = record { sums = λ w. refl } }) in
+        (record { old_is = record { sums = λ w. refl }; new_is = record { sums = λ w. sym (same.sums w) } })
+        (record { old_is = record { sums = λ w. refl }; new_is = record { sums = λ w. refl } }) in
         record {
           often = λ q.
               let none = cross_lines (routeblock_of names) (flat_map shapes_of_net xs) [] in
@@ -92,7 +92,7 @@ module _ (library : Library) (old new : List Record) (names : List (List ℕ)) (
       → sum_by w (nets_told library design (ts ++ t ∷ []) ++ others) ≡ sum_by w (nets_told library design ts) + (w (told_as design t) + sum_by w others)
   sums_last w design ts t others =
       let e : sum_by w (nets_told library design (ts ++ t ∷ []) ++ others) ≡ sum_by w ((nets_told library design ts ++ told_as design t ∷ []) ++ others) =
-          ap (λ (ns : List Net). sum_by w (ns ++ others)) (map-append (told_as design) ts (t ∷ [])) in
+      ap (λ (ns : List Net). sum_by w (ns ++ others)) (map-append (told_as design) ts (t ∷ [])) in
       omega (
         arith,
         e,

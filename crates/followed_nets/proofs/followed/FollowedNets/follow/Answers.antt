@@ -32,11 +32,11 @@ exchange_nets-requires g c =
       said (records_in c.args.text.now),
       _,
       awaited library c.requires.0 (records_in c.args.text.now) _ c.args.kept _ _ c.told_nets_are_exchanged.ensures c.net_lines_follow.ensures c.same_lines_sort_alike.ensures c.short_is_symmetric.ensures t f
-      (alone c.requires.0 c.self.inside.common.items c.requires.1 t.lists f.nets.noted yes).0
-      then_told
-      (named ∙ c.deref-2.ensures.value)
-      _
-      (ap name_at names ∙ c.layers_have_their_names.ensures library.layers),
+          (alone c.requires.0 c.self.inside.common.items c.requires.1 t.lists f.nets.noted yes).0
+          then_told
+          (named ∙ c.deref-2.ensures.value)
+          _
+          (ap name_at names ∙ c.layers_have_their_names.ensures library.layers),
     )
 
 pub returns : goal.returns
@@ -52,9 +52,9 @@ returns g c = λ old exchanges touched followed.
     let then_told = subst (λ (d : List Record). AreToldIn library d (map told_view c.in-Some.after.items)) (sym c.statements_are_kept.ensures.said) told in
     let names = ap (map (λ w. w.now)) c.deref-3.ensures.value ∙ c.in_ok-layers.ensures in
     let awaits = awaited library old (records_in c.args.text.now) _ c.args.kept _ _ c.told_nets_are_exchanged.ensures c.net_lines_follow.ensures c.same_lines_sort_alike.ensures c.short_is_symmetric.ensures t f both.0 then_told
-        (named ∙ c.deref-2.ensures.value)
-        _
-        (ap name_at names ∙ c.layers_have_their_names.ensures library.layers) in
+    (named ∙ c.deref-2.ensures.value)
+    _
+    (ap name_at names ∙ c.layers_have_their_names.ensures library.layers) in
     then_followed library old (records_in c.args.text.now) _ c.args.kept _ _ c.told_nets_are_exchanged.ensures c.net_lines_follow.ensures c.same_lines_sort_alike.ensures c.short_is_symmetric.ensures t f both.0 then_told
     (named ∙ c.deref-2.ensures.value)
     _
