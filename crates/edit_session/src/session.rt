@@ -133,9 +133,13 @@ impl<'s, 'l, A: Allocator + Copy> Session<'s, 'l, A> {
         let out = self
             .known
             .before(self.alloc, self.library, &self.text, edit);
-        let touched = self
-            .noted
-            .note(self.alloc, self.library, &self.text, Some(edit), &self.known);
+        let touched = self.noted.note(
+            self.alloc,
+            self.library,
+            &self.text,
+            Some(edit),
+            &self.known,
+        );
         self.text.statements_are_kept();
         self.text.design_is_read();
         let edited = self.text.edit(self.alloc, self.library, edit);
