@@ -1,7 +1,6 @@
 -- Worked rows of what stands round components, and of the lines that an exchange of components takes and brings, by computing.
-use Rattle.std.proofs.Common.{◌≡◌, ℕ, Bool, true, false, List, [], ◌∷◌, map, refl, codes}
+use Rattle.std.proofs.Common.{◌≡◌, ℕ, true, false, List, [], ◌∷◌, map, refl, codes}
 use Rattle.def_grammar.specs.Records.{Record, read_def}
-use Rattle.lef_grammar.specs.Library.{Library}
 use Rattle.design_rules.specs.Surroundings.{keep_outs, surroundings}
 use Rattle.following_laws.specs.DesignLaws.{lines_of_components}
 use Rattle.place_rules.specs.Covering.{is_covered}

@@ -1,5 +1,5 @@
 -- Worked rows of what tells a net, and of which nets statements touch, by computing.
-use Rattle.std.proofs.Common.{◌≡◌, ℕ, Bool, true, false, List, [], ◌∷◌, map, refl, codes}
+use Rattle.std.proofs.Common.{◌≡◌, true, false, List, [], ◌∷◌, Some, None, map, refl, codes}
 use Rattle.std.specs.List.{filter_map}
 use Rattle.std.specs.Str.{bytes_eq}
 use Rattle.def_grammar.specs.Records.{Record, read_def}
@@ -8,6 +8,7 @@ use Rattle.connection_rules.specs.NetParts.{Net}
 use Rattle.entry_examples.proofs.Computing.{def_lines}
 use Rattle.net_laws.specs.NetExchanges.{nets_where, touches}
 use Rattle.net_laws.specs.NetsTold.{is_common, is_of_net, net_of_record, terminals_in}
+use Rattle.net_laws.specs.Within.{is_within}
 use Rattle.agreement_examples.proofs.PartRows.{records_of, square_library}
 
 -- a statement of each kind that nets have to do with, and others; the net n has an entry in each of its sections
@@ -60,3 +61,15 @@ some_nets : (map (λ (n : Net). n.name) (nets_where square_library design 1 (λ 
     × (map (λ (n : Net). n.name) (nets_where square_library design 1 (λ name. true)) ≡ codes "n" ∷ codes "m" ∷ codes "o" ∷ [])
 unfolding def_lines
 some_nets = (refl, refl)
+
+-- entries of the net m, the component d, and what no net is made of, as a header or an entry of MUSTJOIN
+within_one : map (is_within (codes "m" ∷ []) (Some (codes "d"))) design
+    ≡ false ∷ true ∷ true ∷ false ∷ true ∷ true ∷ false ∷ true ∷ true ∷ false ∷ true ∷ false ∷ true ∷ true ∷ false ∷ true ∷ true ∷ false ∷ true ∷ true ∷ false ∷ true ∷ true ∷ true ∷ true ∷ false ∷ false ∷ true ∷ true ∷ []
+unfolding def_lines
+within_one = refl
+
+-- of two nets, and of no component
+within_two : map (is_within (codes "o" ∷ codes "n" ∷ []) None) design
+    ≡ false ∷ true ∷ true ∷ false ∷ true ∷ true ∷ false ∷ true ∷ true ∷ false ∷ false ∷ false ∷ true ∷ true ∷ false ∷ true ∷ true ∷ false ∷ true ∷ true ∷ true ∷ true ∷ true ∷ false ∷ true ∷ true ∷ true ∷ true ∷ true ∷ []
+unfolding def_lines
+within_two = refl
