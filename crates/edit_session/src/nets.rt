@@ -53,9 +53,7 @@ fn note<A: Allocator + Copy>(
     ensures { IfSome noted.new (HasNets library.now (records_in text.now)) }
 {
     if noted.is_none() {
-        if let Ok(nets) = FollowedNets::of(alloc, library, text) {
-            *noted = nets;
-        }
+        *noted = FollowedNets::of(alloc, library, text).ok();
     }
 }
 

@@ -1,5 +1,5 @@
 -- The lines on nets of a text follow an edit by those that it touches.
-use Rattle.std.proofs.Common.{◌≡◌, ◌∙◌, ℕ, not, List, [], ◌∷◌, ◌++◌, Option, Some, None, Result, Ok, Err, map, refl, sym, ap, ap₂, subst}
+use Rattle.std.proofs.Common.{◌≡◌, ◌∙◌, ℕ, Bool, not, List, [], ◌∷◌, ◌++◌, Option, Some, None, Result, Ok, Err, map, refl, sym, ap, ap₂, subst}
 use Rattle.std.specs.Prelude.{IfOk, IfSome}
 use Rattle.std.specs.List.{AllByRecursion}
 use Rattle.design_model.specs.declared.identifier.StmtId.{StmtId}
@@ -21,11 +21,14 @@ use Rattle.net_touches.specs.Barriers.{name_at}
 use Rattle.followed_nets.specs.Exchanging.{AreToldIn, AwaitsNets, name_of, nets_told}
 use Rattle.followed_nets.specs.FollowedNets.{AreOnNets, HasNets, Nets}
 use Rattle.followed_nets.specs.Listed.{AreApart}
-use Rattle.followed_nets.specs.Noted.{IsNoted, said}
+use Rattle.followed_nets.specs.Noted.{IsNoted, Note, said}
 use Rattle.followed_nets.specs.Told.{IsToldIn, Told}
 use Rattle.followed_nets.specs.Touched.{AreFollowed, AreTouched, Touched}
 use Rattle.followed_nets.proofs.ExchangingLemmas.{same_shorts}
 use Rattle.followed_nets.proofs.NetsLeft.{in_any_order}
+
+abbrev pub note_of : List StmtId → Bool → Note
+note_of numbers may_star = record { numbers = numbers; may_star = may_star }
 
 -- what is told of nets is told by some statements of each
 tells : (library : Library) (design : List Record) (ts : List Told) → AreApart (map name_of ts) → AreToldIn library design ts → net_changes.AreToldIn design (map name_of ts)

@@ -17,7 +17,7 @@ use Rattle.net_laws.proofs.Within.{none_common}
 use Rattle.text_pieces.specs.KeptRecords.{record_of, records_under}
 use Rattle.text_pieces.specs.Tables.{Kept, kept_at}
 use Rattle.design_text.specs.Exchanges.{AreExchanges, Exchanged, IsExchange}
-use Rattle.followed_nets.specs.Noted.{IsNoted, said}
+use Rattle.followed_nets.specs.Noted.{IsNoted, Note, said}
 
 -- a design agrees with itself apart from any nets
 finds_itself : (design : List Record) (ts : List Terminal) → AllByRecursion (FindsAlike design design) ts
@@ -123,13 +123,14 @@ module _ (nets : List (List ℕ)) (component : Option (List ℕ)) where
           ∙ exchanged_alike (λ (y : StmtId × Record). is_common y.1) (these e.front) (these x.went) (these x.came) (these e.rest) (none_numbered x.went goes) (none_numbered x.came comes)
           ∙ ap f (sym (e.new_is ∙ parted e.front x.came e.rest))
 
-      still_noted : (common : List StmtId) → IsNoted old common → IsNoted new common
+      still_noted : (common : Note) → IsNoted old common → IsNoted new common
       still_noted common noted =
-          let before = stars_of_both (say e.front) (say x.went ++ say e.rest) (ap stars (sym old_said) ∙ noted.no_stars) in
-          let behind = stars_of_both (say x.went) (say e.rest) before.1 in
           record {
             common_are = noted.common_are ∙ ap (map (λ (y : StmtId × Record). y.0)) same_common;
-            no_stars = ap stars new_said ∙ no_stars (say e.front) (say x.came ++ say e.rest) before.0 (no_stars (say x.came) (say e.rest) comes.stars_are behind.1);
+            no_stars = λ none.
+                let before = stars_of_both (say e.front) (say x.went ++ say e.rest) (ap stars (sym old_said) ∙ noted.no_stars none) in
+                let behind = stars_of_both (say x.went) (say e.rest) before.1 in
+                ap stars new_said ∙ no_stars (say e.front) (say x.came ++ say e.rest) before.0 (no_stars (say x.came) (say e.rest) comes.stars_are behind.1);
           }
 
       exchanged : NoOtherLists (said old) nets component → AgreeApart (said old) (said new) (is_one_of nets) × NoOtherLists (said new) nets component
@@ -137,7 +138,7 @@ module _ (nets : List (List ℕ)) (component : Option (List ℕ)) where
           rw (old_said, new_said)
           (law (say e.front) (say x.went) (say x.came) (say e.rest) nets component (subst (λ (rs : List Record). NoOtherLists rs nets component) old_said lists) goes.are comes.are)
 
-    pub exchange_within : WithinApart → (old new : List (StmtId × Record)) (common : List StmtId) (x : Exchanged) → list_any outside (kept x.went) ≡ false → list_any outside (kept x.came) ≡ false → IsExchange slots old new x
+    pub exchange_within : WithinApart → (old new : List (StmtId × Record)) (common : Note) (x : Exchanged) → list_any outside (kept x.went) ≡ false → list_any outside (kept x.came) ≡ false → IsExchange slots old new x
         → NoOtherLists (said old) nets component → IsNoted old common → AgreeApart (said old) (said new) (is_one_of nets) × NoOtherLists (said new) nets component × IsNoted new common
     exchange_within law old new common x goes comes e lists noted =
         let w = within_said x.went goes in
@@ -147,7 +148,7 @@ module _ (nets : List (List ℕ)) (component : Option (List ℕ)) where
 
     -- Some exchanges are left: whatever statements all began with, these begin with some that agree with those apart from the nets.
     abbrev pub StaysWithin : List Exchanged → List Exchanged → List (StmtId × Record) → Type 0
-    StaysWithin all left last = (old : List (StmtId × Record)) (common : List StmtId) → AreExchanges slots old all last → NoOtherLists (said old) nets component → IsNoted old common
+    StaysWithin all left last = (old : List (StmtId × Record)) (common : Note) → AreExchanges slots old all last → NoOtherLists (said old) nets component → IsNoted old common
         → (between : List (StmtId × Record))
         × AreExchanges slots between left last
         × AgreeApart (said old) (said between) (is_one_of nets)
@@ -159,7 +160,7 @@ module _ (nets : List (List ℕ)) (component : Option (List ℕ)) where
 
     -- what is known of one exchange
     abbrev pub StepStays : Exchanged → Type 0
-    StepStays x = (old new : List (StmtId × Record)) (common : List StmtId) → IsExchange slots old new x → NoOtherLists (said old) nets component → IsNoted old common
+    StepStays x = (old new : List (StmtId × Record)) (common : Note) → IsExchange slots old new x → NoOtherLists (said old) nets component → IsNoted old common
         → AgreeApart (said old) (said new) (is_one_of nets) × NoOtherLists (said new) nets component × IsNoted new common
 
     pub one_more : ApartOnAndOn → (all : List Exchanged) (last : List (StmtId × Record)) (n : ℕ) (x : Exchanged) → Some x ≡ slice_get all n → StepStays x
@@ -171,7 +172,7 @@ module _ (nets : List (List ℕ)) (component : Option (List ℕ)) where
         (next.0, next.2, on_and_on (said old) (said before.0) (said next.0) (is_one_of nets) before.2 after.0, after.1, after.2)
 
     pub in_the_end : (all : List Exchanged) (last : List (StmtId × Record)) (n : ℕ) → length all ≤ n → StaysWithin all (drop n all) last
-        → (old : List (StmtId × Record)) (common : List StmtId) → AreExchanges slots old all last → NoOtherLists (said old) nets component → IsNoted old common
+        → (old : List (StmtId × Record)) (common : Note) → AreExchanges slots old all last → NoOtherLists (said old) nets component → IsNoted old common
         → AgreeApart (said old) (said last) (is_one_of nets) × IsNoted last common
     in_the_end all last n done stays old common made lists noted =
         let at_last = stays old common made lists noted in

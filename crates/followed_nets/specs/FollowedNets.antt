@@ -10,12 +10,12 @@ use Rattle.connection_rules.specs.NetParts.{Net, all_nets}
 use Rattle.following_laws.specs.DesignLaws.{lines_on_nets}
 use Rattle.line_laws.specs.Lines.{SameThings}
 use Rattle.named_shapes.specs.Named.{shapes_by_name}
-use Rattle.followed_nets.specs.Noted.{IsNoted, said}
+use Rattle.followed_nets.specs.Noted.{IsNoted, Note, said}
 
--- the shapes of nets by the nets' names, and the numbers of the statements of what any net may be made of
+-- the shapes of nets by the nets' names, and what is noted of the statements beside them
 pub record Nets : Type 0 where
   pub shapes : List NetShape
-  pub common : List StmtId
+  pub common : Note
 
 -- they are those of a text's numbered statements
 pub record HasNets (library : Library) (records : List (StmtId × Record)) (n : Nets) : Type 0 where

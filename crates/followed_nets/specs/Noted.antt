@@ -1,5 +1,5 @@
 -- What is noted of the statements of a text beside the shapes of its nets.
-use Rattle.std.specs.Prelude.{◌≡◌, false, List, filter, flat_map, map}
+use Rattle.std.specs.Prelude.{◌≡◌, Bool, false, List, filter, flat_map, map}
 use Rattle.std.specs.List.{list_any}
 use Rattle.design_model.specs.declared.identifier.StmtId.{StmtId}
 use Rattle.def_grammar.specs.Records.{Record}
@@ -10,7 +10,12 @@ use Rattle.net_laws.specs.NetsTold.{is_common, terminals_of}
 abbrev pub said : List (StmtId × Record) → List Record
 said records = map (λ x. x.1) records
 
--- the numbers of the statements of what any net may be made of; and no entry lists a pin of all components
-pub record IsNoted (records : List (StmtId × Record)) (common : List StmtId) : Type 0 where
-  pub common_are : common ≡ map (λ x. x.0) (filter (λ x. is_common x.1) records)
-  pub no_stars : list_any is_of_all (flat_map terminals_of (said records)) ≡ false
+-- the numbers of the statements of what any net may be made of, and whether an entry may list a pin of all components
+pub record Note : Type 0 where
+  pub numbers : List StmtId
+  pub may_star : Bool
+
+-- they are those of numbered statements
+pub record IsNoted (records : List (StmtId × Record)) (n : Note) : Type 0 where
+  pub common_are : n.numbers ≡ map (λ x. x.0) (filter (λ x. is_common x.1) records)
+  pub no_stars : n.may_star ≡ false → list_any is_of_all (flat_map terminals_of (said records)) ≡ false

@@ -20,7 +20,7 @@ ghost use Rattle.design_text.specs.Exchanges.{AreExchanges, records_in};
 ghost use Rattle.followed_nets.specs.Exchanging.{AreToldIn, name_of};
 ghost use Rattle.followed_nets.specs.FollowedNets.{HasNets};
 ghost use Rattle.followed_nets.specs.Listed.{AreApart};
-ghost use Rattle.followed_nets.specs.Noted.{IsNoted, said};
+ghost use Rattle.followed_nets.specs.Noted.{IsNoted, Note, said};
 ghost use Rattle.followed_nets.specs.ToldViews.{told_view};
 ghost use Rattle.followed_nets.specs.Touched.{AreFollowed, AreTouched};
 
@@ -58,6 +58,8 @@ use std::marker::Model;
 pub struct FollowedNets<A: Allocator = Global> {
     shapes: NamedShapes<A>,
     common: Vec<StmtId, A>,
+    /// Whether one of the nets lists a pin of all components.
+    has_stars: bool,
 }
 
 impl<A: Allocator> Model for FollowedNets<A> {
@@ -65,7 +67,7 @@ impl<A: Allocator> Model for FollowedNets<A> {
 
     ghost Value = { Nets };
 
-    ghost view = { λ n. record { shapes = n.shapes; common = n.common.items } };
+    ghost view = { λ n. record { shapes = n.shapes; common = record { numbers = n.common.items; may_star = n.has_stars } } };
 }
 
 /// The nets that an edit is about to change, as they are before it.
@@ -91,7 +93,7 @@ impl<A: Allocator + Copy> TouchedNets<A> {
     /// Whether an edit that was made changed no other nets.
     fn are_all(&self, alloc: A, text: &DesignText<A>, made: &Made<A>) -> Result<bool, AllocError>
         requires { (old : List (Number × Record)) × AreExchanges text.now.pieces.table.slots old made.now.exchanges (records_in text.now) }
-        ensures { (old : List (Number × Record)) (common : List Number) → AreExchanges text.now.pieces.table.slots old made.now.exchanges (records_in text.now)
+        ensures { (old : List (Number × Record)) (common : Note) → AreExchanges text.now.pieces.table.slots old made.now.exchanges (records_in text.now)
             → NoOtherLists (said old) self.now.names self.now.component → IsNoted old common
             → IfOk result (λ b. b ≡ true → AgreeApart (said old) (said (records_in text.now)) (is_one_of self.now.names) × IsNoted (records_in text.now) common) }
     {
@@ -184,22 +186,24 @@ fn told_nets<A: Allocator + Copy>(
 }
 
 impl<A: Allocator + Copy> FollowedNets<A> {
-    /// Notes the nets of a text, unless one of them lists a pin of all components.
+    /// Notes the nets of a text.
     pub fn of(
         alloc: A,
         library: &Library<'_, A>,
         text: &DesignText<A>,
-    ) -> Result<Option<FollowedNets<A>>, AllocError>
-        ensures { IfOk result (λ found. IfSome found (HasNets library.now (records_in text.now))) }
+    ) -> Result<FollowedNets<A>, AllocError>
+        ensures { IfOk result (HasNets library.now (records_in text.now)) }
     {
         text.statements_are_kept();
         let statements = text.numbered_statements(alloc)?;
-        if is_any_star(&statements) {
-            return Ok(None);
-        }
+        let has_stars = is_any_star(&statements);
         let common = common_numbers(alloc, &statements)?;
         let shapes = shapes_of(alloc, library, text)?;
-        Ok(Some(FollowedNets { shapes, common }))
+        Ok(FollowedNets {
+            shapes,
+            common,
+            has_stars,
+        })
     }
 
     /// These nets of a text, which an edit of this component is about to change.
@@ -242,7 +246,8 @@ impl<A: Allocator + Copy> FollowedNets<A> {
         self.touched(alloc, library, text, names, None)
     }
 
-    /// The nets that an edit of a component is about to change, as they are in a text: those that list a pin of it.
+    /// The nets that an edit of a component is about to change, as they are in a text: those that list a pin of it. Where a net lists a
+    /// pin of all components it isn't told.
     pub fn touched_by_component(
         &self,
         alloc: A,
@@ -254,6 +259,9 @@ impl<A: Allocator + Copy> FollowedNets<A> {
         ensures { IfOk result (λ found. IfSome found (AreTouched library.now (design_of text.now))) }
     {
         text.statements_are_kept();
+        if self.has_stars {
+            return Ok(None);
+        }
         // (pins of the design, and virtual ones, stand under these names in entries of nets)
         if is_word(component, b"PIN") || is_word(component, b"VPIN") {
             return Ok(None);

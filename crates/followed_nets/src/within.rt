@@ -14,7 +14,7 @@ ghost use Rattle.net_laws.specs.Within.{NoOtherLists, is_component, is_within};
 ghost use Rattle.text_pieces.specs.KeptRecords.{HavePieces, record_of};
 ghost use Rattle.text_pieces.specs.Tables.{kept_at};
 ghost use Rattle.design_text.specs.Exchanges.{AreExchanges, IsExchange, exchange_view, records_in};
-ghost use Rattle.followed_nets.specs.Noted.{IsNoted, said};
+ghost use Rattle.followed_nets.specs.Noted.{IsNoted, Note, said};
 
 use crate::stars::lists_all;
 use def_reader::entry::Entry;
@@ -121,7 +121,7 @@ fn exchange_is_within<A: Allocator + Copy>(
     component: Option<&[u8]>,
 ) -> Result<bool, AllocError>
     requires { (old : List (Number × Record)) × (new : List (Number × Record)) × IsExchange text.now.pieces.table.slots old new (exchange_view exchange) }
-    ensures { (old new : List (Number × Record)) (common : List Number) → IsExchange text.now.pieces.table.slots old new (exchange_view exchange.entry)
+    ensures { (old new : List (Number × Record)) (common : Note) → IsExchange text.now.pieces.table.slots old new (exchange_view exchange.entry)
         → NoOtherLists (said old) nets.now (option_map (λ w. w.now) component.entry) → IsNoted old common
         → IfOk result (λ b. b ≡ true → AgreeApart (said old) (said new) (is_one_of nets.now) × NoOtherLists (said new) nets.now (option_map (λ w. w.now) component.entry) × IsNoted new common) }
 {
@@ -140,7 +140,7 @@ pub(crate) fn exchanges_are_within<A: Allocator + Copy>(
     component: Option<&[u8]>,
 ) -> Result<bool, AllocError>
     requires { (old : List (Number × Record)) × AreExchanges text.now.pieces.table.slots old made.now.exchanges (records_in text.now) }
-    ensures { (old : List (Number × Record)) (common : List Number) → AreExchanges text.now.pieces.table.slots old made.now.exchanges (records_in text.now)
+    ensures { (old : List (Number × Record)) (common : Note) → AreExchanges text.now.pieces.table.slots old made.now.exchanges (records_in text.now)
         → NoOtherLists (said old) nets.now (option_map (λ w. w.now) component.entry) → IsNoted old common
         → IfOk result (λ b. b ≡ true → AgreeApart (said old) (said (records_in text.now)) (is_one_of nets.now) × IsNoted (records_in text.now) common) }
 {

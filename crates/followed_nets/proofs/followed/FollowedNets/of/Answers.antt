@@ -17,13 +17,14 @@ pub returns : goal.returns
 returns g c =
     let library = c.args.library.now in
     let read = c.in_ok-statements.ensures in
-    let stars = sym c.is_any_star.ensures ∙ c.if-is_any_star.false in
     let there = ap (map numbered_view) c.deref.ensures.value ∙ read in
     let commons = ap (map numbered_view) c.deref-2.ensures.value ∙ read in
     record {
       shapes_are = subst (λ (d : List Record). SameThings c.in_ok-shapes.shapes (shapes_by_name (all_nets library d (scale d)))) (sym c.statements_are_kept.ensures.said) c.in_ok-shapes.ensures;
       noted = record {
         common_are = c.in_ok-common.ensures ∙ ap (λ (rs : List (StmtId × Record)). map (λ x. x.0) (filter (λ x. is_common x.1) rs)) commons;
-        no_stars = no_stars_said (records_in c.args.text.now) (subst (λ (rs : List (StmtId × Record)). list_any (λ x. list_any is_of_all (terminals_of x.1)) rs ≡ false) there stars);
+        no_stars = λ none.
+            no_stars_said (records_in c.args.text.now)
+            (subst (λ (rs : List (StmtId × Record)). list_any (λ x. list_any is_of_all (terminals_of x.1)) rs ≡ false) there (sym c.is_any_star-has_stars.ensures ∙ none));
       };
     }
