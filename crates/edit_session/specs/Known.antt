@@ -14,13 +14,8 @@ use Rattle.staying_laws.specs.NetStatements.{lines_on_net}
 use Rattle.staying_laws.specs.Staying.{lines_on_places, lines_on_statements}
 use Rattle.design_text.specs.DesignTexts.{Content, text_of}
 use Rattle.design_text.specs.Exchanges.{AreExchanges, Exchanged, records_in}
-use Rattle.followed_nets.specs.FollowedNets.{HasNets, Nets}
-use Rattle.followed_nets.specs.Touched.{AreTouched, Touched}
-use Rattle.followed_places.specs.Places.{AreOnPlaces, HasPlaces, Places, said}
-use Rattle.design_model.specs.declared.identifier.StmtId.{StmtId}
+use Rattle.followed_places.specs.Places.{HasPlaces, Places, said}
 use Rattle.edit_session.specs.declared.known_lines.KnownLines.{KnownLines}
-use Rattle.edit_session.specs.declared.noted.FollowedLines.{FollowedLines}
-use Rattle.edit_session.specs.declared.noted.Noted.{Noted}
 
 -- lines that are kept are these, in the order of their bytes
 abbrev pub AreKept : List (List ℕ) → Kept → Type 0
@@ -63,39 +58,10 @@ pub record Led {A : Type 0} (library : Library) (text : List ℕ) (change : Chan
   pub knew : AreKnown library before known
   pub told : IfSome out (AreBefore library before change)
 
--- what is noted of a text's numbered statements, as far as it is
-pub record HasNoted {A : Type 0} (library : Library) (records : List (StmtId × Record)) (n : Noted A) : Type 0 where
-  pub places : IfSome n.places (HasPlaces library records)
-  pub nets : IfSome n.nets (HasNets library records)
-
--- kept lines are those on the nets of a design, in the order of their bytes
-abbrev pub AreOnNets : Library → List Record → Kept → Type 0
-AreOnNets library design kept = kept.lines ≡ sorted_by_bytes (net_lines library design (scale design))
-
--- lines that followed an edit are those on a design
-pub record HasFollowed {A : Type 0} (library : Library) (design : List Record) (f : FollowedLines A) : Type 0 where
-  pub places : IfSome f.places (AreOnPlaces library design)
-  pub nets : IfSome f.nets (AreOnNets library design)
-
 -- A text that reads was edited by these exchanges of statements. What was noted of the components of the text before it, and the lines
 -- that were known, are those of that text.
-pub record Moves {A : Type 0} (library : Library) (old new : Content) (exchanges : List Exchanged) (noted : Option Places) (known : KnownLines A) : Type 0 where
+pub record Followed {A : Type 0} (library : Library) (old new : Content) (exchanges : List Exchanged) (noted : Option Places) (known : KnownLines A) : Type 0 where
   pub told : AreExchanges new.pieces.table.slots (records_in old) exchanges (records_in new)
   pub reads : read_def (text_of old) ≡ Ok (said (records_in old))
   pub had : IfSome noted (HasPlaces library (records_in old))
-  pub knew : AreKnown library (said (records_in old)) known
-
--- The same of its nets, of which some were told.
-pub record Touches {A : Type 0} (library : Library) (old new : Content) (exchanges : List Exchanged) (some : Option Touched) (noted : Option Nets) (known : KnownLines A) : Type 0 where
-  pub told : AreExchanges new.pieces.table.slots (records_in old) exchanges (records_in new)
-  pub touched : IfSome some (AreTouched library (said (records_in old)))
-  pub had : IfSome noted (HasNets library (records_in old))
-  pub knew : AreKnown library (said (records_in old)) known
-
--- And of both.
-pub record Followed {A : Type 0} (library : Library) (old new : Content) (exchanges : List Exchanged) (some : Option Touched) (noted : Noted A) (known : KnownLines A) : Type 0 where
-  pub told : AreExchanges new.pieces.table.slots (records_in old) exchanges (records_in new)
-  pub reads : read_def (text_of old) ≡ Ok (said (records_in old))
-  pub touched : IfSome some (AreTouched library (said (records_in old)))
-  pub had : HasNoted library (records_in old) noted
   pub knew : AreKnown library (said (records_in old)) known

@@ -10,10 +10,9 @@ ghost use Rattle.report_lines.specs.Kinds.{HaveTheirKinds};
 ghost use Rattle.report_rules.specs.Diagnostics.{diagnostics};
 ghost use Rattle.staying_laws.specs.Staying.{lines_on_places, lines_on_statements};
 ghost use Rattle.design_text.specs.DesignTexts.{text_of};
-ghost use Rattle.edit_session.specs.Known.{AllKnown, AreBefore, AreKnown, HasFollowed, Led};
+ghost use Rattle.edit_session.specs.Known.{AllKnown, AreBefore, AreKept, AreKnown, Led};
 
 use crate::net_statements::{followed_if_known, lines_before};
-use crate::noted::FollowedLines;
 use cell_library::library::Library;
 use design_model::diagnostic::{DiagLine, DiagLines, sort_lines};
 use design_model::sequence::Sequence;
@@ -74,16 +73,12 @@ impl<A: Allocator + Copy> KnownLines<A> {
         self.statements.is_some() && self.places.is_some() && self.nets.is_some()
     }
 
-    /// Makes lines that followed an edit known.
-    pub(crate) fn put(&mut self, lines: FollowedLines<A>)
-        ensures { (library : TheLibrary) (design : List Record) → AreKnown library design self.old → HasFollowed library design lines → AreKnown library design self.new }
+    /// Makes these lines on components known, if there are some.
+    pub(crate) fn put_places(&mut self, places: Option<KeptLines<A>>)
+        ensures { (library : TheLibrary) (design : List Record) → AreKnown library design self.old → IfSome places (AreKept (lines_on_places library design)) → AreKnown library design self.new }
     {
-        let FollowedLines { places, nets } = lines;
         if places.is_some() {
             self.places = places;
-        }
-        if nets.is_some() {
-            self.nets = nets;
         }
     }
 

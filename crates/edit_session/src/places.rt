@@ -6,7 +6,7 @@ ghost use Rattle.def_grammar.specs.Records.{Record};
 ghost use Rattle.design_text.specs.DesignTexts.{Content};
 ghost use Rattle.design_text.specs.Exchanges.{AreExchanges, records_in};
 ghost use Rattle.followed_places.specs.Places.{AreFollowed, AreOnPlaces, HasPlaces, said};
-ghost use Rattle.edit_session.specs.Known.{AreKnown, Moves};
+ghost use Rattle.edit_session.specs.Known.{AreKnown, Followed};
 
 use crate::known_lines::KnownLines;
 use cell_library::library::Library;
@@ -22,19 +22,19 @@ use std::alloc::Allocator;
 /// itself and compared with all the others, so beyond that making all lines anew is sooner done.
 const MOST_STATEMENTS: usize = 256;
 
-/// The component that an edit adds, removes or moves, or gives another macro, if it is of one.
-pub(crate) fn component_of<'e>(edit: &Edit<'e>) -> Option<&'e [u8]> {
+/// Whether an edit adds, removes or moves a component, or gives it another macro.
+pub(crate) fn is_of_a_component(edit: &Edit<'_>) -> bool {
     match edit {
-        Edit::Place { component, .. } => Some(*component),
-        Edit::Unplace { component } => Some(*component),
-        Edit::Remaster { component, .. } => Some(*component),
-        Edit::Add { component, .. } => Some(*component),
-        Edit::Remove { component } => Some(*component),
+        Edit::Place { .. }
+        | Edit::Unplace { .. }
+        | Edit::Remaster { .. }
+        | Edit::Add { .. }
+        | Edit::Remove { .. } => true,
         Edit::Connect { .. }
         | Edit::Disconnect { .. }
         | Edit::Route { .. }
         | Edit::Unroute { .. }
-        | Edit::Block { .. } => None,
+        | Edit::Block { .. } => false,
     }
 }
 
@@ -93,7 +93,7 @@ pub(crate) fn follow_places<'t, A: Allocator + Copy>(
     noted: &mut Option<FollowedPlaces<A>>,
     known: &mut KnownLines<A>,
 ) -> Option<KeptLines<A>>
-    requires { (old : Content) × Moves library.now old text.now made.now.exchanges noted.old known.old }
+    requires { (old : Content) × Followed library.now old text.now made.now.exchanges noted.old known.old }
     ensures lines { IfSome result (AreOnPlaces library.entry.now (said (records_in text.entry.now))) }
     ensures noted { IfSome noted.new (HasPlaces library.entry.now (records_in text.entry.now)) }
     ensures known { (design : List Record) → AreKnown library.entry.now design known.old → AreKnown library.entry.now design known.new }

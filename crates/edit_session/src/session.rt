@@ -22,7 +22,7 @@ ghost use Rattle.edit_session.specs.Sessions.{AnswersOn, AreDiagnostics, HasPart
 
 use crate::known_lines::KnownLines;
 use crate::measures::kept_or_made;
-use crate::noted::Noted;
+use crate::places::{follow_places, is_of_a_component, note_places};
 use crate::report::know_lines;
 use crate::view::{View, view_of};
 use cell_library::library::Library;
@@ -35,6 +35,7 @@ use design_model::identifier::LayerId;
 use design_model::mode::Section;
 use design_text::text::DesignText;
 use edit_model::edit::{Done, Edit, EditRefusal};
+use followed_places::FollowedPlaces;
 use reports::Reports;
 use std::alloc::{AllocError, Allocator, Global};
 use std::io::Write;
@@ -50,8 +51,8 @@ pub struct Session<'s, 'l, A: Allocator + Copy = Global> {
     reports: Option<Reports<A>>,
     /// The lines on the present text that are known.
     known: KnownLines<A>,
-    /// What is noted of the present text, so that lines follow an edit.
-    noted: Noted<A>,
+    /// The components of the present text, once an edit changed one while the lines on them were known.
+    places: Option<FollowedPlaces<A>>,
 }
 
 impl<'s, 'l, A: Allocator + Copy> Model for Session<'s, 'l, A> {
@@ -59,15 +60,16 @@ impl<'s, 'l, A: Allocator + Copy> Model for Session<'s, 'l, A> {
     ghost use Rattle.def_grammar.specs.Records.{read_def};
     ghost use Rattle.design_text.specs.DesignTexts.{text_of};
     ghost use Rattle.design_text.specs.Exchanges.{records_in};
+    ghost use Rattle.followed_places.specs.Places.{HasPlaces};
     ghost use Rattle.edit_session.specs.Contents.{Content};
-    ghost use Rattle.edit_session.specs.Known.{AreKnownOf, HasNoted};
+    ghost use Rattle.edit_session.specs.Known.{AreKnownOf};
     ghost use Rattle.edit_session.specs.Sessions.{AnswersOn};
 
     ghost Value = { Content };
 
     ghost view = { λ s. record { library = s.library.now; text = text_of s.text } };
 
-    ghost invariant = { λ s. IsOk (read_def (text_of s.text)) × IfSome s.reports (AnswersOn s.library.now (text_of s.text)) × AreKnownOf s.library.now (text_of s.text) s.known × HasNoted s.library.now (records_in s.text) s.noted };
+    ghost invariant = { λ s. IsOk (read_def (text_of s.text)) × IfSome s.reports (AnswersOn s.library.now (text_of s.text)) × AreKnownOf s.library.now (text_of s.text) s.known × IfSome s.places (HasPlaces s.library.now (records_in s.text)) };
 }
 
 impl<'s, 'l, A: Allocator + Copy> Session<'s, 'l, A> {
@@ -103,7 +105,7 @@ impl<'s, 'l, A: Allocator + Copy> Session<'s, 'l, A> {
             text,
             reports: None,
             known: KnownLines::none(),
-            noted: Noted::none(),
+            places: None,
         })
     }
 
@@ -133,12 +135,13 @@ impl<'s, 'l, A: Allocator + Copy> Session<'s, 'l, A> {
         let out = self
             .known
             .before(self.alloc, self.library, &self.text, edit);
-        let touched = self.noted.note(
+        note_places(
             self.alloc,
             self.library,
             &self.text,
-            Some(edit),
+            is_of_a_component(edit),
             &self.known,
+            &mut self.places,
         );
         self.text.statements_are_kept();
         self.text.design_is_read();
@@ -147,12 +150,12 @@ impl<'s, 'l, A: Allocator + Copy> Session<'s, 'l, A> {
         let made = edited?;
         let reads = made.reads();
         self.reports = None;
-        let followed = self.noted.follow(
+        let places = follow_places(
             self.alloc,
             self.library,
             &self.text,
             &made,
-            touched,
+            &mut self.places,
             &mut self.known,
         );
         self.text.let_go(made);
@@ -160,7 +163,7 @@ impl<'s, 'l, A: Allocator + Copy> Session<'s, 'l, A> {
         self.text.design_is_read();
         self.known
             .follow(self.alloc, self.library, &self.text, edit, out);
-        self.known.put(followed);
+        self.known.put_places(places);
         Ok(Done { reads, tests: 0 })
     }
 
@@ -171,9 +174,14 @@ impl<'s, 'l, A: Allocator + Copy> Session<'s, 'l, A> {
         ensures library { self.new.library ≡ self.old.library }
         ensures reads { IsOk (read_def self.new.text) }
     {
-        let touched = self
-            .noted
-            .note(self.alloc, self.library, &self.text, None, &self.known);
+        note_places(
+            self.alloc,
+            self.library,
+            &self.text,
+            true,
+            &self.known,
+            &mut self.places,
+        );
         self.text.statements_are_kept();
         self.text.design_is_read();
         let edited = self.text.replace(self.alloc, a, b, new);
@@ -181,19 +189,19 @@ impl<'s, 'l, A: Allocator + Copy> Session<'s, 'l, A> {
         let made = edited?;
         let reads = made.reads();
         self.reports = None;
-        let followed = self.noted.follow(
+        let places = follow_places(
             self.alloc,
             self.library,
             &self.text,
             &made,
-            touched,
+            &mut self.places,
             &mut self.known,
         );
         self.text.let_go(made);
         self.text.statements_are_kept();
         self.text.design_is_read();
         self.known = KnownLines::none();
-        self.known.put(followed);
+        self.known.put_places(places);
         Ok(Done { reads, tests: 0 })
     }
 
