@@ -155,3 +155,91 @@ fn a_search_compares_what_is_near(rt: HostRuntime) -> Result<(), Fail> {
     assert_eq!(rt; of_near, 1);
     Ok(())
 }
+
+/// The next of numbers that look like no order.
+fn next_of(number: u64) -> u64 {
+    number
+        .wrapping_mul(6364136223846793005)
+        .wrapping_add(1442695040888963407)
+}
+
+/// A small shape, of which many stand under one tile.
+fn shape_of(number: u64, net: usize) -> Shape {
+    let x = (number >> 33) as i64 % 5000;
+    let y = (number >> 40) as i64 % 70;
+    let side = (number >> 50) as i64 % 9;
+    Shape {
+        layer: LayerId(0),
+        rect: rect_of((x, y, x + side, y + side)),
+        net,
+    }
+}
+
+/// Takes every shape out but each so many-th, and puts as many in as went. Answers the numbers that stand.
+fn exchange<S: ShapeSet>(
+    alloc: Global,
+    set: &mut S,
+    ids: &[ShapeId],
+    left: usize,
+    seed: u64,
+) -> Result<Vec<ShapeId>, AllocError> {
+    let mut standing = Vec::new(alloc);
+    for (place, id) in ids.iter().enumerate() {
+        if place % left == 0 {
+            standing.push(*id)?;
+        } else {
+            set.remove(*id);
+        }
+    }
+    let mut number = seed;
+    while standing.len() < ids.len() {
+        number = next_of(number);
+        set.reserve(1)?;
+        standing.push(set.insert_reserved(shape_of(number, standing.len())))?;
+    }
+    Ok(standing)
+}
+
+/// Asks a set for the nets along its shapes, after each exchange.
+fn run_exchanges<S: ShapeSet>(
+    alloc: Global,
+    set: &mut S,
+    ids: Vec<ShapeId>,
+) -> Result<Vec<usize>, AllocError> {
+    let mut ids = ids;
+    let mut answers = Vec::new(alloc);
+    for (turn, left) in [9000, 50, 2, 7, 9000, 3, 1].iter().enumerate() {
+        ids = exchange(alloc, set, &ids, *left, turn as u64)?;
+        for x in 0..50 {
+            let rect = rect_of((x * 100, 10, x * 100 + 40, 30));
+            for net in nets_met(alloc, set, 0, rect)?.iter() {
+                answers.push(*net)?;
+            }
+        }
+    }
+    Ok(answers)
+}
+
+#[test]
+fn sets_find_the_same_after_exchanges(rt: HostRuntime) -> Result<(), Fail> {
+    let mut shapes = Vec::new(rt.alloc());
+    let mut number = 7;
+    for net in 0..1000 {
+        number = next_of(number);
+        shapes.push(shape_of(number, net))?;
+    }
+    let mut plain = PlainShapes::new(rt.alloc());
+    let mut tiled = TiledShapes::of(rt.alloc(), &shapes)?;
+    let mut plain_ids = Vec::new(rt.alloc());
+    let mut tiled_ids = Vec::new(rt.alloc());
+    for shape in shapes.iter() {
+        plain.reserve(1)?;
+        plain_ids.push(plain.insert_reserved(*shape))?;
+        tiled_ids.push(tiled.find(*shape).unwrap())?;
+    }
+    let first = run_exchanges(rt.alloc(), &mut plain, plain_ids)?;
+    let second = run_exchanges(rt.alloc(), &mut tiled, tiled_ids)?;
+    assert_eq!(rt; first.as_slice(), second.as_slice());
+    assert!(rt; first.len() > 1000);
+    Ok(())
+}

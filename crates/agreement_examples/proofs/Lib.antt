@@ -1,5 +1,5 @@
 pub mod AgreementRows
-pub mod NetRows
 pub mod PartRows
 pub mod PlaceRows
+pub mod StarRows
 pub mod ToldRows

@@ -1,9 +1,9 @@
 -- Which columns, or rows, a stretch covers.
-use Rattle.std.proofs.Common.{◌≡◌, ◌+◌, ◌-◌, ◌<◌, ◌≤◌, ◌≤ℤ◌, ◌<ℤ◌, ◌+ℤ◌, ◌-ℤ◌, nat_abs, pos, negsuc, FitsSigned, w64, ◌^◌, min, max, Bool, true, false, ◌⊎◌, inl, inr, nat_lt, ℕ, zero, suc, List, [], ◌∷◌, length, ℤ, Some, None, refl, sym, ap, ap₂, ◌∙◌, arith, get_or, not}
+use Rattle.std.proofs.Common.{◌≡◌, ◌+◌, ◌-◌, ◌<◌, ◌≤◌, ◌≤ℤ◌, ◌<ℤ◌, ◌+ℤ◌, ◌-ℤ◌, nat_abs, pos, negsuc, FitsSigned, w64, ◌^◌, min, max, Bool, true, false, ◌⊎◌, inl, inr, nat_lt, ◌==◌, ℕ, zero, suc, List, [], ◌∷◌, length, ℤ, Some, None, refl, sym, ap, ap₂, ◌∙◌, arith, get_or, not}
 use Rattle.std.proofs.lemmas.Bool.Decides.{nat_tests}
 use Rattle.std.proofs.lemmas.Int.{ints, clamps}
 use Rattle.std.specs.Int.{int_max, int_min, saturate_to_bits}
-use Rattle.std.specs.Int.Signed.{lt_z}
+use Rattle.std.specs.Int.Signed.{le_z, lt_z}
 use Rattle.std.specs.List.{AllByRecursion}
 use Rattle.std.specs.List.Sorted.{IsPartitionedBy, IsStrictlySortedBy}
 use Rattle.std.specs.Ordering.{int_cmp}
@@ -31,6 +31,11 @@ between_none [] i past = refl
 between_none (l ∷ []) i past = refl
 between_none (l ∷ m ∷ ls) zero past = absurd (omega (arith, past))
 between_none (l ∷ m ∷ ls) (suc i) past = between_none (m ∷ ls) i (omega (arith, past))
+
+get_or_any : (ls : List ℤ) (i : ℕ) (d e : ℤ) → i < length ls → get_or ls i d ≡ get_or ls i e
+get_or_any [] i d e within = absurd (omega (arith, within))
+get_or_any (l ∷ ls) zero d e within = refl
+get_or_any (l ∷ ls) (suc i) d e within = get_or_any ls i d e (omega (arith, within))
 
 -- lines that rise don't fall from one to a later one
 later_than : (l : ℤ) (ls : List ℤ) (j : ℕ) (d : ℤ) → AllByRecursion (λ m. int_cmp l m ≡ Less) ls → j < length ls → l ≤ℤ get_or ls j d
@@ -167,6 +172,57 @@ begins_behind l m low high h = grind (arith, ints, clamps)
 -- a number that isn't from one to another
 outside_cases : (first end i : ℕ) → is_from first end i ≡ false → (i < first) ⊎ (end ≤ i)
 outside_cases first end i h = grind (arith, nat_tests)
+
+le_true : (a b : ℤ) → le_z a b ≡ true → a ≤ℤ b
+le_true a b h = grind (arith, ints)
+
+-- one place isn't behind another, as the code sees it
+pub le_so : (a b x y : ℤ) → x ≡ a → y ≡ b → le_z x y ≡ true → a ≤ℤ b
+le_so a b x y e f h = le_true a b (rw (e, f) at (h))
+
+-- a stretch from the first of three lines up to the third covers no other columns than the two between them
+module _ (ls : List ℤ) (up : IsStrictlySortedBy int_cmp ls) (low high a d : ℤ) (first : ℕ) (within : first + 2 < length ls) (a_is : a ≡ get_or ls first a) (d_is : d ≡ get_or ls (first + 2) d) (from : a ≤ℤ low) (to : high ≤ℤ d) where
+  ends_at : (l m : ℤ) → m ≤ℤ a → int_min m high ≤ℤ int_max l low
+  ends_at l m le = omega (arith, ints, clamps, le, from)
+
+  begins_at : (l m : ℤ) → d ≤ℤ l → int_min m high ≤ℤ int_max l low
+  begins_at l m le = omega (arith, ints, clamps, le, to)
+
+  first_is : (e : ℤ) → get_or ls first e ≡ a
+  first_is e = get_or_any ls first e a (omega (arith, within)) ∙ sym a_is
+
+  third_is : (e : ℤ) → get_or ls (first + 2) e ≡ d
+  third_is e = get_or_any ls (first + 2) e d within ∙ sym d_is
+
+  no_others : (i : ℕ) → (i < first) ⊎ (first + 2 ≤ i) → (w : Bool) → nat_lt (suc i) (length ls) ≡ w → common_length ls low high i ≡ 0
+  no_others i side false w = ap (λ o. shared_by low high o) (between_none ls i (grind (arith, nat_tests)))
+  no_others i (inl h) true w =
+      let there : suc i < length ls = grind (arith, nat_tests) in
+      let rises = rises_at ls (suc i) first low up (omega (arith, h)) (omega (arith, within)) in
+      ap (λ o. shared_by low high o) (between_some ls i low low there) ∙ extent_none _ _ (ends_at (get_or ls i low) (get_or ls (suc i) low) (rw (first_is low) at rises))
+  no_others i (inr h) true w =
+      let there : suc i < length ls = grind (arith, nat_tests) in
+      let rises = rises_at ls (first + 2) i low up h (omega (arith, there)) in
+      ap (λ o. shared_by low high o) (between_some ls i low low there) ∙ extent_none _ _ (begins_at (get_or ls i low) (get_or ls (suc i) low) (rw (third_is low) at rises))
+
+  pub in_two : IsCovered ls low high first (first + 2)
+  in_two = record {
+    ordered = omega arith;
+    outside = λ i h. no_others i (outside_cases first (first + 2) i h) (nat_lt (suc i) (length ls)) refl;
+    full = record { inside = λ i above below. absurd (omega (arith, above, below)); within = λ some. within };
+  }
+
+-- where it has nothing in common with the second, it covers the first alone
+pub in_one : (ls : List ℤ) (low high : ℤ) (first : ℕ) → IsCovered ls low high first (first + 2) → common_length ls low high (first + 1) ≡ 0 → IsCovered ls low high first (first + 1)
+in_one ls low high first covered none = record {
+  ordered = omega arith;
+  outside = λ i h. by i h (i == first + 1) refl;
+  full = record { inside = λ i above below. absurd (omega (arith, above, below)); within = λ some. let all = covered.full.within (omega arith) in omega (arith, all) };
+}
+  where
+    by : (i : ℕ) → is_from first (first + 1) i ≡ false → (b : Bool) → (i == first + 1) ≡ b → common_length ls low high i ≡ 0
+    by i h true e = ap (common_length ls low high) (grind (arith, nat_tests)) ∙ none
+    by i h false e = covered.outside i (grind (arith, nat_tests))
 
 module _ (ls : List ℤ) (up : IsStrictlySortedBy int_cmp ls) (low next high : ℤ) (follows : next ≤ℤ (low +ℤ pos 1)) (behind : low ≤ℤ next) (p q : ℕ) (before : AreBefore ls next p) (upto : AreBefore ls high q) where
   none_shared : (i : ℕ) → suc i < length ls → (i < p - 1) ⊎ (q ≤ i) → common_length ls low high i ≡ 0

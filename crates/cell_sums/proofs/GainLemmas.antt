@@ -1,7 +1,7 @@
 -- What cells gain, block by block.
-use Rattle.std.proofs.Common.{◌≡◌, ◌+◌, ◌*◌, ◌/◌, ◌%◌, ◌-◌, ◌^◌, ◌<◌, ◌≤◌, max, ℕ, Bool, true, false, if◌then◌else◌, ◌==◌, ◌&&◌, List, ℤ, get_or, Option, Some, None, refl, sym, ap, ap₂, ◌∙◌, arith}
+use Rattle.std.proofs.Common.{◌≡◌, ◌+◌, ◌*◌, ◌/◌, ◌%◌, ◌-◌, ◌^◌, ◌<◌, ◌≤◌, max, ℕ, Bool, true, false, if◌then◌else◌, ◌==◌, ◌&&◌, List, get_or, Option, Some, None, Result, Ok, Err, OnOk, OnErr, refl, sym, ap, ap₂, ◌∙◌, arith}
 use Rattle.std.proofs.lemmas.Bool.Decides.{nat_tests}
-use Rattle.cell_sums.specs.Blocks.{BlockSums, Gains, HasGained, HasGainedAtMost, Key, block_at, run_gains, sum_at, sum_in}
+use Rattle.cell_sums.specs.Blocks.{BlockSums, Gains, HasGained, HasGainedAtMost, Key, block_at, one_of_two, run_gains, sum_at, sum_in}
 use Rattle.cell_sums.specs.Lines.{is_from}
 use Rattle.cell_sums.specs.declared.runs.Run.{Run}
 use Rattle.cell_sums.proofs.BlockLemmas.{one_key}
@@ -197,3 +197,19 @@ module _ (cells : Run) (area : ℕ → ℕ) (old : BlockSums) where
 
 pub gained_at_most : (old new : BlockSums) (gains : Gains) → HasGained old new gains → HasGainedAtMost old new gains
 gained_at_most old new gains h = record { sums = λ l i j. let is = h.sums l i j in omega (arith, is) }
+
+-- what gains nothing where it is refused gains no more than that
+pub either_at_most : {X E : Type 0} (r : Result X E) (old new : BlockSums) (gains : Gains) → OnOk r (HasGained old new gains) → OnErr r ((l i j : ℕ) → sum_at new l i j ≡ sum_at old l i j) → HasGainedAtMost old new gains
+either_at_most (Ok _) old new gains h k = gained_at_most old new gains h
+either_at_most (Err _) old new gains h k = record { sums = λ l i j. let is = k l i j in omega (arith, is) }
+
+-- what two sums gain, by the numbers of their cells
+pub pair_added : (old new : List ℕ) (place first end area next_area : ℕ) → end ≡ first + 2
+    → ((n : ℕ) → get_or new n 0 ≡ get_or old n 0 + (if is_from place (place + 2) n then one_of_two area next_area (n - place) else 0))
+    → (n : ℕ) → get_or new n 0 ≡ get_or old n 0 + (if is_from place (place + (end - first)) n then one_of_two area next_area ((first + (n - place)) - first) else 0)
+pair_added old new place first end area next_area two step n =
+    let count : 2 ≡ end - first = omega (arith, two) in
+    let offset : n - place ≡ (first + (n - place)) - first = omega arith in
+    step n
+    ∙ ap (λ k. get_or old n 0 + (if is_from place (place + k) n then one_of_two area next_area (n - place) else 0)) count
+    ∙ ap (λ k. get_or old n 0 + (if is_from place (place + (end - first)) n then one_of_two area next_area k else 0)) offset

@@ -1,12 +1,13 @@
 -- Sums that grow by a strip in parts: what it reaches over chunks as a whole, and its ends.
-use Rattle.std.proofs.Common.{◌≡◌, ◌+◌, ◌*◌, ◌/◌, ◌^◌, ◌<◌, ◌≤◌, ℕ, suc, Bool, true, false, if◌then◌else◌, ◌==◌, ◌&&◌, List, ℤ, get_or, length, refl, sym, ap, ◌∙◌, arith}
+use Rattle.std.proofs.Common.{◌≡◌, ◌+◌, ◌-◌, ◌*◌, ◌/◌, ◌^◌, ◌<◌, ◌≤◌, ℕ, suc, Bool, true, false, if◌then◌else◌, ◌==◌, ◌&&◌, List, ℤ, get_or, length, refl, sym, ap, ap₂, ◌∙◌, arith}
 use Rattle.std.proofs.lemmas.Bool.Decides.{nat_tests}
-use Rattle.cell_sums.specs.Blocks.{BlockSums, Gains, HasGained, HasGainedAtMost, run_gains, strip_area, strip_gains, sum_at}
-use Rattle.cell_sums.specs.Covered.{AreFull}
-use Rattle.cell_sums.specs.Lines.{AreLines, is_from, width}
+use Rattle.cell_sums.specs.Blocks.{BlockSums, Gains, one_of_two, pair_gains, HasGained, HasGainedAtMost, run_gains, strip_area, strip_gains, sum_at}
+use Rattle.cell_sums.specs.Covered.{AreFull, HoldAll}
+use Rattle.cell_sums.specs.Lines.{AreLines, common_length, is_from, width}
 use Rattle.cell_sums.specs.Sheets.{HasGrown, HasGrownAtMost, SheetSums, total}
 use Rattle.cell_sums.specs.declared.runs.Run.{Run}
 use Rattle.cell_sums.specs.declared.runs.Strip.{Strip}
+use Rattle.cell_sums.specs.declared.stretch.Neighbours.{Neighbours}
 use Rattle.cell_sums.proofs.CoverLemmas.{some_width}
 use Rattle.cell_sums.proofs.GainLemmas.{cells_from, cells_to, part_step}
 
@@ -104,4 +105,41 @@ module _ (lines : List ℤ) (cells : Run) (strip : Strip) (begin end : ℕ) (ful
           let two = last.sums l i j in
           let all = parts l i j in
           omega (arith, high, split, one, two, all);
+    }
+
+-- what two neighbours gain is what a strip has in common with them
+module _ (ls : List ℤ) (n : Neighbours) (all : HoldAll ls n) (cells : Run) (strip : Strip) (first : cells.first ≡ n.first) (end : cells.end ≡ n.first + 2) (low : strip.low ≡ n.stretch.low) (high : strip.high ≡ n.stretch.high) where
+  area_here : (i : ℕ) (b : Bool) → (i - cells.first == 0) ≡ b → is_from cells.first cells.end i ≡ true → (if b then n.length * strip.height else n.next_length * strip.height) ≡ strip_area ls strip i
+  area_here i true e h =
+      let is : i ≡ n.first = grind (arith, nat_tests) in
+      ap (λ w. w * strip.height) (all.length ∙ ap₂ (λ a b. common_length ls a b n.first) (sym low) (sym high) ∙ ap (common_length ls strip.low strip.high) (sym is))
+  area_here i false e h =
+      let is : i ≡ n.first + 1 = grind (arith, nat_tests) in
+      ap (λ w. w * strip.height) (all.next_length ∙ ap₂ (λ a b. common_length ls a b (n.first + 1)) (sym low) (sym high) ∙ ap (common_length ls strip.low strip.high) (sym is))
+
+  same_if : (s t u : Bool) (a b : ℕ) → (u ≡ true → a ≡ b) → (if s && (t && u) then a else 0) ≡ (if s && (t && u) then b else 0)
+  same_if false t u a b h = refl
+  same_if true false u a b h = refl
+  same_if true true false a b h = refl
+  same_if true true true a b h = h refl
+
+  pair_is : (l i j : ℕ) → pair_gains cells (n.length * strip.height) (n.next_length * strip.height) l i j ≡ strip_gains ls cells strip l i j
+  pair_is l i j = same_if (cells.layer == l) (cells.major == j) (is_from cells.first cells.end i) _ _ (area_here i (i - cells.first == 0) refl)
+
+  module _ (now next : SheetSums) (same : next.chunks ≡ now.chunks) where
+    pub pair_grown : HasGained now.cells next.cells (pair_gains cells (n.length * strip.height) (n.next_length * strip.height)) → HasGrown ls now next (strip_gains ls cells strip)
+    pair_grown step = record {
+      totals = λ l i j.
+          let is = step.sums l i j in
+          let gains = pair_is l i j in
+          let chunk = ap (λ (b : BlockSums). width ls i * sum_at b l (i / 16) j) same in
+          omega (arith, is, gains, chunk);
+    }
+
+    pub pair_refused : ((l i j : ℕ) → sum_at next.cells l i j ≡ sum_at now.cells l i j) → HasGrownAtMost ls now next (strip_gains ls cells strip)
+    pair_refused stay = record {
+      totals = λ l i j.
+          let is = stay l i j in
+          let chunk = ap (λ (b : BlockSums). width ls i * sum_at b l (i / 16) j) same in
+          omega (arith, is, chunk);
     }

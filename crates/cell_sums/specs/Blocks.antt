@@ -1,6 +1,6 @@
 -- Sums that are kept in blocks of 64, each for neighbours along one axis of a layer. A cell has a minor number, which counts along that
 -- axis, and a major number, which counts along the other: those of its column and its row, or of its row and its column.
-use Rattle.std.specs.Prelude.{◌≡◌, ◌≤◌, ℕ, ℤ, ◌+◌, ◌*◌, ◌/◌, ◌%◌, Bool, ◌&&◌, ◌==◌, List, [], Option, Some, None, if◌then◌else◌, slice_index}
+use Rattle.std.specs.Prelude.{◌≡◌, ◌≤◌, ℕ, ℤ, ◌+◌, ◌-◌, ◌*◌, ◌/◌, ◌%◌, Bool, ◌&&◌, ◌==◌, List, [], Option, Some, None, if◌then◌else◌, slice_index}
 use Rattle.std.specs.List.{position}
 use Rattle.cell_sums.specs.Lines.{common_length, is_from}
 use Rattle.cell_sums.specs.declared.runs.Run.{Run}
@@ -41,6 +41,13 @@ Gains = ℕ → ℕ → ℕ → ℕ
 -- what consecutive cells of one major number gain, each by its minor number
 abbrev pub run_gains : Run → (ℕ → ℕ) → Gains
 run_gains cells gain l i j = if (cells.layer == l) && ((cells.major == j) && is_from cells.first cells.end i) then gain i else 0
+
+-- the areas that a cell and its neighbour gain, by how far a cell is behind the first of them
+abbrev pub one_of_two : ℕ → ℕ → ℕ → ℕ
+one_of_two area next_area n = if n == 0 then area else next_area
+
+abbrev pub pair_gains : Run → ℕ → ℕ → Gains
+pair_gains cells area next_area = run_gains cells (λ i. one_of_two area next_area (i - cells.first))
 
 -- the area that a strip of a rectangle has in common with a cell
 abbrev pub strip_area : List ℤ → Strip → ℕ → ℕ

@@ -3,6 +3,7 @@ use Rattle.std.specs.Prelude.{◌≡◌, ◌≤◌, ◌<◌, ◌+◌, ℕ, zero,
 use Rattle.std.specs.Int.Signed.{lt_z}
 use Rattle.std.specs.List.Sorted.{IsPartitionPoint}
 use Rattle.cell_sums.specs.Lines.{common_length, is_from, width}
+use Rattle.cell_sums.specs.declared.stretch.Neighbours.{Neighbours}
 
 -- there is a line of a number, and it lies before a place
 abbrev pub is_before : List ℤ → ℤ → ℕ → Bool
@@ -24,3 +25,9 @@ pub record IsCovered (ls : List ℤ) (low high : ℤ) (first end : ℕ) : Type 0
   pub ordered : first ≤ end
   pub outside : (i : ℕ) → is_from first end i ≡ false → common_length ls low high i ≡ 0
   pub full : AreFull ls low high first end
+
+-- two neighbours among columns are all that a stretch covers, and have these lengths in common with it
+pub record HoldAll (ls : List ℤ) (n : Neighbours) : Type 0 where
+  pub covered : IsCovered ls n.stretch.low n.stretch.high n.first (n.first + 2)
+  pub length : n.length ≡ common_length ls n.stretch.low n.stretch.high n.first
+  pub next_length : n.next_length ≡ common_length ls n.stretch.low n.stretch.high (n.first + 1)

@@ -1,7 +1,7 @@
 //! Sums in blocks of 64, each for neighbours along one axis of a layer.
 
 ghost use Rattle.std.specs.Prelude.{◌≡◌, true, ◌<◌, ◌≤◌, ◌+◌, ◌*◌, ◌/◌, ◌-◌, ◌^◌, ◌==◌, ℕ, Some, IfOk, OnOk, OnErr, length, slice_index, if◌then◌else◌};
-ghost use Rattle.cell_sums.specs.Blocks.{HasGained, HasGainedAtMost, block_at, no_sums, run_gains, strip_gains, sum_at};
+ghost use Rattle.cell_sums.specs.Blocks.{HasGained, HasGainedAtMost, block_at, no_sums, one_of_two, pair_gains, run_gains, strip_gains, sum_at};
 ghost use Rattle.cell_sums.specs.Covered.{AreFull};
 ghost use Rattle.cell_sums.specs.Lines.{common_length, is_from, width};
 
@@ -15,7 +15,7 @@ use std::hash::RandomState;
 use std::marker::Model;
 
 /// How many cells of a run share a block.
-const BLOCK: usize = 64;
+pub(crate) const BLOCK: usize = 64;
 
 /// Sums by layer, minor and major number. They take memory only for blocks to which something was added.
 #[derive(Drop)]
@@ -37,7 +37,20 @@ impl<A: Allocator> Model for Blocks<A> {
     ghost invariant = { λ b. length b.keys.keys * 64 ≤ length b.sums.items };
 }
 
+/// Whether there are some cells, all of one block.
+#[inline(always)]
+fn share_block(cells: &Run) -> bool
+    ensures some { result ≡ true → cells.now.first < cells.now.end }
+    ensures together { result ≡ true → cells.now.end ≤ cells.now.first / 64 * 64 + 64 }
+{
+    if cells.first >= cells.end {
+        return false;
+    }
+    (cells.end - 1) / BLOCK == cells.first / BLOCK
+}
+
 /// Adds the area that a strip has in common with the cell of a number to the sum at a place.
+#[inline(always)]
 fn add_area<A: Allocator>(
     sums: &mut [u128],
     place: usize,
@@ -57,6 +70,7 @@ fn add_area<A: Allocator>(
 }
 
 /// Adds the areas of a strip that reaches over consecutive cells to as many sums, of which the first stands at a place.
+#[inline(never)]
 fn add_full_areas<A: Allocator>(
     sums: &mut [u128],
     place: usize,
@@ -87,8 +101,20 @@ fn add_height(sums: &mut [u128], place: usize, height: u64, count: usize)
     }
 }
 
+/// Adds areas to the sum at a place and to the next.
+#[inline(always)]
+fn add_two(sums: &mut [u128], place: usize, area: u64, next_area: u64)
+    requires within { place + 2 ≤ length sums.old }
+    requires fits { (n : ℕ) → place ≤ n → n < place + 2 → slice_index sums.old n + 2 ^ 64 ≤ 2 ^ 128 }
+    ensures { (n : ℕ) → slice_index sums.new n ≡ slice_index sums.old n + (if is_from place (place + 2) n then one_of_two area next_area (n - place) else 0) }
+{
+    sums[place] += area as u128;
+    sums[place + 1] += next_area as u128;
+}
+
 /// Adds the areas that a strip has in common with consecutive cells to as many sums, of which the first stands at a place. It reaches
 /// over those between the first and the last as a whole.
+#[inline(always)]
 fn add_areas<A: Allocator>(
     sums: &mut [u128],
     place: usize,
@@ -107,7 +133,9 @@ fn add_areas<A: Allocator>(
     add_area(sums, place, lines, strip, first);
     let others = count - 1;
     if others > 0 {
-        add_full_areas(sums, place + 1, lines, strip.height, first + 1, others - 1);
+        if others > 1 {
+            add_full_areas(sums, place + 1, lines, strip.height, first + 1, others - 1);
+        }
         add_area(sums, place + others, lines, strip, first + others);
     }
 }
@@ -177,6 +205,7 @@ impl<A: Allocator + Copy> Blocks<A> {
     }
 
     /// Adds the areas that a strip has in common with cells of one block. It reaches over those between the first and the last as a whole.
+    #[inline(always)]
     fn add_to_block<L: Allocator>(
         &mut self,
         cells: &Run,
@@ -198,9 +227,10 @@ impl<A: Allocator + Copy> Blocks<A> {
         Ok(())
     }
 
-    /// Adds the areas that a strip has in common with cells. It reaches over those between the first and the last as a whole. A refused
-    /// growth may leave some of them added.
-    pub(crate) fn add<L: Allocator>(
+    /// Adds the areas that a strip has in common with cells, block by block. It reaches over those between the first and the last as a
+    /// whole. A refused growth may leave some of them added.
+    #[inline(never)]
+    fn add_by_blocks<L: Allocator>(
         &mut self,
         cells: &Run,
         lines: &GridLines<L>,
@@ -222,6 +252,49 @@ impl<A: Allocator + Copy> Blocks<A> {
             self.add_to_block(&part, lines, strip)?;
             first = end;
         }
+        Ok(())
+    }
+
+    /// Adds the areas that a strip has in common with cells. It reaches over those between the first and the last as a whole. A refused
+    /// growth may leave some of them added.
+    #[inline(always)]
+    pub(crate) fn add<L: Allocator>(
+        &mut self,
+        cells: &Run,
+        lines: &GridLines<L>,
+        strip: &Strip,
+    ) -> Result<(), AllocError>
+        requires full { AreFull lines.now strip.now.low strip.now.high cells.now.first cells.now.end }
+        requires fits { (i : ℕ) → cells.now.first ≤ i → i < cells.now.end → sum_at self.old cells.now.layer i cells.now.major + 2 ^ 64 ≤ 2 ^ 128 }
+        ensures added { OnOk result (HasGained self.old self.new (strip_gains lines.now cells.now strip.now)) }
+        ensures at_most { HasGainedAtMost self.old self.new (strip_gains lines.now cells.now strip.now) }
+    {
+        if share_block(cells) {
+            self.add_to_block(cells, lines, strip)
+        } else {
+            self.add_by_blocks(cells, lines, strip)
+        }
+    }
+
+    /// Adds areas to a cell and its neighbour in one block.
+    #[inline(always)]
+    pub(crate) fn add_to_two(
+        &mut self,
+        cells: &Run,
+        area: u64,
+        next_area: u64,
+    ) -> Result<(), AllocError>
+        requires two { cells.now.end ≡ cells.now.first + 2 }
+        requires together { cells.now.end ≤ cells.now.first / 64 * 64 + 64 }
+        requires fits { (i : ℕ) → cells.now.first ≤ i → i < cells.now.end → sum_at self.old cells.now.layer i cells.now.major + 2 ^ 64 ≤ 2 ^ 128 }
+        ensures added { OnOk result (HasGained self.old self.new (pair_gains cells.now area next_area)) }
+        ensures refused { OnErr result ((l i j : ℕ) → sum_at self.new l i j ≡ sum_at self.old l i j) }
+    {
+        let key = (cells.layer, cells.major, cells.first / BLOCK);
+        let block = self.block(key)?;
+        let sums = self.sums.as_mut_slice();
+        let place = block * BLOCK + cells.first % BLOCK;
+        add_two(sums, place, area, next_area);
         Ok(())
     }
 

@@ -1,13 +1,13 @@
 //! The lines of one axis of a grid.
 
-ghost use Rattle.std.specs.Prelude.{◌≡◌, ◌<◌, ◌^◌, true, IfSome};
+ghost use Rattle.std.specs.Prelude.{◌≡◌, ◌<◌, ◌+◌, ◌^◌, true, IfSome};
 ghost use Rattle.std.specs.List.{All};
 ghost use Rattle.design_model.specs.Ranges.{IsWithin};
 ghost use Rattle.measure_rules.specs.GridCells.{between, in_order};
-ghost use Rattle.cell_sums.specs.Covered.{AreBefore, IsCovered, is_before};
+ghost use Rattle.cell_sums.specs.Covered.{AreBefore, HoldAll, IsCovered, is_before};
 ghost use Rattle.cell_sums.specs.Lines.{AreLines, common_length, farthest, width};
 
-use crate::stretch::{Covered, Stretch, length_shared};
+use crate::stretch::{Covered, Neighbours, Stretch, length_shared};
 use std::alloc::{AllocError, Allocator, Global};
 use std::marker::Model;
 
@@ -52,7 +52,7 @@ fn parts_per_unit(lines: &[i64], parts: u64) -> u64 {
 
 /// The part in which a place lies, counted from the first line.
 fn part_at(first: i64, per_unit: u64, place: i64) -> usize {
-    let past = place.saturating_sub(first).max(0).unsigned_abs();
+    let past = place.max(first).abs_diff(first);
     (past.wrapping_mul(per_unit) >> 32) as usize
 }
 
@@ -195,8 +195,7 @@ impl<A: Allocator> GridLines<A> {
         self.is_before(count - 1, place) && !self.is_before(count, place)
     }
 
-    /// How many lines lie before a place. It is looked for from a number on, of which it is at most one more for most stretches, and
-    /// then from a guess.
+    /// How many lines lie before a place. It is looked for from a number on, of which it is at most one more for most stretches.
     #[inline(always)]
     fn before(&self, start: usize, place: i64) -> usize
         ensures { AreBefore self.now place result }
@@ -205,6 +204,14 @@ impl<A: Allocator> GridLines<A> {
         if self.are_before(near, place) {
             return near;
         }
+        self.found_before(place)
+    }
+
+    /// How many lines lie before a place. It is looked for from a guess. This is rarer, and stays out of line.
+    #[inline(never)]
+    fn found_before(&self, place: i64) -> usize
+        ensures { AreBefore self.now place result }
+    {
         let count = self.stepped(self.stepped(self.guess(place), place), place);
         if self.are_before(count, place) {
             return count;
@@ -212,7 +219,49 @@ impl<A: Allocator> GridLines<A> {
         self.lines.partition_point(|line| *line < place)
     }
 
+    /// About the number of the column, or of the row, in which a place lies.
+    #[inline(always)]
+    fn number_near(&self, place: i64) -> usize {
+        let guess = self.guess(place);
+        let is_behind = guess < self.lines.len() && self.lines[guess] <= place;
+        guess.wrapping_sub(!is_behind as usize)
+    }
+
+    /// Whether a stretch lies in the column, or the row, of a number and in the next.
+    #[inline(always)]
+    fn has_in_two(&self, first: usize, stretch: Stretch) -> bool
+        ensures covered { result ≡ true → IsCovered self.now stretch.low stretch.high first (first + 2) }
+        ensures numbered { result ≡ true → first + 2 < 2 ^ 64 }
+    {
+        if first >= self.lines.len().saturating_sub(2) {
+            return false;
+        }
+        self.lines[first] <= stretch.low && stretch.high <= self.lines[first + 2]
+    }
+
+    /// Two neighbours among columns, or rows, that are all that a stretch covers. They are found for most short stretches; others may
+    /// have some too.
+    #[inline(always)]
+    pub(crate) fn neighbours(&self, stretch: Stretch) -> Option<Neighbours>
+        ensures stretch { IfSome result (λ n. n.stretch ≡ stretch) }
+        ensures all { IfSome result (HoldAll self.now) }
+        ensures lines { AreLines self.now }
+    {
+        let _ = &self.lines;
+        let first = self.number_near(stretch.low);
+        if !self.has_in_two(first, stretch) {
+            return None;
+        }
+        Some(Neighbours {
+            stretch,
+            first,
+            length: self.common_length(first, stretch),
+            next_length: self.common_length(first + 1, stretch),
+        })
+    }
+
     /// The columns, or rows, that a stretch covers: no other one has length in common with it.
+    #[inline(always)]
     pub(crate) fn covered(&self, stretch: Stretch) -> Covered
         ensures stretch { result.stretch ≡ stretch }
         ensures covered { IsCovered self.now stretch.low stretch.high result.first result.end }

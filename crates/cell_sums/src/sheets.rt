@@ -1,7 +1,7 @@
 //! Sums along one axis, by the cell and by chunks of cells.
 
-ghost use Rattle.std.specs.Prelude.{◌≡◌, ◌<◌, ◌≤◌, ◌+◌, ◌*◌, ◌^◌, ℕ, OnOk};
-ghost use Rattle.cell_sums.specs.Blocks.{strip_gains};
+ghost use Rattle.std.specs.Prelude.{◌≡◌, ◌<◌, ◌≤◌, ◌+◌, ◌*◌, ◌/◌, ◌^◌, ℕ, OnOk, OnErr};
+ghost use Rattle.cell_sums.specs.Blocks.{HasGained, pair_gains, strip_gains, sum_at};
 ghost use Rattle.cell_sums.specs.Covered.{AreFull};
 ghost use Rattle.cell_sums.specs.Lines.{AreLines};
 ghost use Rattle.cell_sums.specs.Sheets.{HasGrown, HasGrownAtMost, no_totals, total};
@@ -62,6 +62,7 @@ impl<A: Allocator + Copy> Sheet<A> {
 
     /// Adds the areas that a strip has in common with cells, of which those of the chunks from `begin` up to, and without, `end` are
     /// neither the first nor the last.
+    #[inline(never)]
     fn add_in_parts<L: Allocator>(
         &mut self,
         cells: &Run,
@@ -97,8 +98,27 @@ impl<A: Allocator + Copy> Sheet<A> {
         self.cells.add(&behind, lines, strip)
     }
 
+    /// Adds areas to a cell and its neighbour in one block.
+    #[inline(always)]
+    pub(crate) fn add_to_two(
+        &mut self,
+        cells: &Run,
+        area: u64,
+        next_area: u64,
+    ) -> Result<(), AllocError>
+        requires two { cells.now.end ≡ cells.now.first + 2 }
+        requires together { cells.now.end ≤ cells.now.first / 64 * 64 + 64 }
+        requires fits { (i : ℕ) → cells.now.first ≤ i → i < cells.now.end → sum_at self.old.cells cells.now.layer i cells.now.major + 2 ^ 64 ≤ 2 ^ 128 }
+        ensures added { OnOk result (HasGained self.old.cells self.new.cells (pair_gains cells.now area next_area)) }
+        ensures refused { OnErr result ((l i j : ℕ) → sum_at self.new.cells l i j ≡ sum_at self.old.cells l i j) }
+        ensures same { self.new.chunks ≡ self.old.chunks }
+    {
+        self.cells.add_to_two(cells, area, next_area)
+    }
+
     /// Adds the areas that a strip has in common with cells. It reaches over those between the first and the last as a whole. A refused
     /// growth may leave some of them added.
+    #[inline(always)]
     pub(crate) fn add<L: Allocator>(
         &mut self,
         cells: &Run,

@@ -1,6 +1,6 @@
 //! Stretches of an axis.
 
-ghost use Rattle.std.specs.Prelude.{◌≡◌, ◌<◌, ◌^◌};
+ghost use Rattle.std.specs.Prelude.{◌≡◌, ◌<◌, ◌+◌, ◌^◌};
 ghost use Rattle.design_model.specs.Ranges.{IsWithin};
 ghost use Rattle.cell_sums.specs.Lines.{farthest, length_shared};
 
@@ -17,6 +17,38 @@ pub(crate) struct Covered {
     pub(crate) stretch: Stretch,
     pub(crate) first: usize,
     pub(crate) end: usize,
+}
+
+/// A stretch, two neighbours among columns or rows, of which the first has a number from 0, and the lengths that they have in common with
+/// the stretch.
+#[derive(Clone, Copy)]
+pub(crate) struct Neighbours {
+    pub(crate) stretch: Stretch,
+    pub(crate) first: usize,
+    pub(crate) length: u64,
+    pub(crate) next_length: u64,
+    ghost small: { length < 2 ^ 32 },
+    ghost next_small: { next_length < 2 ^ 32 },
+    ghost numbered: { first + 2 < 2 ^ 64 },
+}
+
+impl Neighbours {
+    ghost use Rattle.std.specs.Prelude.{◌≡◌, List, ℤ};
+    ghost use Rattle.cell_sums.specs.Covered.{HoldAll, IsCovered};
+
+    /// Those of them that the stretch covers, where it covers no others: the first may be covered alone.
+    #[inline(always)]
+    pub(crate) fn covered(&self) -> Covered
+        ensures stretch { result.stretch ≡ self.now.stretch }
+        ensures covered { (ls : List ℤ) → HoldAll ls self.now → IsCovered ls self.now.stretch.low self.now.stretch.high result.first result.end }
+    {
+        let count = if self.next_length > 0 { 2 } else { 1 };
+        Covered {
+            stretch: self.stretch,
+            first: self.first,
+            end: self.first + count,
+        }
+    }
 }
 
 /// The length that a stretch has in common with what lies between two lines.

@@ -11,6 +11,7 @@ use std::alloc::Allocator;
 
 /// The layer of a name, where it is of TYPE ROUTING or CUT.
 #[tactic(auto, using(crate::proofs::LayerLemmas::places_by_kind))]
+#[inline(never)]
 pub fn checked_layer<A: Allocator + Copy>(library: &Library<'_, A>, name: &[u8]) -> Option<LayerId>
     ensures { option_map (λ l. l.0) result ≡ checked_place library.now.layers name.now }
 {

@@ -34,6 +34,7 @@ impl<'a, 'l, A: Allocator> Model for LastLayers<'a, 'l, A> {
 }
 
 /// The slot of a name. Names of consecutive layers mostly have different ones.
+#[inline(always)]
 fn slot_of(name: &[u8]) -> usize
     ensures { result < 16 }
 {
@@ -44,6 +45,7 @@ fn slot_of(name: &[u8]) -> usize
 }
 
 /// Whether a layer was found that has this name.
+#[inline(always)]
 fn is_named<A: Allocator + Copy>(
     library: &Library<'_, A>,
     found: Option<LayerId>,
@@ -73,6 +75,7 @@ impl<'a, 'l, A: Allocator + Copy> LastLayers<'a, 'l, A> {
     }
 
     /// The layer of a name, where it is of TYPE ROUTING or CUT: what `checked_layer` gives.
+    #[inline(always)]
     pub fn layer_of(&mut self, name: &[u8]) -> Option<LayerId>
         ensures value { option_map (λ l. l.0) result ≡ checked_place self.old.layers name.now }
         ensures same { self.new ≡ self.old }

@@ -14,7 +14,7 @@ use Rattle.entry_rules.specs.Unknown.{is_in, is_same}
 use Rattle.name_keys.specs.declared.entry_name.EntryName.{EntryName}
 use Rattle.design_names.specs.Tables.{Adds, HasFirsts, found, is_key}
 
-same_bytes : (a b : List ℕ) → bytes_eq a b ≡ true → a ≡ b
+pub same_bytes : (a b : List ℕ) → bytes_eq a b ≡ true → a ≡ b
 same_bytes a b t = grind (arith, bytes_eq-Decides)
 
 bytes_eq_sym : (a b : List ℕ) → bytes_eq a b ≡ bytes_eq b a

@@ -5,7 +5,8 @@
 //! and `ViaLayers`; `specs/Tables` says what the table holds, and `specs/NameViews` how what is lent is seen there.
 //!
 //! `Names` is seen as the design itself, the records of its statements. It lends entries from those statements, and names
-//! from their text. The one error is `AllocError`, of `names_of` alone.
+//! from their text. Who looks for many components hands `component_near` a `noted_places::NotedPlaces`. The one error is `AllocError`, of `names_of` alone.
 #![tactic(auto)]
 
 pub mod names;
+pub mod noted_places;

@@ -1,6 +1,6 @@
 //! The entries of a design by their names (LEF/DEF 5.8 Language Reference, "DEF Syntax").
 
-ghost use Rattle.std.specs.Prelude.{◌≡◌, IfOk, OnOk, is_some};
+ghost use Rattle.std.specs.Prelude.{◌≡◌, IfOk, IfSome, OnOk, Some, is_some};
 ghost use Rattle.std.specs.Option.{option_map};
 ghost use Rattle.design_model.specs.declared.mode.Section.TheVariants.{Components};
 ghost use Rattle.def_reader.specs.EntryViews.{entry_view};
@@ -11,6 +11,7 @@ ghost use Rattle.def_reader.specs.StatementViews.{records_view};
 ghost use Rattle.design_names.specs.NameViews.{component_of_entry, lent_component, lent_entry, lent_rule, lent_via};
 ghost use Rattle.design_names.specs.Tables.{Adds};
 
+use crate::noted_places::NotedPlaces;
 use def_reader::entry::Entry;
 use def_reader::statement::Statement;
 use design_model::mode::Section;
@@ -153,6 +154,47 @@ impl<'r, 't, A: Allocator + Copy> Names<'r, 't, A> {
         ensures there { is_some result ≡ stands_in self.now Components name.now }
     {
         component_of(self.entry(Section::Components, name)?)
+    }
+
+    /// The entry at a place of the table, if it is the first one of this section with this name.
+    #[inline(always)]
+    fn entry_at(&self, place: usize, section: Section, name: &[u8]) -> Option<&'r Entry<'t>>
+        ensures { IfSome result (λ e. entry_named self.now section name.now ≡ Some (lent_entry e)) }
+    {
+        let (key, entry) = self.table.get_index(place)?;
+        if key.name == name && key.word == section.word() {
+            Some(*entry)
+        } else {
+            None
+        }
+    }
+
+    /// The first entry of this section with this name, whose place is noted.
+    #[inline(never)]
+    fn found(&self, section: Section, name: &[u8], noted: &mut NotedPlaces) -> Option<&'r Entry<'t>>
+        ensures { option_map lent_entry result ≡ entry_named self.now section name.now }
+    {
+        let word = section.word();
+        let (place, _, entry) = self.table.get_full(EntryName { word, name })?;
+        noted.note(name, place);
+        Some(*entry)
+    }
+
+    /// The first component with this name. It is looked for where one with such a name was found last, and so mostly known without a
+    /// hash where names come again and again.
+    #[inline(always)]
+    pub fn component_near(
+        &self,
+        name: &[u8],
+        noted: &mut NotedPlaces,
+    ) -> Option<&'r ComponentParts<'t>>
+        ensures { option_map lent_component result ≡ component_named self.now name.now }
+    {
+        let place = noted.place_for(name);
+        if let Some(entry) = self.entry_at(place, Section::Components, name) {
+            return component_of(entry);
+        }
+        component_of(self.found(Section::Components, name, noted)?)
     }
 
     /// The first via with this name.

@@ -3,6 +3,7 @@ use Rattle.std.specs.Prelude.{◌≡◌, ℕ, Bool, false, List, length, map, Op
 use Rattle.std.specs.List.{zip}
 use Rattle.design_model.specs.declared.identifier.StmtId.{StmtId}
 use Rattle.statement_model.specs.Tokens.{Token}
+use Rattle.form_meanings.specs.Words.{◌>>=◌}
 use Rattle.def_grammar.specs.Located.{located}
 use Rattle.def_grammar.specs.Records.{Record, entry_of, key_of, read_def}
 use Rattle.edit_rules.specs.NetEdits.{lists}
@@ -10,7 +11,7 @@ use Rattle.piece_laws.specs.KeyLaws.{StandOnce}
 use Rattle.text_pieces.specs.Chunks.{AreOnce}
 use Rattle.text_pieces.specs.Content as pieces
 use Rattle.text_pieces.specs.Lent.{numbered_statements}
-use Rattle.text_pieces.specs.Statements.{look_up, statements_of}
+use Rattle.text_pieces.specs.Statements.{look_up, number_at, spans_by_number, statements_of}
 use Rattle.text_pieces.specs.Tables.{ids_of}
 use Rattle.design_tables.specs.Listings.{AreTablesOf, Listing}
 use Rattle.def_splice.specs.LookupViews.{of_entry}
@@ -40,6 +41,13 @@ pub record IsDesignText (c : Content) : Type 0 where
 -- the statement of a number, with its tokens
 abbrev pub statement_under : Content → StmtId → Option (List Token × Record)
 statement_under c id = look_up id (numbered_statements c.pieces)
+
+-- what the statement says that has a position between its first token's start and its last one's end
+abbrev pub record_at : Content → ℕ → Option Record
+record_at c position = do
+  id ← number_at position (spans_by_number c.pieces)
+  x ← statement_under c id
+  Some x.1
 
 -- what is known of a text with this design: its statements are those that are read one after the other, each has a number of its own,
 -- what a text has once stands once, and the tables are theirs

@@ -1,12 +1,13 @@
 //! The statements of the text of a design.
 
 ghost use Rattle.std.specs.Prelude.{◌≡◌, IfOk, Ok, map};
+ghost use Rattle.std.specs.Option.{option_map};
 ghost use Rattle.def_grammar.specs.Records.{read_def};
 ghost use Rattle.def_reader.specs.StatementViews.{record_view};
 ghost use Rattle.text_pieces.specs.KeptRecords.{AreKept, HavePieces, record_of, records_under};
 ghost use Rattle.text_pieces.specs.Tables.{kept_at};
 ghost use Rattle.design_tables.specs.TableViews.{numbered_view};
-ghost use Rattle.design_text.specs.DesignTexts.{design_of, text_of};
+ghost use Rattle.design_text.specs.DesignTexts.{design_of, record_at, text_of};
 ghost use Rattle.design_text.specs.Exchanges.{records_in};
 
 use crate::statements::kept_statement;
@@ -44,6 +45,15 @@ impl<A: Allocator + Copy> DesignText<A> {
         self.pieces.statements_are_kept();
         let ids = self.pieces.numbers(alloc)?;
         statements_under(alloc, &self.pieces, &ids)
+    }
+
+    /// The statement that has a position between its first token's start and its last one's end. It alone is read.
+    pub fn statement_at(&self, position: usize) -> Option<Statement<'_>>
+        ensures { option_map record_view result ≡ record_at self.entry.now position }
+    {
+        let id = self.pieces.find_at(position)?;
+        let (statement, _) = self.found(id)?;
+        Some(statement)
     }
 
     /// All statements with their numbers, in the order of the text.

@@ -35,6 +35,7 @@ impl<'a, 'l, A: Allocator + Copy> PartWalk<'a, 'l, A> {
 }
 
 /// Whether a piece is a further shape of the via before it.
+#[inline(always)]
 fn is_further(piece: &Piece<'_>) -> bool
     ensures { result ≡ goes_on (piece_view piece.now ∷ []) }
 {
@@ -45,6 +46,7 @@ fn is_further(piece: &Piece<'_>) -> bool
 }
 
 /// The shape of a piece, if it has one.
+#[inline(always)]
 fn shape_of<'p>(piece: &Piece<'p>) -> Option<LayerShape<'p>>
     ensures { named_shapes result ≡ shapes_of (piece_view piece.now) }
 {
@@ -56,6 +58,7 @@ fn shape_of<'p>(piece: &Piece<'p>) -> Option<LayerShape<'p>>
 }
 
 /// The length of a piece.
+#[inline(always)]
 pub(crate) fn length_of(piece: &Piece<'_>) -> u64
     ensures { result ≡ piece_length (piece_view piece.now) }
 {
@@ -66,6 +69,7 @@ pub(crate) fn length_of(piece: &Piece<'_>) -> u64
 }
 
 /// Puts a shape into the present part, where its layer is of TYPE ROUTING or CUT.
+#[inline(always)]
 pub(crate) fn put_shape<A: Allocator + Copy>(
     shape: &LayerShape<'_>,
     walk: &mut PartWalk<'_, '_, A>,
@@ -87,6 +91,7 @@ pub(crate) fn put_shape<A: Allocator + Copy>(
 }
 
 /// Puts a piece into the present part where it is a further shape of the via before it, and else into a part of its own.
+#[inline(always)]
 pub(crate) fn put_piece<A: Allocator + Copy>(
     piece: &Piece<'_>,
     walk: &mut PartWalk<'_, '_, A>,

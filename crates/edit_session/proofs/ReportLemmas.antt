@@ -22,10 +22,6 @@ abbrev Lines : Type 0
 Lines = List (List ℕ)
 
 module _ (old : Lines) where
-  -- three families of one statement
-  pub three_families : (a b d : Lines) → old ++ (a ++ (b ++ d)) ≡ old ++ (a ++ (b ++ (d ++ [])))
-  three_families a b d = ap (λ (l : Lines). old ++ (a ++ (b ++ l))) (sym (append-nil d))
-
   -- two parts, and a third in whatever order
   pub parts_and_more : (l1 l2 l3 a b d all : Lines) → l1 ≡ old ++ a → l2 ≡ l1 ++ b → SameLines l3 (l2 ++ d) → SameLines (((old ++ a) ++ b) ++ d) all → SameLines l3 all
   parts_and_more l1 l2 l3 a b d all h1 h2 more same = record {

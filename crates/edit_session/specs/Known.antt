@@ -7,15 +7,17 @@ use Rattle.connection_rules.specs.NetLines.{net_lines}
 use Rattle.design_rules.specs.Boxes.{scale}
 use Rattle.net_checks.specs.Drawings.{Drawing, IsDrawingOf}
 use Rattle.kept_lines.specs.Kept.{Kept}
-use Rattle.edit_rules.specs.Edits.{Change, applied, of_net}
-use Rattle.edit_rules.specs.NetEdits.{NetChange}
-use Rattle.following_laws.specs.Following.{LinesFollow}
-use Rattle.staying_laws.specs.NetStatements.{lines_on_net}
 use Rattle.staying_laws.specs.Staying.{lines_on_places, lines_on_statements}
 use Rattle.design_text.specs.DesignTexts.{Content, text_of}
 use Rattle.design_text.specs.Exchanges.{AreExchanges, Exchanged, records_in}
-use Rattle.followed_places.specs.Places.{HasPlaces, Places, said}
+use Rattle.followed_nets.specs.FollowedNets.{HasNets, Nets}
+use Rattle.followed_nets.specs.Touched.{AreTouched, Touched}
+use Rattle.followed_places.specs.Places.{AreOnPlaces, HasPlaces, Places, said}
+use Rattle.followed_statements.specs.Following.{AreOnStatements}
+use Rattle.design_model.specs.declared.identifier.StmtId.{StmtId}
 use Rattle.edit_session.specs.declared.known_lines.KnownLines.{KnownLines}
+use Rattle.edit_session.specs.declared.noted.FollowedLines.{FollowedLines}
+use Rattle.edit_session.specs.declared.noted.Noted.{Noted}
 
 -- lines that are kept are these, in the order of their bytes
 abbrev pub AreKept : List (List ℕ) → Kept → Type 0
@@ -41,27 +43,40 @@ pub record AllKnown {A : Type 0} (known : KnownLines A) : Type 0 where
 abbrev pub IsDrawingOfText : Library → List ℕ → Drawing → Type 0
 IsDrawingOfText library text nets = (design : List Record) → read_def text ≡ Ok design → IsDrawingOf library design nets
 
--- where a change is of a net, lines are those on its entries in a design
-abbrev pub AreBefore : Library → List Record → Change → List (List ℕ) → Type 0
-AreBefore library design change lines = (name : List ℕ) (net_change : NetChange) → change ≡ of_net name net_change → lines ≡ lines_on_net library name design
+-- what is noted of a text's numbered statements, as far as it is
+pub record HasNoted {A : Type 0} (library : Library) (records : List (StmtId × Record)) (n : Noted A) : Type 0 where
+  pub places : IfSome n.places (HasPlaces library records)
+  pub nets : IfSome n.nets (HasNets library records)
 
--- lines on statements that are kept are those of a design once some go and those on the entries of a net come
-pub record Awaits (library : Library) (name : List ℕ) (design : List Record) (kept : Kept) (out : List (List ℕ)) : Type 0 where
-  pub before : List (List ℕ)
-  pub kept_are : AreKept before kept
-  pub follow : LinesFollow before (lines_on_statements library design) out (lines_on_net library name design)
+-- kept lines are those on the nets of a design, in the order of their bytes
+abbrev pub AreOnNets : Library → List Record → Kept → Type 0
+AreOnNets library design kept = kept.lines ≡ sorted_by_bytes (net_lines library design (scale design))
 
--- a change led from a design whose lines are known to what a text reads as; the lines on its net's entries before are told, or not
-pub record Led {A : Type 0} (library : Library) (text : List ℕ) (change : Change) (known : KnownLines A) (out : Option (List (List ℕ))) : Type 0 where
-  pub before : List Record
-  pub reads : read_def text ≡ Ok (applied change before)
-  pub knew : AreKnown library before known
-  pub told : IfSome out (AreBefore library before change)
+-- lines that followed an edit are those on a design
+pub record HasFollowed {A : Type 0} (library : Library) (design : List Record) (f : FollowedLines A) : Type 0 where
+  pub statements : IfSome f.statements (AreOnStatements library design)
+  pub places : IfSome f.places (AreOnPlaces library design)
+  pub nets : IfSome f.nets (AreOnNets library design)
 
 -- A text that reads was edited by these exchanges of statements. What was noted of the components of the text before it, and the lines
 -- that were known, are those of that text.
-pub record Followed {A : Type 0} (library : Library) (old new : Content) (exchanges : List Exchanged) (noted : Option Places) (known : KnownLines A) : Type 0 where
+pub record Moves {A : Type 0} (library : Library) (old new : Content) (exchanges : List Exchanged) (noted : Option Places) (known : KnownLines A) : Type 0 where
   pub told : AreExchanges new.pieces.table.slots (records_in old) exchanges (records_in new)
   pub reads : read_def (text_of old) ≡ Ok (said (records_in old))
   pub had : IfSome noted (HasPlaces library (records_in old))
+  pub knew : AreKnown library (said (records_in old)) known
+
+-- The same of its nets, of which some were told.
+pub record Touches {A : Type 0} (library : Library) (old new : Content) (exchanges : List Exchanged) (some : Option Touched) (noted : Option Nets) (known : KnownLines A) : Type 0 where
+  pub told : AreExchanges new.pieces.table.slots (records_in old) exchanges (records_in new)
+  pub touched : IfSome some (AreTouched library (said (records_in old)))
+  pub had : IfSome noted (HasNets library (records_in old))
+  pub knew : AreKnown library (said (records_in old)) known
+
+-- And of both.
+pub record Followed {A : Type 0} (library : Library) (old new : Content) (exchanges : List Exchanged) (some : Option Touched) (noted : Noted A) (known : KnownLines A) : Type 0 where
+  pub told : AreExchanges new.pieces.table.slots (records_in old) exchanges (records_in new)
+  pub reads : read_def (text_of old) ≡ Ok (said (records_in old))
+  pub touched : IfSome some (AreTouched library (said (records_in old)))
+  pub had : HasNoted library (records_in old) noted
   pub knew : AreKnown library (said (records_in old)) known

@@ -6,19 +6,21 @@
 //! answer is that of reading the present text afresh, and each text of a session reads.
 //!
 //! A session borrows its library and keeps a copy of the text, of which it lends entries (`view::View`), from the first
-//! question on measures up to the next edit what `reports` made, and the lines of diagnostics, part by part, up to an edit that may
-//! change them (`staying_laws`). Lines on components follow an edit by the components that it touches (`followed_places`), lines on
-//! statements one of a net by the net's entries. `open` answers `ReadError` (the text's fault, or refused memory), an edit
+//! question on measures up to the next edit what `reports` made, and the lines of diagnostics. These follow an edit part by part: lines on
+//! statements by the statements that it exchanges (`followed_statements`), lines on components by the components that it touches
+//! (`followed_places`), and lines on nets by the nets that it touches (`followed_nets`). `open` answers `ReadError` (the text's fault, or refused memory), an edit
 //! `EditRefusal`, and then the text is as it was, `diagnostics` and questions on measures answer `AllocError`, and `write_to`
 //! `WriteFault`, where a first part of the text was written. Offsets of a text edit are bytes from 0, with the end after the last byte.
 #![tactic(auto)]
 
-mod defined_text;
+mod change;
 mod known_lines;
 mod measures;
-mod net_statements;
+mod nets;
 mod no_nets;
+mod noted;
 mod places;
 mod report;
 pub mod session;
+mod statements;
 pub mod view;

@@ -18,7 +18,7 @@ use report_lines::Lines;
 use std::alloc::Allocator;
 
 /// Whether a text has an entry of NETS or of SPECIALNETS. No statement is read: the tables have how many there are.
-fn has_nets<A: Allocator + Copy>(text: &DesignText<A>) -> bool
+pub(crate) fn has_nets<A: Allocator + Copy>(text: &DesignText<A>) -> bool
     ensures { (library : TheLibrary) (design : List Record) → read_def (text_of text.now) ≡ Ok design → result ≡ false → net_lines library design (scale design) ≡ [] }
 {
     no_nets_no_lines();

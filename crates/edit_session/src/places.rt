@@ -3,10 +3,11 @@
 ghost use Rattle.std.specs.Prelude.{IfSome, List};
 ghost use Rattle.design_model.specs.declared.identifier.StmtId.{StmtId as Number};
 ghost use Rattle.def_grammar.specs.Records.{Record};
+ghost use Rattle.lef_grammar.specs.Library.{Library as TheLibrary};
 ghost use Rattle.design_text.specs.DesignTexts.{Content};
 ghost use Rattle.design_text.specs.Exchanges.{AreExchanges, records_in};
 ghost use Rattle.followed_places.specs.Places.{AreFollowed, AreOnPlaces, HasPlaces, said};
-ghost use Rattle.edit_session.specs.Known.{AreKnown, Followed};
+ghost use Rattle.edit_session.specs.Known.{AreKnown, Moves};
 
 use crate::known_lines::KnownLines;
 use cell_library::library::Library;
@@ -14,27 +15,29 @@ use design_text::made::Made;
 use design_text::text::DesignText;
 use edit_model::edit::Edit;
 use followed_places::FollowedPlaces;
+use followed_statements::leaves_places;
 use kept_lines::KeptLines;
 use line_laws::scales::scales_are_good;
+use line_laws::sorting::same_lines_sort_alike;
 use std::alloc::Allocator;
 
 /// How many statements may go out or come in at once so that the lines on components follow. Each component among them is looked for by
 /// itself and compared with all the others, so beyond that making all lines anew is sooner done.
 const MOST_STATEMENTS: usize = 256;
 
-/// Whether an edit adds, removes or moves a component, or gives it another macro.
-pub(crate) fn is_of_a_component(edit: &Edit<'_>) -> bool {
+/// The component that an edit adds, removes or moves, or gives another macro, if it is of one.
+pub(crate) fn component_of<'e>(edit: &Edit<'e>) -> Option<&'e [u8]> {
     match edit {
-        Edit::Place { .. }
-        | Edit::Unplace { .. }
-        | Edit::Remaster { .. }
-        | Edit::Add { .. }
-        | Edit::Remove { .. } => true,
+        Edit::Place { component, .. } => Some(*component),
+        Edit::Unplace { component } => Some(*component),
+        Edit::Remaster { component, .. } => Some(*component),
+        Edit::Add { component, .. } => Some(*component),
+        Edit::Remove { component } => Some(*component),
         Edit::Connect { .. }
         | Edit::Disconnect { .. }
         | Edit::Route { .. }
         | Edit::Unroute { .. }
-        | Edit::Block { .. } => false,
+        | Edit::Block { .. } => None,
     }
 }
 
@@ -83,8 +86,25 @@ fn followed<'t, A: Allocator + Copy>(
     Some(kept)
 }
 
-/// The lines on components after an edit, from those that were known, which are so no longer, where components are noted and the lines
-/// are soon followed. What is noted is then that of the new text, and else forgotten.
+/// The lines on components, where an edit exchanged no component and nothing of what stands round them.
+fn kept_if_left<A: Allocator + Copy>(
+    alloc: A,
+    text: &DesignText<A>,
+    made: &Made<A>,
+    kept: KeptLines<A>,
+) -> Option<KeptLines<A>>
+    requires { (old : List (Number × Record)) × AreExchanges text.now.pieces.table.slots old made.now.exchanges (records_in text.now) }
+    ensures { (library : TheLibrary) (old : List (Number × Record)) → AreExchanges text.now.pieces.table.slots old made.now.exchanges (records_in text.now) → AreOnPlaces library (said old) kept → IfSome result (AreOnPlaces library (said (records_in text.now))) }
+{
+    same_lines_sort_alike();
+    match leaves_places(alloc, text, made) {
+        Ok(true) => Some(kept),
+        _ => None,
+    }
+}
+
+/// The lines on components after an edit, from those that were known, which are so no longer, where the edit left them, or where
+/// components are noted and the lines are soon followed. What is noted is then that of the new text, and else forgotten.
 pub(crate) fn follow_places<'t, A: Allocator + Copy>(
     alloc: A,
     library: &'t Library<'_, A>,
@@ -93,14 +113,17 @@ pub(crate) fn follow_places<'t, A: Allocator + Copy>(
     noted: &mut Option<FollowedPlaces<A>>,
     known: &mut KnownLines<A>,
 ) -> Option<KeptLines<A>>
-    requires { (old : Content) × Followed library.now old text.now made.now.exchanges noted.old known.old }
+    requires { (old : Content) × Moves library.now old text.now made.now.exchanges noted.old known.old }
     ensures lines { IfSome result (AreOnPlaces library.entry.now (said (records_in text.entry.now))) }
     ensures noted { IfSome noted.new (HasPlaces library.entry.now (records_in text.entry.now)) }
     ensures known { (design : List Record) → AreKnown library.entry.now design known.old → AreKnown library.entry.now design known.new }
 {
     scales_are_good();
-    let mut places = noted.take()?;
+    let places = noted.take();
     let kept = known.places.take()?;
+    let Some(mut places) = places else {
+        return kept_if_left(alloc, text, made, kept);
+    };
     let lines = followed(alloc, library, text, made, &mut places, kept)?;
     *noted = Some(places);
     Some(lines)

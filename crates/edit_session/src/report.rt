@@ -21,9 +21,10 @@ use cell_library::library::Library;
 use def_reader::statement::Statement;
 use design_names::names::{Names, names_of};
 use design_text::text::DesignText;
-use entry_checks::known::{Defined, Known};
+use entry_checks::known::Defined;
 use entry_checks::statement_lines::StatementChecks;
 use entry_checks::unchecked::unchecked_in_library;
+use followed_statements::put_statement;
 use kept_lines::KeptLines;
 use line_laws::one::components_in_any_order;
 use line_laws::same::{maps_are_same, permutations_are_same};
@@ -40,19 +41,6 @@ use place_checks::placed_box::PlacedBox;
 use place_checks::sweep::sort_boxes;
 use report_lines::Lines;
 use std::alloc::{AllocError, Allocator};
-
-/// Puts the lines on one statement by itself behind others.
-pub(crate) fn put_statement<'a, 't: 'a, K: Known, A: Allocator + Copy>(
-    checks: &mut StatementChecks<'a, 't, K, A>,
-    statement: &Statement<'t>,
-    lines: &mut Lines<A>,
-) -> Result<(), AllocError>
-    ensures lines { OnOk result (lines.new ≡ lines.old ++ statement_lines checks.old.library checks.old.design (record_view statement.now)) }
-    ensures same { checks.new ≡ checks.old }
-{
-    checks.put(statement, lines)?;
-    Ok(())
-}
 
 /// Puts the lines on each of these statements by itself behind others, in one walk over them.
 fn put_each<'t, A: Allocator + Copy>(

@@ -20,9 +20,10 @@ ghost use Rattle.design_text.specs.Editing.{KeepsTheRest, ReadsEdited};
 ghost use Rattle.design_text.specs.FewReads.{ReadsFew, new_in};
 ghost use Rattle.edit_session.specs.Sessions.{AnswersOn, AreDiagnostics, HasParts, Measures, OpensAs, Views};
 
+use crate::change::Change;
 use crate::known_lines::KnownLines;
 use crate::measures::kept_or_made;
-use crate::places::{follow_places, is_of_a_component, note_places};
+use crate::noted::Noted;
 use crate::report::know_lines;
 use crate::view::{View, view_of};
 use cell_library::library::Library;
@@ -35,14 +36,12 @@ use design_model::identifier::LayerId;
 use design_model::mode::Section;
 use design_text::text::DesignText;
 use edit_model::edit::{Done, Edit, EditRefusal};
-use followed_places::FollowedPlaces;
 use reports::Reports;
 use std::alloc::{AllocError, Allocator, Global};
 use std::io::Write;
 use std::marker::Model;
 
 /// An editor session over the text of a design.
-#[derive(Drop)]
 pub struct Session<'s, 'l, A: Allocator + Copy = Global> {
     alloc: A,
     library: &'s Library<'l, A>,
@@ -51,8 +50,8 @@ pub struct Session<'s, 'l, A: Allocator + Copy = Global> {
     reports: Option<Reports<A>>,
     /// The lines on the present text that are known.
     known: KnownLines<A>,
-    /// The components of the present text, once an edit changed one while the lines on them were known.
-    places: Option<FollowedPlaces<A>>,
+    /// What is noted of the present text, so that lines follow an edit.
+    noted: Noted<A>,
 }
 
 impl<'s, 'l, A: Allocator + Copy> Model for Session<'s, 'l, A> {
@@ -60,16 +59,29 @@ impl<'s, 'l, A: Allocator + Copy> Model for Session<'s, 'l, A> {
     ghost use Rattle.def_grammar.specs.Records.{read_def};
     ghost use Rattle.design_text.specs.DesignTexts.{text_of};
     ghost use Rattle.design_text.specs.Exchanges.{records_in};
-    ghost use Rattle.followed_places.specs.Places.{HasPlaces};
     ghost use Rattle.edit_session.specs.Contents.{Content};
-    ghost use Rattle.edit_session.specs.Known.{AreKnownOf};
+    ghost use Rattle.edit_session.specs.Known.{AreKnownOf, HasNoted};
     ghost use Rattle.edit_session.specs.Sessions.{AnswersOn};
 
     ghost Value = { Content };
 
     ghost view = { λ s. record { library = s.library.now; text = text_of s.text } };
 
-    ghost invariant = { λ s. IsOk (read_def (text_of s.text)) × IfSome s.reports (AnswersOn s.library.now (text_of s.text)) × AreKnownOf s.library.now (text_of s.text) s.known × IfSome s.places (HasPlaces s.library.now (records_in s.text)) };
+    ghost invariant = { λ s. IsOk (read_def (text_of s.text)) × IfSome s.reports (AnswersOn s.library.now (text_of s.text)) × AreKnownOf s.library.now (text_of s.text) s.known × HasNoted s.library.now (records_in s.text) s.noted };
+}
+
+// (written out, so that who owns a session is proved over one call in the place of all that it keeps)
+impl<A: Allocator + Copy> Drop for Session<'_, '_, A> {
+    fn drop(self) {
+        let Session {
+            alloc: _,
+            library: _,
+            text: _,
+            reports: _,
+            known: _,
+            noted: _,
+        } = self;
+    }
 }
 
 impl<'s, 'l, A: Allocator + Copy> Session<'s, 'l, A> {
@@ -105,7 +117,7 @@ impl<'s, 'l, A: Allocator + Copy> Session<'s, 'l, A> {
             text,
             reports: None,
             known: KnownLines::none(),
-            places: None,
+            noted: Noted::none(),
         })
     }
 
@@ -113,14 +125,30 @@ impl<'s, 'l, A: Allocator + Copy> Session<'s, 'l, A> {
     pub fn into_text(self) -> Result<Vec<u8, A>, AllocError>
         ensures { IfOk result (λ v. v.items ≡ self.entry.text) }
     {
-        self.text.into_text(self.alloc)
+        let Session {
+            alloc,
+            library: _,
+            text,
+            reports: _,
+            known: _,
+            noted: _,
+        } = self;
+        text.into_text(alloc)
     }
 
     /// The present text, in pieces, as which it can be written without being put together.
     pub fn into_pieces(self) -> DesignText<A>
         ensures { text_of result ≡ self.entry.text }
     {
-        self.text
+        let Session {
+            alloc: _,
+            library: _,
+            text,
+            reports: _,
+            known: _,
+            noted: _,
+        } = self;
+        text
     }
 
     /// Makes an edit, or refuses it and leaves the text as it was.
@@ -132,16 +160,12 @@ impl<'s, 'l, A: Allocator + Copy> Session<'s, 'l, A> {
         ensures library { self.new.library ≡ self.old.library }
         ensures reads { IsOk (read_def self.new.text) }
     {
-        let out = self
-            .known
-            .before(self.alloc, self.library, &self.text, edit);
-        note_places(
+        let touched = self.noted.note(
             self.alloc,
             self.library,
             &self.text,
-            is_of_a_component(edit),
+            Change::Design(edit),
             &self.known,
-            &mut self.places,
         );
         self.text.statements_are_kept();
         self.text.design_is_read();
@@ -150,20 +174,19 @@ impl<'s, 'l, A: Allocator + Copy> Session<'s, 'l, A> {
         let made = edited?;
         let reads = made.reads();
         self.reports = None;
-        let places = follow_places(
+        let followed = self.noted.follow(
             self.alloc,
             self.library,
             &self.text,
             &made,
-            &mut self.places,
+            touched,
             &mut self.known,
         );
         self.text.let_go(made);
         self.text.statements_are_kept();
         self.text.design_is_read();
-        self.known
-            .follow(self.alloc, self.library, &self.text, edit, out);
-        self.known.put_places(places);
+        self.known = KnownLines::none();
+        self.known.put(followed);
         Ok(Done { reads, tests: 0 })
     }
 
@@ -174,13 +197,12 @@ impl<'s, 'l, A: Allocator + Copy> Session<'s, 'l, A> {
         ensures library { self.new.library ≡ self.old.library }
         ensures reads { IsOk (read_def self.new.text) }
     {
-        note_places(
+        let touched = self.noted.note(
             self.alloc,
             self.library,
             &self.text,
-            true,
+            Change::Text(a),
             &self.known,
-            &mut self.places,
         );
         self.text.statements_are_kept();
         self.text.design_is_read();
@@ -189,19 +211,19 @@ impl<'s, 'l, A: Allocator + Copy> Session<'s, 'l, A> {
         let made = edited?;
         let reads = made.reads();
         self.reports = None;
-        let places = follow_places(
+        let followed = self.noted.follow(
             self.alloc,
             self.library,
             &self.text,
             &made,
-            &mut self.places,
+            touched,
             &mut self.known,
         );
         self.text.let_go(made);
         self.text.statements_are_kept();
         self.text.design_is_read();
         self.known = KnownLines::none();
-        self.known.put_places(places);
+        self.known.put(followed);
         Ok(Done { reads, tests: 0 })
     }
 

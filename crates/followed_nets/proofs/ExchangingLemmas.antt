@@ -36,12 +36,12 @@ module _ (name_of : ℕ → List ℕ) where
   one_by_name x [] = refl
   one_by_name x (y ∷ ys) = ap (λ (ls : List (List ℕ)). short x y ++ ls) (one_by_name x ys)
 
-  by_names : (xs ys : List NetShape) → cross_lines short (map by_name xs) (map by_name ys) ≡ cross_lines short xs ys
+  pub by_names : (xs ys : List NetShape) → cross_lines short (map by_name xs) (map by_name ys) ≡ cross_lines short xs ys
   by_names [] ys = refl
   by_names (x ∷ xs) ys = ap₂ (λ (a b : List (List ℕ)). a ++ b) (one_by_name x ys) (by_names xs ys)
 
   -- the lines of shapes with others don't hang on the order of these
-  in_any_order : (q : List ℕ) (xs ys zs : List NetShape) → SameThings ys zs → times q (cross_lines short xs ys) ≡ times q (cross_lines short xs zs)
+  pub in_any_order : (q : List ℕ) (xs ys zs : List NetShape) → SameThings ys zs → times q (cross_lines short xs ys) ≡ times q (cross_lines short xs zs)
   in_any_order q xs ys zs same =
       times-flat_map q (λ (x : NetShape). flat_map (short x) ys) xs
       ∙ sum_by-same (λ (x : NetShape). times q (flat_map (short x) ys)) (λ (x : NetShape). times q (flat_map (short x) zs))

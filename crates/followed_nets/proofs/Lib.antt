@@ -3,8 +3,14 @@ mod FollowLemmas
 mod KeptStatements
 mod ListedNets
 mod NetsLeft
+mod NoteLemmas
 mod OneEntry
+mod OthersLeft
+mod SameParts
+mod StarLemmas
+mod StarsLeft
 mod TellLemmas
+mod TellOneLemmas
 mod ToldLemmas
 mod ToldNets
 mod WithinLemmas

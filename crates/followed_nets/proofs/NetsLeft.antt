@@ -32,7 +32,7 @@ none_last : {A : Type 0} (xs : List A) (x : A) → [] ≡ xs ++ x ∷ [] → ⊥
 none_last [] x h = cc
 none_last (y ∷ xs) x h = cc
 
-same_last : {A : Type 0} (xs ys : List A) (x y : A) → xs ++ x ∷ [] ≡ ys ++ y ∷ [] → (xs ≡ ys) × (x ≡ y)
+pub same_last : {A : Type 0} (xs ys : List A) (x y : A) → xs ++ x ∷ [] ≡ ys ++ y ∷ [] → (xs ≡ ys) × (x ≡ y)
 same_last {A = A} [] [] x y h = (refl, cc)
 same_last {A = A} [] (z ∷ ys) x y h = absurd (none_last ys y (cc))
 same_last {A = A} (z ∷ xs) [] x y h = absurd (none_last xs x (cc))

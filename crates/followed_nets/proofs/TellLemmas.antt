@@ -25,7 +25,7 @@ module _ {A : Type 0} (test : A → Bool) where
   kept_again true a left is later = rw is (ap (λ (l : List A). a ∷ l) later)
   kept_again false a left is later = later
 
-  filtered_again : (xs : List A) → filter test (filter test xs) ≡ filter test xs
+  pub filtered_again : (xs : List A) → filter test (filter test xs) ≡ filter test xs
   filtered_again [] = refl
   filtered_again (a ∷ xs) = kept_again (test a) a (filter test xs) refl (filtered_again xs)
 
@@ -33,7 +33,7 @@ module _ {A : Type 0} (test : A → Bool) where
   first_passes true x a left h is later = let same : x ≡ a = cc in ap test (sym same) ∙ h
   first_passes false x a left h is later = later is
 
-  passes : (xs : List A) (a : A) → filter test xs ≡ a ∷ [] → test a ≡ true
+  pub passes : (xs : List A) (a : A) → filter test xs ≡ a ∷ [] → test a ≡ true
   passes [] a is = absurd (cc)
   passes (x ∷ xs) a is = first_passes (test x) x a (filter test xs) refl is (passes xs a)
 
@@ -43,7 +43,7 @@ module _ {A : Type 0} (test other : A → Bool) (apart : (a : A) → test a ≡ 
   none_kept true a left is later = rw (apart a is) later
   none_kept false a left is later = later
 
-  none_of_others : (xs : List A) → filter other (filter test xs) ≡ []
+  pub none_of_others : (xs : List A) → filter other (filter test xs) ≡ []
   none_of_others [] = refl
   none_of_others (a ∷ xs) = none_kept (test a) a (filter test xs) refl (none_of_others xs)
 
@@ -52,12 +52,12 @@ module _ {A B : Type 0} (test : A → Bool) (select : A → Option B) (nothing :
   none_more true a left is later = rw (nothing a is) later
   none_more false a left is later = later
 
-  none_selected : (xs : List A) → filter_map select (filter test xs) ≡ []
+  pub none_selected : (xs : List A) → filter_map select (filter test xs) ≡ []
   none_selected [] = refl
   none_selected (a ∷ xs) = none_more (test a) a (filter test xs) refl (none_selected xs)
 
 -- a common statement is no entry of a net, and no component
-no_net_entry : (name : List ℕ) (r : Record) → is_common r ≡ true → is_of_net name r ≡ false
+pub no_net_entry : (name : List ℕ) (r : Record) → is_common r ≡ true → is_of_net name r ≡ false
 no_net_entry name (top t) h = refl
 no_net_entry name (in_properties p) h = refl
 no_net_entry name (end_section s) h = refl
@@ -72,7 +72,7 @@ no_net_entry name (entry (records.via x)) h = refl
 no_net_entry name (entry (records.rule x)) h = refl
 no_net_entry name (entry (records.skipped s x)) h = refl
 
-no_net : (r : Record) → is_common r ≡ true → net_of_record r ≡ None
+pub no_net : (r : Record) → is_common r ≡ true → net_of_record r ≡ None
 no_net (top t) h = refl
 no_net (in_properties p) h = refl
 no_net (end_section s) h = refl
@@ -87,7 +87,7 @@ no_net (entry (records.via x)) h = refl
 no_net (entry (records.rule x)) h = refl
 no_net (entry (records.skipped s x)) h = refl
 
-no_component : (r : Record) → is_common r ≡ true → component_of r ≡ None
+pub no_component : (r : Record) → is_common r ≡ true → component_of r ≡ None
 no_component (top t) h = refl
 no_component (in_properties p) h = refl
 no_component (end_section s) h = refl
@@ -103,12 +103,12 @@ no_component (entry (records.rule x)) h = refl
 no_component (entry (records.skipped s x)) h = refl
 
 -- an entry of a net is nothing else, and has the net's name
-record IsEntryOf (name : List ℕ) (r : Record) : Type 0 where
-  not_common : is_common r ≡ false
-  no_component : component_of r ≡ None
-  net_is : net_of_record r ≡ Some name
+pub record IsEntryOf (name : List ℕ) (r : Record) : Type 0 where
+  pub not_common : is_common r ≡ false
+  pub no_component : component_of r ≡ None
+  pub net_is : net_of_record r ≡ Some name
 
-is_entry_of : (name : List ℕ) (r : Record) → is_of_net name r ≡ true → IsEntryOf name r
+pub is_entry_of : (name : List ℕ) (r : Record) → is_of_net name r ≡ true → IsEntryOf name r
 is_entry_of name (top t) h = absurd (cc)
 is_entry_of name (in_properties p) h = absurd (cc)
 is_entry_of name (end_section s) h = absurd (cc)

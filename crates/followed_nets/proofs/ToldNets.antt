@@ -1,22 +1,25 @@
--- What is told of nets, one after the other; what is noted of the statements of a text; and which nets list a component.
-use Rattle.std.proofs.Common.{◌≡◌, ◌∙◌, ◌<◌, ◌+◌, ◌||◌, ◌&&◌, ℕ, Bool, true, false, not, List, [], ◌∷◌, ◌++◌, drop, get_or, length, map, filter, append_assoc, Option, Some, None, refl, sym, ap, ap₂, subst, if◌then◌else◌}
-use Rattle.std.specs.Prelude.{flat_map}
+-- What is told of nets, one after the other; and which nets list a component.
+use Rattle.std.proofs.Common.{◌≡◌, ◌∙◌, ◌<◌, ◌+◌, ◌||◌, ◌&&◌, ℕ, Bool, true, false, not, List, [], ◌∷◌, ◌++◌, drop, get_or, length, map, append_assoc, Some, None, refl, sym, ap, ap₂, subst}
 use Rattle.std.specs.List.{AllByRecursion, list_any}
 use Rattle.std.specs.Str.{bytes_eq}
 use Rattle.std.proofs.lemmas.List.{drop_more, map-append}
+use Rattle.std.proofs.lemmas.List.Folds.{list_any-append}
 use Rattle.std.proofs.lemmas.Slice.Eq.{bytes_eq-Decides}
-use Rattle.design_model.specs.declared.identifier.StmtId.{StmtId}
-use Rattle.form_meanings.specs.Words.{is_word}
 use Rattle.def_grammar.specs.Records.{Record}
 use Rattle.def_grammar.specs.Terminals.{Terminal, is_of_all, is_of_design, is_virtual}
 use Rattle.lef_grammar.specs.Library.{Library}
+use Rattle.connection_rules.specs.NetParts.{Net}
+use Rattle.design_rules.specs.Boxes.{scale}
 use Rattle.net_laws.specs.NetChanges.{is_one_of}
 use Rattle.net_laws.specs.NetExchanges.{finds}
-use Rattle.net_laws.specs.NetsTold.{is_common, is_of_net, terminals_in, terminals_of}
+use Rattle.net_laws.specs.NetsTold.{terminals_in}
+use Rattle.net_laws.specs.StarNets.{pins_by_one}
 use Rattle.net_laws.specs.Within.{NoOtherLists, finds_it}
 use Rattle.followed_nets.specs.Exchanging.{AreToldIn, name_of}
 use Rattle.followed_nets.specs.Listed.{AreListing, is_pin_of}
+use Rattle.followed_nets.specs.Stars.{AreStarNames, names_of}
 use Rattle.followed_nets.specs.Told.{IsToldIn, Told}
+use Rattle.followed_nets.specs.Touched.{ArePinsBy, AreTouched, StarPins, star_names}
 
 -- neither the first nor a later one passes a test
 none_of_both : (b c : Bool) → (b || c) ≡ false → (b ≡ false) × (c ≡ false)
@@ -44,19 +47,27 @@ module _ (library : Library) (design : List Record) where
       ∙ ap (λ (l : List (List ℕ)). map name_of ts ++ l) (ap (λ (name : List ℕ). name ∷ drop (i + 1) names) (named_so n t is ∙ at) ∙ sym (drop_more names i n below))
       ∙ named
 
--- none of the terminals of some statements, one after the other
-none_among : (p : Terminal → Bool) (ts bs : List Terminal) → list_any p ts ≡ false → list_any p bs ≡ false → list_any p (ts ++ bs) ≡ false
-none_among p [] bs h g = g
-none_among p (a ∷ ts) bs h g =
-    let both = none_of_both (p a) (list_any p ts) h in
-    ap (λ (b : Bool). b || list_any p (ts ++ bs)) both.0 ∙ none_among p ts bs both.1 g
+-- the pins of nets by one component
+module _ (library : Library) (design : List Record) (component : List ℕ) where
+  abbrev IsPinsBy : StarPins → Type 0
+  IsPinsBy p = p.pins ≡ pins_by_one library design (scale design) p.name component
 
-pub no_stars_said : (records : List (StmtId × Record)) → list_any (λ (x : StmtId × Record). list_any is_of_all (terminals_of x.1)) records ≡ false
-    → list_any is_of_all (flat_map terminals_of (map (λ (x : StmtId × Record). x.1) records)) ≡ false
-no_stars_said [] h = refl
-no_stars_said (x ∷ records) h =
-    let both = none_of_both (list_any is_of_all (terminals_of x.1)) (list_any (λ (y : StmtId × Record). list_any is_of_all (terminals_of y.1)) records) h in
-    none_among is_of_all (terminals_of x.1) (flat_map terminals_of (map (λ (y : StmtId × Record). y.1) records)) both.0 (no_stars_said records both.1)
+  pub one_more_star : (ps : List StarPins) (n : List ℕ) (p : StarPins) → ArePinsBy library design component ps → p.name ≡ n → p.pins ≡ pins_by_one library design (scale design) n component
+      → ArePinsBy library design component (ps ++ p ∷ [])
+  one_more_star ps n p are named is = all_and_one IsPinsBy ps p are (is ∙ ap (λ (name : List ℕ). pins_by_one library design (scale design) name component) (sym named))
+
+pub one_more_star_named : (ps : List StarPins) (stars : List Net) (i : ℕ) (s : Net) (p : StarPins) → i < length stars → s ≡ get_or stars i s → p.name ≡ s.name
+    → star_names ps ++ names_of (drop i stars) ≡ names_of stars → star_names (ps ++ p ∷ []) ++ names_of (drop (i + 1) stars) ≡ names_of stars
+one_more_star_named ps stars i s p below at is named =
+    ap (λ (l : List (List ℕ)). l ++ names_of (drop (i + 1) stars)) (map-append (λ (q : StarPins). q.name) ps (p ∷ []))
+    ∙ append_assoc (star_names ps) (p.name ∷ []) (names_of (drop (i + 1) stars))
+    ∙ ap (λ (l : List (List ℕ)). star_names ps ++ l) (ap (λ (name : List ℕ). name ∷ names_of (drop (i + 1) stars)) (is ∙ ap (λ (n : Net). n.name) at) ∙ ap names_of (sym (drop_more stars i s below)))
+    ∙ named
+
+-- the first of two tests is found where the second is not
+of_first : (a b : Bool) → a ≡ b → (b ≡ true → ⊥) → a ≡ false
+of_first a true is other = absurd (other refl)
+of_first a false is other = is
 
 -- without pins of all components, a net that lists a component does so by its name
 module _ (name : List ℕ) (no_pin : is_of_design (record { owner = name; pin = []; is_synthesized = false }) ≡ false) (no_virtual : is_virtual (record { owner = name; pin = []; is_synthesized = false }) ≡ false) where
@@ -80,26 +91,16 @@ module _ (name : List ℕ) (no_pin : is_of_design (record { owner = name; pin = 
       let both = none_of_both (is_of_all t) (list_any is_of_all ts) h in
       ap₂ (λ (a b : Bool). a || b) (same_test t (bytes_eq t.owner name) both.0 refl) (same_tests ts both.1)
 
-  -- the terminals of a net are among those of all statements
-  few_of : (p : Terminal → Bool) (net : List ℕ) (design : List Record) → list_any p (flat_map terminals_of design) ≡ false → list_any p (terminals_in design net) ≡ false
-  few_of p net [] h = refl
-  few_of p net (r ∷ design) h = one (is_of_net net r) (none_first (terminals_of r) h) (few_of p net design (none_later (terminals_of r) h))
+  pub no_other_lists : (design : List Record) (nets stars listing : List (List ℕ)) → AreStarNames design stars → AreListing design name listing
+      → ((net : List ℕ) → is_one_of listing net ≡ true → is_one_of (nets ++ stars) net ≡ true) → NoOtherLists design (nets ++ stars) (Some name)
+  no_other_lists design nets stars listing names listed cover net out =
+      let apart = none_of_both (is_one_of nets net) (is_one_of stars net) (sym (list_any-append (λ n. bytes_eq n net) nets stars) ∙ out) in
+      same_tests (terminals_in design net) (names.all net apart.1)
+      ∙ listed net (of_first (is_one_of listing net) (is_one_of listing net) refl (λ there. differ (is_one_of (nets ++ stars) net) (cover net there) out))
     where
-      none_first : (ts : List Terminal) → list_any p (ts ++ flat_map terminals_of design) ≡ false → list_any p ts ≡ false
-      none_first [] g = refl
-      none_first (t ∷ ts) g = let both = none_of_both (p t) (list_any p (ts ++ flat_map terminals_of design)) g in ap (λ (b : Bool). b || list_any p ts) both.0 ∙ none_first ts both.1
-
-      none_later : (ts : List Terminal) → list_any p (ts ++ flat_map terminals_of design) ≡ false → list_any p (flat_map terminals_of design) ≡ false
-      none_later [] g = g
-      none_later (t ∷ ts) g = none_later ts (none_of_both (p t) (list_any p (ts ++ flat_map terminals_of design)) g).1
-
-      one : (b : Bool) → list_any p (terminals_of r) ≡ false → list_any p (flat_map terminals_of (filter (is_of_net net) design)) ≡ false
-          → list_any p (flat_map terminals_of (if b then r ∷ filter (is_of_net net) design else filter (is_of_net net) design)) ≡ false
-      one true h g = none_among p (terminals_of r) (flat_map terminals_of (filter (is_of_net net) design)) h g
-      one false h g = g
-
-  pub no_other_lists : (design : List Record) (nets : List (List ℕ)) → list_any is_of_all (flat_map terminals_of design) ≡ false → AreListing design name nets → NoOtherLists design nets (Some name)
-  no_other_lists design nets stars listing net out = same_tests (terminals_in design net) (few_of is_of_all net design stars) ∙ listing net out
+      differ : (b : Bool) → b ≡ true → b ≡ false → ⊥
+      differ true h g = cc
+      differ false h g = cc
 
 -- no component is listed by no net
 pub none_lists : (design : List Record) (nets : List (List ℕ)) → NoOtherLists design nets None
@@ -108,3 +109,10 @@ none_lists design nets net out = none (terminals_in design net)
     none : (ts : List Terminal) → list_any (finds_it None) ts ≡ false
     none [] = refl
     none (t ∷ ts) = none ts
+
+-- an edit that changes no net touches none
+pub none_touched : (library : Library) (design : List Record) (names : List (List ℕ)) (before : List Told) → names ≡ [] → before ≡ [] → AreTouched library design (record { names = names; component = None; before = before; stars = [] })
+none_touched library design names before n b =
+    subst (λ (ns : List (List ℕ)). AreTouched library design (record { names = ns; component = None; before = before; stars = [] })) (sym n)
+    (subst (λ (bs : List Told). AreTouched library design (record { names = []; component = None; before = bs; stars = [] })) (sym b)
+    (record { apart = tt; lists = none_lists design []; told = tt; named = refl; pins = refl }))

@@ -1,23 +1,28 @@
 -- Statements within some nets, which an edit exchanges one exchange after the other.
-use Rattle.std.proofs.Common.{◌≡◌, ◌≤◌, ◌+◌, ℕ, Bool, true, false, not, ◌||◌, List, [], ◌∷◌, ◌++◌, drop, filter, length, map, slice_get, Option, Some, refl, sym, ap, ap₂, subst, ◌∙◌}
+use Rattle.std.proofs.Common.{◌≡◌, ◌≤◌, ◌+◌, ℕ, Bool, true, false, not, ◌||◌, List, [], ◌∷◌, ◌++◌, drop, filter, length, map, slice_get, Option, Some, refl, sym, ap, ap₂, subst, ◌∙◌, if◌then◌else◌}
 use Rattle.std.specs.Prelude.{flat_map}
 use Rattle.std.specs.List.{AllByRecursion, list_any}
 use Rattle.std.proofs.lemmas.Grind.{flat_map-append}
+use Rattle.std.proofs.lemmas.List.Elements.{filter-append}
 use Rattle.std.proofs.lemmas.List.{drop_all, drop_more, map-append}
 use Rattle.std.proofs.lemmas.List.Folds.{list_any-append}
 use Rattle.std.proofs.lemmas.Option.{get_or_from_slice_get, slice_get_within}
 use Rattle.design_model.specs.declared.identifier.StmtId.{StmtId}
-use Rattle.def_grammar.specs.Records.{Record}
+use Rattle.def_grammar.specs.Nets.{is_net, must_join}
+use Rattle.def_grammar.specs.Records as records
+use Rattle.def_grammar.specs.Records.{Record, end_section, entry, in_properties, top}
 use Rattle.def_grammar.specs.Terminals.{Terminal, is_of_all}
 use Rattle.net_laws.specs.NetChanges.{AgreeApart, ApartOnAndOn, is_one_of}
-use Rattle.net_laws.specs.NetsTold.{FindsAlike, is_common, terminals_in, terminals_of}
+use Rattle.net_laws.specs.NetsTold.{FindsAlike, is_common, is_of_net, terminals_in, terminals_of}
+use Rattle.net_laws.specs.StarNets.{AgreeOnAndOn, OneExchangedAgree}
 use Rattle.net_laws.specs.Within.{AreWithin, NoOtherLists, WithinApart, is_within}
 use Rattle.net_laws.proofs.Selecting.{exchanged_alike, none_of_both}
 use Rattle.net_laws.proofs.Within.{none_common}
 use Rattle.text_pieces.specs.KeptRecords.{record_of, records_under}
 use Rattle.text_pieces.specs.Tables.{Kept, kept_at}
 use Rattle.design_text.specs.Exchanges.{AreExchanges, Exchanged, IsExchange}
-use Rattle.followed_nets.specs.Noted.{IsNoted, Note, said}
+use Rattle.followed_nets.specs.Noted.{AreCommon, said}
+use Rattle.followed_nets.specs.Within.{Cover, Leaves}
 
 -- a design agrees with itself apart from any nets
 finds_itself : (design : List Record) (ts : List Terminal) → AllByRecursion (FindsAlike design design) ts
@@ -39,11 +44,57 @@ stars rs = list_any is_of_all (flat_map terminals_of rs)
 stars-append : (xs ys : List Record) → stars (xs ++ ys) ≡ (stars xs || stars ys)
 stars-append xs ys = ap (list_any is_of_all) (flat_map-append terminals_of xs ys) ∙ list_any-append is_of_all (flat_map terminals_of xs) (flat_map terminals_of ys)
 
-no_stars : (xs ys : List Record) → stars xs ≡ false → stars ys ≡ false → stars (xs ++ ys) ≡ false
-no_stars xs ys g h = stars-append xs ys ∙ ap₂ (λ (a b : Bool). a || b) g h
-
 stars_of_both : (xs ys : List Record) → stars (xs ++ ys) ≡ false → (stars xs ≡ false) × (stars ys ≡ false)
 stars_of_both xs ys h = none_of_both (stars xs) (stars ys) (sym (stars-append xs ys) ∙ h)
+
+-- a net whose entries come from several places lists none where none of these does
+module _ (net : List ℕ) where
+  abbrev of_net : List Record → List Record
+  of_net rs = filter (is_of_net net) rs
+
+  of_both : (xs ys : List Record) → stars (of_net xs) ≡ false → stars (of_net ys) ≡ false → stars (of_net (xs ++ ys)) ≡ false
+  of_both xs ys g h = ap stars (filter-append (is_of_net net) xs ys) ∙ stars-append (of_net xs) (of_net ys) ∙ ap₂ (λ (a b : Bool). a || b) g h
+
+  each_of_both : (xs ys : List Record) → stars (of_net (xs ++ ys)) ≡ false → (stars (of_net xs) ≡ false) × (stars (of_net ys) ≡ false)
+  each_of_both xs ys h = stars_of_both (of_net xs) (of_net ys) (ap stars (sym (filter-append (is_of_net net) xs ys)) ∙ h)
+
+  fewer : (xs : List Record) → stars xs ≡ false → stars (of_net xs) ≡ false
+  fewer [] h = refl
+  fewer (x ∷ xs) h =
+      let parts = stars_of_both (x ∷ []) xs h in
+      one (is_of_net net x) parts.0 (fewer xs parts.1)
+    where
+      one : (b : Bool) → stars (x ∷ []) ≡ false → stars (of_net xs) ≡ false → stars (if b then x ∷ of_net xs else of_net xs) ≡ false
+      one true g h = stars-append (x ∷ []) (of_net xs) ∙ ap₂ (λ (a b : Bool). a || b) g h
+      one false g h = h
+
+-- statements within some nets are within more
+module _ (nets more : List (List ℕ)) (component : Option (List ℕ)) (cover : Cover more nets) where
+  covered : (name : List ℕ) (b : Bool) → is_one_of nets name ≡ b → not b ≡ false → not (is_one_of more name) ≡ false
+  covered name true is h = ap not (cover name is)
+  covered name false is h = absurd (cc)
+
+  within_more : (r : Record) → not (is_within nets component r) ≡ false → not (is_within more component r) ≡ false
+  within_more (top t) h = h
+  within_more (in_properties p) h = h
+  within_more (end_section s) h = h
+  within_more (entry (records.component x)) h = h
+  within_more (entry (records.pin x)) h = h
+  within_more (entry (records.region x)) h = h
+  within_more (entry (records.group x)) h = h
+  within_more (entry (records.blockage x)) h = h
+  within_more (entry (records.net (is_net n))) h = covered n.name (is_one_of nets n.name) refl h
+  within_more (entry (records.net (must_join x))) h = h
+  within_more (entry (records.special_net n)) h = covered n.name (is_one_of nets n.name) refl h
+  within_more (entry (records.via x)) h = h
+  within_more (entry (records.rule x)) h = h
+  within_more (entry (records.skipped s x)) h = h
+
+  all_within_more : (rs : List Record) → AreWithin nets component rs → AreWithin more component rs
+  all_within_more [] h = refl
+  all_within_more (r ∷ rs) h =
+      let both = none_of_both (not (is_within nets component r)) (list_any (λ (x : Record). not (is_within nets component x)) rs) h in
+      ap₂ (λ (a b : Bool). a || b) (within_more r both.0) (all_within_more rs both.1)
 
 -- one of some exchanges, and those behind it
 pub next_of : (slots : List (Option Kept)) (old last : List (StmtId × Record)) (xs : List Exchanged) (n : ℕ) (x : Exchanged) → Some x ≡ slice_get xs n → AreExchanges slots old (drop n xs) last
@@ -109,7 +160,7 @@ module _ (nets : List (List ℕ)) (component : Option (List ℕ)) where
     none_numbered ids w = any_said is_common (these ids) ∙ none_common nets component (say ids) w.are
 
     -- one exchange
-    module _ (law : WithinApart) (old new : List (StmtId × Record)) (x : Exchanged) (e : IsExchange slots old new x) (goes : Within (say x.went)) (comes : Within (say x.came)) where
+    module _ (law : WithinApart) (but : OneExchangedAgree) (old new : List (StmtId × Record)) (x : Exchanged) (e : IsExchange slots old new x) (goes : Within (say x.went)) (comes : Within (say x.came)) where
       old_said : said old ≡ say e.front ++ (say x.went ++ say e.rest)
       old_said = ap said e.old_is ∙ said_parted e.front x.went e.rest
 
@@ -123,58 +174,78 @@ module _ (nets : List (List ℕ)) (component : Option (List ℕ)) where
           ∙ exchanged_alike (λ (y : StmtId × Record). is_common y.1) (these e.front) (these x.went) (these x.came) (these e.rest) (none_numbered x.went goes) (none_numbered x.came comes)
           ∙ ap f (sym (e.new_is ∙ parted e.front x.came e.rest))
 
-      still_noted : (common : Note) → IsNoted old common → IsNoted new common
-      still_noted common noted =
-          record {
-            common_are = noted.common_are ∙ ap (map (λ (y : StmtId × Record). y.0)) same_common;
-            no_stars = λ none.
-                let before = stars_of_both (say e.front) (say x.went ++ say e.rest) (ap stars (sym old_said) ∙ noted.no_stars none) in
-                let behind = stars_of_both (say x.went) (say e.rest) before.1 in
-                ap stars new_said ∙ no_stars (say e.front) (say x.came ++ say e.rest) before.0 (no_stars (say x.came) (say e.rest) comes.stars_are behind.1);
-          }
+      leaves : Leaves (said old) (said new) nets component
+      leaves = record {
+        apart = λ more cover lists.
+            rw (old_said, new_said)
+            (law (say e.front) (say x.went) (say x.came) (say e.rest) more component (subst (λ (rs : List Record). NoOtherLists rs more component) old_said lists)
+            (all_within_more nets more component cover (say x.went) goes.are)
+            (all_within_more nets more component cover (say x.came) comes.are));
+        but = λ name net none is.
+            rw (old_said, new_said)
+            (but (say e.front) (say x.went) (say x.came) (say e.rest) name
+            (subst (λ (ns : List (List ℕ)). AreWithin ns (Some name) (say x.went)) none (subst (λ (c : Option (List ℕ)). AreWithin nets c (say x.went)) is goes.are))
+            (subst (λ (ns : List (List ℕ)). AreWithin ns (Some name) (say x.came)) none (subst (λ (c : Option (List ℕ)). AreWithin nets c (say x.came)) is comes.are))
+            net);
+        no_stars = λ net none.
+            let before = each_of_both net (say e.front) (say x.went ++ say e.rest) (ap (λ (rs : List Record). stars (of_net net rs)) (sym old_said) ∙ none) in
+            let behind = each_of_both net (say x.went) (say e.rest) before.1 in
+            ap (λ (rs : List Record). stars (of_net net rs)) new_said
+            ∙ of_both net (say e.front) (say x.came ++ say e.rest) before.0 (of_both net (say x.came) (say e.rest) (fewer net (say x.came) comes.stars_are) behind.1);
+      }
 
-      exchanged : NoOtherLists (said old) nets component → AgreeApart (said old) (said new) (is_one_of nets) × NoOtherLists (said new) nets component
-      exchanged lists =
-          rw (old_said, new_said)
-          (law (say e.front) (say x.went) (say x.came) (say e.rest) nets component (subst (λ (rs : List Record). NoOtherLists rs nets component) old_said lists) goes.are comes.are)
-
-    pub exchange_within : WithinApart → (old new : List (StmtId × Record)) (common : Note) (x : Exchanged) → list_any outside (kept x.went) ≡ false → list_any outside (kept x.came) ≡ false → IsExchange slots old new x
-        → NoOtherLists (said old) nets component → IsNoted old common → AgreeApart (said old) (said new) (is_one_of nets) × NoOtherLists (said new) nets component × IsNoted new common
-    exchange_within law old new common x goes comes e lists noted =
+    pub exchange_within : WithinApart → OneExchangedAgree → (old new : List (StmtId × Record)) (common : List StmtId) (x : Exchanged) → list_any outside (kept x.went) ≡ false → list_any outside (kept x.came) ≡ false
+        → IsExchange slots old new x → AreCommon old common → Leaves (said old) (said new) nets component × AreCommon new common
+    exchange_within law but old new common x goes comes e noted =
         let w = within_said x.went goes in
         let c = within_said x.came comes in
-        let both = exchanged law old new x e w c lists in
-        (both.0, both.1, still_noted law old new x e w c common noted)
+        (leaves law but old new x e w c, noted ∙ ap (map (λ (y : StmtId × Record). y.0)) (same_common law but old new x e w c))
 
-    -- Some exchanges are left: whatever statements all began with, these begin with some that agree with those apart from the nets.
+    -- Some exchanges are left: whatever statements all began with, these begin with some that leave what those left.
     abbrev pub StaysWithin : List Exchanged → List Exchanged → List (StmtId × Record) → Type 0
-    StaysWithin all left last = (old : List (StmtId × Record)) (common : Note) → AreExchanges slots old all last → NoOtherLists (said old) nets component → IsNoted old common
+    StaysWithin all left last = (old : List (StmtId × Record)) (common : List StmtId) → AreExchanges slots old all last → AreCommon old common
         → (between : List (StmtId × Record))
         × AreExchanges slots between left last
-        × AgreeApart (said old) (said between) (is_one_of nets)
-        × NoOtherLists (said between) nets component
-        × IsNoted between common
+        × Leaves (said old) (said between) nets component
+        × AreCommon between common
 
     pub none_yet : (all : List Exchanged) (last : List (StmtId × Record)) → StaysWithin all all last
-    none_yet all last old common made lists noted = (old, made, agrees (said old) (is_one_of nets), lists, noted)
+    none_yet all last old common made noted = (
+      old,
+      made,
+      record {
+        apart = λ more cover lists. (agrees (said old) (is_one_of more), lists);
+        but = λ name net none is. record { common = refl; entries = refl; components = refl };
+        no_stars = λ net none. none;
+      },
+      noted,
+    )
 
     -- what is known of one exchange
     abbrev pub StepStays : Exchanged → Type 0
-    StepStays x = (old new : List (StmtId × Record)) (common : Note) → IsExchange slots old new x → NoOtherLists (said old) nets component → IsNoted old common
-        → AgreeApart (said old) (said new) (is_one_of nets) × NoOtherLists (said new) nets component × IsNoted new common
+    StepStays x = (old new : List (StmtId × Record)) (common : List StmtId) → IsExchange slots old new x → AreCommon old common → Leaves (said old) (said new) nets component × AreCommon new common
 
-    pub one_more : ApartOnAndOn → (all : List Exchanged) (last : List (StmtId × Record)) (n : ℕ) (x : Exchanged) → Some x ≡ slice_get all n → StepStays x
+    on_and_on : ApartOnAndOn → AgreeOnAndOn → (a b c : List Record) → Leaves a b nets component → Leaves b c nets component → Leaves a c nets component
+    on_and_on apart but a b c f g = record {
+      apart = λ more cover lists.
+          let first = f.apart more cover lists in
+          let second = g.apart more cover first.1 in
+          (apart a b c (is_one_of more) first.0 second.0, second.1);
+      but = λ name net none is. but a b c net name (f.but name net none is) (g.but name net none is);
+      no_stars = λ net none. g.no_stars net (f.no_stars net none);
+    }
+
+    pub one_more : ApartOnAndOn → AgreeOnAndOn → (all : List Exchanged) (last : List (StmtId × Record)) (n : ℕ) (x : Exchanged) → Some x ≡ slice_get all n → StepStays x
         → StaysWithin all (drop n all) last → StaysWithin all (drop (n + 1) all) last
-    one_more on_and_on all last n x is step stays old common made lists noted =
-        let before = stays old common made lists noted in
+    one_more apart but all last n x is step stays old common made noted =
+        let before = stays old common made noted in
         let next = next_of slots before.0 last all n x is before.1 in
-        let after = step before.0 next.0 common next.1 before.3 before.4 in
-        (next.0, next.2, on_and_on (said old) (said before.0) (said next.0) (is_one_of nets) before.2 after.0, after.1, after.2)
+        let after = step before.0 next.0 common next.1 before.3 in
+        (next.0, next.2, on_and_on apart but (said old) (said before.0) (said next.0) before.2 after.0, after.1)
 
     pub in_the_end : (all : List Exchanged) (last : List (StmtId × Record)) (n : ℕ) → length all ≤ n → StaysWithin all (drop n all) last
-        → (old : List (StmtId × Record)) (common : Note) → AreExchanges slots old all last → NoOtherLists (said old) nets component → IsNoted old common
-        → AgreeApart (said old) (said last) (is_one_of nets) × IsNoted last common
-    in_the_end all last n done stays old common made lists noted =
-        let at_last = stays old common made lists noted in
+        → (old : List (StmtId × Record)) (common : List StmtId) → AreExchanges slots old all last → AreCommon old common → Leaves (said old) (said last) nets component × AreCommon last common
+    in_the_end all last n done stays old common made noted =
+        let at_last = stays old common made noted in
         let same : last ≡ at_last.0 = subst (λ (ys : List Exchanged). AreExchanges slots at_last.0 ys last) (drop_all n all done) at_last.1 in
-        (subst (λ (rs : List (StmtId × Record)). AgreeApart (said old) (said rs) (is_one_of nets)) (sym same) at_last.2, subst (λ (rs : List (StmtId × Record)). IsNoted rs common) (sym same) at_last.4)
+        (subst (λ (rs : List (StmtId × Record)). Leaves (said old) (said rs) nets component) (sym same) at_last.2, subst (λ (rs : List (StmtId × Record)). AreCommon rs common) (sym same) at_last.3)

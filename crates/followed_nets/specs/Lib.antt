@@ -3,6 +3,9 @@ pub mod FollowedNets
 pub mod Listed
 pub mod Noted
 pub mod Owners
+pub mod StarExchanges
+pub mod Stars
 pub mod Told
 pub mod ToldViews
 pub mod Touched
+pub mod Within

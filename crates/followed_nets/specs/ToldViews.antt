@@ -1,8 +1,20 @@
 -- What is told of a net in the program as in the definitions.
-use Rattle.std.specs.Prelude.{map}
+use Rattle.std.specs.Prelude.{List, [], Option, Some, None, map}
+use Rattle.kept_nets.specs.Parts.{part_view}
 use Rattle.net_lists.specs.PartCuts.{shape_view}
 use Rattle.followed_nets.specs.Told.{Told}
+use Rattle.followed_nets.specs.Touched.{StarPins}
 use Rattle.followed_nets.specs.declared.told.ToldNet.{ToldNet}
+use Rattle.followed_nets.specs.declared.touched.ToldStar.{ToldStar}
+use Rattle.followed_nets.specs.declared.touched.TouchedComponent.{TouchedComponent}
 
 abbrev pub told_view : {A : Type 0} → ToldNet A → Told
 told_view t = record { name = t.name.items; lines = t.lines; shapes = map shape_view t.shapes.items }
+
+abbrev pub star_view : {A : Type 0} → ToldStar A → StarPins
+star_view s = record { name = s.name; pins = map part_view s.pins.items }
+
+-- what a component that is touched is to the nets that list a pin of all
+abbrev pub stars_of : {A : Type 0} → Option (TouchedComponent A) → List StarPins
+stars_of None = []
+stars_of (Some c) = map star_view c.stars.items

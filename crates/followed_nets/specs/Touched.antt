@@ -1,12 +1,15 @@
 -- Nets that an edit is about to change, and what follows of the others.
-use Rattle.std.specs.Prelude.{◌≡◌, ℕ, List, Option, map}
+use Rattle.std.specs.Prelude.{◌≡◌, ℕ, List, [], ◌++◌, Option, Some, None, map}
+use Rattle.std.specs.List.{AllByRecursion}
 use Rattle.design_model.specs.declared.identifier.StmtId.{StmtId}
 use Rattle.design_model.specs.Order.{sorted_by_bytes}
 use Rattle.def_grammar.specs.Records.{Record}
 use Rattle.lef_grammar.specs.Library.{Library}
 use Rattle.connection_rules.specs.NetLines.{net_lines}
+use Rattle.connection_rules.specs.NetParts.{Part}
 use Rattle.design_rules.specs.Boxes.{scale}
 use Rattle.kept_lines.specs.Kept.{Kept}
+use Rattle.net_laws.specs.StarNets.{pins_by_one}
 use Rattle.net_laws.specs.Within.{NoOtherLists}
 use Rattle.followed_nets.specs.Exchanging.{AreToldIn, name_of}
 use Rattle.followed_nets.specs.FollowedNets.{HasNets, Nets}
@@ -14,18 +17,36 @@ use Rattle.followed_nets.specs.Listed.{AreApart}
 use Rattle.followed_nets.specs.Noted.{said}
 use Rattle.followed_nets.specs.Told.{Told}
 
--- their names; the component that the edit is of, if it is of one; and what is told of each net
+-- the pins of a net by one component
+pub record StarPins : Type 0 where
+  pub name : List ℕ
+  pub pins : List Part
+
+-- the names of nets; the component that the edit is of, if it is of one; what is told of each of the nets; and what that component is to
+-- the nets that list a pin of all
 pub record Touched : Type 0 where
   pub names : List (List ℕ)
   pub component : Option (List ℕ)
   pub before : List Told
+  pub stars : List StarPins
 
--- no name stands twice, no other net lists the component, and what is told are these nets of a design
+abbrev pub star_names : List StarPins → List (List ℕ)
+star_names stars = map (λ (s : StarPins). s.name) stars
+
+abbrev pub ArePinsBy : Library → List Record → List ℕ → List StarPins → Type 0
+ArePinsBy library design component stars = AllByRecursion (λ (s : StarPins). s.pins ≡ pins_by_one library design (scale design) s.name component) stars
+
+abbrev pub ArePinsOf : Library → List Record → Option (List ℕ) → List StarPins → Type 0
+ArePinsOf library design None stars = stars ≡ []
+ArePinsOf library design (Some component) stars = ArePinsBy library design component stars
+
+-- no name stands twice, no other net lists the component, and what is told is of these nets of a design
 pub record AreTouched (library : Library) (design : List Record) (t : Touched) : Type 0 where
-  pub apart : AreApart t.names
-  pub lists : NoOtherLists design t.names t.component
+  pub apart : AreApart (t.names ++ star_names t.stars)
+  pub lists : NoOtherLists design (t.names ++ star_names t.stars) t.component
   pub told : AreToldIn library design t.before
   pub named : map name_of t.before ≡ t.names
+  pub pins : ArePinsOf library design t.component t.stars
 
 -- nets are those of numbered statements, and kept lines are those on them
 pub record AreFollowed (library : Library) (records : List (StmtId × Record)) (n : Nets) (kept : Kept) : Type 0 where

@@ -24,7 +24,7 @@ use report_lines::Lines;
 use std::alloc::{AllocError, Allocator};
 
 /// How many lines an exchange may move in all: beyond that, making them anew is sooner done.
-const MOST_MOVED: usize = 268435456;
+pub(crate) const MOST_MOVED: usize = 268435456;
 
 /// Takes the shapes of a net out, and gives the lines on it by itself and those of its shapes with the others; `None` where they weren't
 /// all there.

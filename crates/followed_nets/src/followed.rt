@@ -1,53 +1,43 @@
 //! The nets of a text that are noted, and the lines on them that follow.
 
-ghost use Rattle.std.specs.Prelude.{◌≡◌, false, true, filter, IfOk, IfSome, IsTrue, List, map};
-ghost use Rattle.std.specs.List.{list_any};
+ghost use Rattle.std.specs.Prelude.{◌≡◌, ◌++◌, ℕ, false, true, IfOk, IfSome, IsTrue, List, Some, map};
+ghost use Rattle.std.specs.List.{AllByRecursion};
 ghost use Rattle.std.specs.Option.{option_map};
 ghost use Rattle.design_model.specs.declared.identifier.StmtId.{StmtId as Number};
 ghost use Rattle.def_grammar.specs.Records.{Record};
-ghost use Rattle.def_grammar.specs.Terminals.{is_of_all};
-ghost use Rattle.def_reader.specs.StatementViews.{record_view};
-ghost use Rattle.design_rules.specs.Boxes.{scale};
-ghost use Rattle.connection_rules.specs.NetParts.{all_nets};
-ghost use Rattle.line_laws.specs.Lines.{SameThings};
-ghost use Rattle.named_shapes.specs.Named.{shapes_by_name};
-ghost use Rattle.net_laws.specs.NetsTold.{is_common, terminals_of};
-ghost use Rattle.net_laws.specs.NetChanges.{AgreeApart, is_one_of};
+ghost use Rattle.connection_rules.specs.NetParts.{Net};
+ghost use Rattle.net_laws.specs.NetChanges.{is_one_of};
 ghost use Rattle.net_laws.specs.Within.{NoOtherLists};
-ghost use Rattle.design_tables.specs.TableViews.{numbered_view};
 ghost use Rattle.design_text.specs.DesignTexts.{design_of};
 ghost use Rattle.design_text.specs.Exchanges.{AreExchanges, records_in};
-ghost use Rattle.followed_nets.specs.Exchanging.{AreToldIn, name_of};
 ghost use Rattle.followed_nets.specs.FollowedNets.{HasNets};
 ghost use Rattle.followed_nets.specs.Listed.{AreApart};
-ghost use Rattle.followed_nets.specs.Noted.{IsNoted, Note, said};
-ghost use Rattle.followed_nets.specs.ToldViews.{told_view};
-ghost use Rattle.followed_nets.specs.Touched.{AreFollowed, AreTouched};
+ghost use Rattle.followed_nets.specs.Noted.{AreCommon, said};
+ghost use Rattle.followed_nets.specs.StarExchanges.{AreStarsThen, AwaitsOwn};
+ghost use Rattle.followed_nets.specs.Stars.{names_of};
+ghost use Rattle.followed_nets.specs.ToldViews.{star_view, stars_of};
+ghost use Rattle.followed_nets.specs.Touched.{AreFollowed, ArePinsOf, AreTouched, star_names};
+ghost use Rattle.followed_nets.specs.Within.{Fits, LeavesOthers};
 
 use crate::exchanging::exchange_nets;
-use crate::listed::nets_listing;
-use crate::stars::lists_all;
-use crate::told::{ToldNet, told_net};
-use crate::within::exchanges_are_within;
+use crate::listed::{add_name, nets_listing};
+use crate::noted::{common_numbers, drawn_nets, star_names};
+use crate::star_exchange::{StarsFollowed, exchange_stars};
+use crate::touched::{TouchedComponent, TouchedNets, are_named, told_nets, told_stars};
+use crate::within::{exchanges_are_within, is_one_of};
 use cell_library::library::Library;
-use def_reader::entry::Entry;
-use def_reader::statement::Statement;
 use design_model::identifier::StmtId;
-use design_names::names::names_of;
-use design_nets::nets_of;
-use design_tables::Numbered;
 use design_text::made::Made;
 use design_text::text::DesignText;
-use design_wires::wires::DesignWires;
 use following_laws::net_lines_follow;
 use kept_lines::KeptLines;
+use kept_nets::KeptNet;
 use lefdef_tokens::is_word;
-use line_laws::scales::scales_are_good;
 use line_laws::sorting::same_lines_sort_alike;
 use name_keys::OwnName;
 use named_shapes::NamedShapes;
 use net_checks::layer_names::layer_names;
-use net_laws::told_nets_are_exchanged;
+use net_laws::{nets_are_told, one_entry_tells, told_nets_are_exchanged};
 use net_queries::short_is_symmetric;
 use net_touches::layers_have_their_names;
 use std::alloc::{AllocError, Allocator, Global};
@@ -58,131 +48,77 @@ use std::marker::Model;
 pub struct FollowedNets<A: Allocator = Global> {
     shapes: NamedShapes<A>,
     common: Vec<StmtId, A>,
-    /// Whether one of the nets lists a pin of all components.
-    has_stars: bool,
+    /// The nets that list a pin of all components, unless they aren't kept.
+    stars: Option<Vec<KeptNet<A>, A>>,
 }
 
 impl<A: Allocator> Model for FollowedNets<A> {
+    ghost use Rattle.std.specs.Option.{option_map};
     ghost use Rattle.followed_nets.specs.FollowedNets.{Nets};
 
     ghost Value = { Nets };
 
-    ghost view = { λ n. record { shapes = n.shapes; common = record { numbers = n.common.items; may_star = n.has_stars } } };
-}
-
-/// The nets that an edit is about to change, as they are before it.
-#[derive(Drop)]
-pub struct TouchedNets<A: Allocator = Global> {
-    names: Vec<OwnName<A>, A>,
-    /// The component that the edit is of, if it is of one.
-    component: Option<OwnName<A>>,
-    before: Vec<ToldNet<A>, A>,
-}
-
-impl<A: Allocator> Model for TouchedNets<A> {
-    ghost use Rattle.std.specs.Prelude.{map};
-    ghost use Rattle.followed_nets.specs.ToldViews.{told_view};
-    ghost use Rattle.followed_nets.specs.Touched.{Touched};
-
-    ghost Value = { Touched };
-
-    ghost view = { λ t. record { names = t.names.items; component = t.component; before = map told_view t.before.items } };
+    ghost view = { λ n. record { shapes = n.shapes; common = n.common.items; stars = option_map (λ v. v.items) n.stars } };
 }
 
 impl<A: Allocator + Copy> TouchedNets<A> {
     /// Whether an edit that was made changed no other nets.
     fn are_all(&self, alloc: A, text: &DesignText<A>, made: &Made<A>) -> Result<bool, AllocError>
         requires { (old : List (Number × Record)) × AreExchanges text.now.pieces.table.slots old made.now.exchanges (records_in text.now) }
-        ensures { (old : List (Number × Record)) (common : Note) → AreExchanges text.now.pieces.table.slots old made.now.exchanges (records_in text.now)
-            → NoOtherLists (said old) self.now.names self.now.component → IsNoted old common
-            → IfOk result (λ b. b ≡ true → AgreeApart (said old) (said (records_in text.now)) (is_one_of self.now.names) × IsNoted (records_in text.now) common) }
+        ensures { (old : List (Number × Record)) (common : List Number) → AreExchanges text.now.pieces.table.slots old made.now.exchanges (records_in text.now)
+            → NoOtherLists (said old) (self.now.names ++ star_names self.now.stars) self.now.component → AreCommon old common
+            → IfOk result (λ b. b ≡ true → LeavesOthers (said old) (said (records_in text.now)) self.now × AreCommon (records_in text.now) common) }
     {
         match &self.component {
-            Some(name) => exchanges_are_within(alloc, text, made, &self.names, Some(name.bytes())),
+            Some(own) => {
+                let none = Vec::new(alloc);
+                exchanges_are_within(alloc, text, made, &none, Some(own.name.bytes()))
+            }
             None => exchanges_are_within(alloc, text, made, &self.names, None),
         }
     }
 }
 
-/// Whether a statement is of what any net may be made of.
-fn is_common(statement: &Statement<'_>) -> bool
-    ensures { result ≡ is_common (record_view statement.now) }
+/// Whether a net of this name is among those that are kept with their parts.
+fn is_kept<A: Allocator + Copy>(stars: &[KeptNet<A>], name: &[u8]) -> bool
+    ensures { result ≡ is_one_of (names_of stars.now) name.now }
 {
-    match statement {
-        Statement::Units(_) => true,
-        Statement::Entry(entry) => match entry {
-            Entry::Pin(_) | Entry::Blockage(_) | Entry::Via(_) | Entry::Rule(_) => true,
-            _ => false,
-        },
-        _ => false,
-    }
-}
-
-/// The numbers of those of these statements that are of what any net may be made of, in their order.
-fn common_numbers<A: Allocator + Copy>(
-    alloc: A,
-    statements: &[Numbered<'_>],
-) -> Result<Vec<StmtId, A>, AllocError>
-    ensures { IfOk result (λ v. v.items ≡ map (λ x. x.0) (filter (λ x. is_common x.1) (map numbered_view statements.now))) }
-{
-    let mut numbers = Vec::new(alloc);
-    for numbered in statements {
-        if is_common(&numbered.statement) {
-            numbers.push(numbered.id)?;
-        }
-    }
-    Ok(numbers)
-}
-
-/// Whether one of these statements lists a pin of all components.
-fn is_any_star(statements: &[Numbered<'_>]) -> bool
-    ensures { result ≡ list_any (λ x. list_any is_of_all (terminals_of x.1)) (map numbered_view statements.now) }
-{
-    for numbered in statements {
-        if lists_all(&numbered.statement) {
+    for star in stars {
+        if star.name() == name {
             return true;
         }
     }
     false
 }
 
-/// The shapes of the nets of a text.
-fn shapes_of<A: Allocator + Copy>(
-    alloc: A,
-    library: &Library<'_, A>,
-    text: &DesignText<A>,
-) -> Result<NamedShapes<A>, AllocError>
-    ensures { IfOk result (λ s. SameThings s (shapes_by_name (all_nets library.now (design_of text.now) (scale (design_of text.now))))) }
+/// Whether none of the nets that are kept with their parts has one of these names.
+fn are_others<A: Allocator + Copy>(stars: &[KeptNet<A>], names: &[OwnName<A>]) -> bool
+    ensures { IsTrue result → AllByRecursion (λ s. is_one_of names.now s.name ≡ false) stars.now }
 {
-    scales_are_good();
-    text.design_is_read();
-    let records = text.statements(alloc)?;
-    let names = names_of(alloc, library.hash_builder(), &records)?;
-    let wires = DesignWires::new(alloc, library, &names)?;
-    let nets = nets_of(alloc, library, &names, &wires)?;
-    NamedShapes::of(alloc, library.hash_builder(), &nets)
-}
-
-/// What is told of some nets of a text, unless something isn't told of one of them.
-fn told_nets<A: Allocator + Copy>(
-    alloc: A,
-    library: &Library<'_, A>,
-    text: &DesignText<A>,
-    common: &[StmtId],
-    names: &[OwnName<A>],
-) -> Result<Option<Vec<ToldNet<A>, A>>, AllocError>
-    requires { common.now ≡ map (λ x. x.0) (filter (λ x. is_common x.1) (records_in text.now)) }
-    ensures told { IfOk result (λ found. IfSome found (λ v. AreToldIn library.now (design_of text.now) (map told_view v.items))) }
-    ensures named { IfOk result (λ found. IfSome found (λ v. map name_of (map told_view v.items) ≡ names.now)) }
-{
-    let mut told = Vec::new(alloc);
-    for name in names {
-        match told_net(alloc, library, text, common, name.bytes())? {
-            Some(net) => told.push(net)?,
-            None => return Ok(None),
+    for star in stars {
+        if is_one_of(names, star.name()) {
+            return false;
         }
     }
-    Ok(Some(told))
+    true
+}
+
+/// Those of these names that aren't of nets kept with their parts.
+fn names_of_others<A: Allocator + Copy>(
+    alloc: A,
+    names: &[OwnName<A>],
+    stars: &[KeptNet<A>],
+) -> Result<Vec<OwnName<A>, A>, AllocError>
+    ensures apart { AreApart names.now → AreApart (names_of stars.now) → IfOk result (λ v. AreApart (v.items ++ names_of stars.now)) }
+    ensures all { IfOk result (λ v. (net : List ℕ) → is_one_of names.now net ≡ true → is_one_of (v.items ++ names_of stars.now) net ≡ true) }
+{
+    let mut others = Vec::new(alloc);
+    for name in names {
+        if !is_kept(stars, name.bytes()) {
+            add_name(alloc, &mut others, name.bytes())?;
+        }
+    }
+    Ok(others)
 }
 
 impl<A: Allocator + Copy> FollowedNets<A> {
@@ -196,13 +132,13 @@ impl<A: Allocator + Copy> FollowedNets<A> {
     {
         text.statements_are_kept();
         let statements = text.numbered_statements(alloc)?;
-        let has_stars = is_any_star(&statements);
         let common = common_numbers(alloc, &statements)?;
-        let shapes = shapes_of(alloc, library, text)?;
+        let names = star_names(alloc, &statements)?;
+        let drawn = drawn_nets(alloc, library, text, names)?;
         Ok(FollowedNets {
-            shapes,
+            shapes: drawn.shapes,
             common,
-            has_stars,
+            stars: drawn.stars,
         })
     }
 
@@ -213,11 +149,12 @@ impl<A: Allocator + Copy> FollowedNets<A> {
         library: &Library<'_, A>,
         text: &DesignText<A>,
         names: Vec<OwnName<A>, A>,
-        component: Option<OwnName<A>>,
+        component: Option<TouchedComponent<A>>,
     ) -> Result<Option<TouchedNets<A>>, AllocError>
-        requires noted { IsNoted (records_in text.now) self.now.common }
-        requires apart { AreApart names.items }
-        requires lists { NoOtherLists (design_of text.now) names.items component }
+        requires common { AreCommon (records_in text.now) self.now.common }
+        requires apart { AreApart (names.items ++ star_names (stars_of component)) }
+        requires lists { NoOtherLists (design_of text.now) (names.items ++ star_names (stars_of component)) (option_map (λ c. c.name) component) }
+        requires pins { ArePinsOf library.now (design_of text.now) (option_map (λ c. c.name) component) (stars_of component) }
         ensures { IfOk result (λ found. IfSome found (AreTouched library.now (design_of text.now))) }
     {
         let Some(before) = told_nets(alloc, library, text, &self.common, &names)? else {
@@ -225,8 +162,8 @@ impl<A: Allocator + Copy> FollowedNets<A> {
         };
         Ok(Some(TouchedNets {
             names,
-            component,
             before,
+            component,
         }))
     }
 
@@ -238,7 +175,7 @@ impl<A: Allocator + Copy> FollowedNets<A> {
         text: &DesignText<A>,
         net: &[u8],
     ) -> Result<Option<TouchedNets<A>>, AllocError>
-        requires { IsNoted (records_in text.now) self.now.common }
+        requires { HasNets library.now (records_in text.now) self.now }
         ensures { IfOk result (λ found. IfSome found (AreTouched library.now (design_of text.now))) }
     {
         let mut names = Vec::new(alloc);
@@ -246,8 +183,8 @@ impl<A: Allocator + Copy> FollowedNets<A> {
         self.touched(alloc, library, text, names, None)
     }
 
-    /// The nets that an edit of a component is about to change, as they are in a text: those that list a pin of it. Where a net lists a
-    /// pin of all components it isn't told.
+    /// The nets that an edit of a component is about to change, as they are in a text: those that list a pin of it, and what it is to
+    /// those that list a pin of all components.
     pub fn touched_by_component(
         &self,
         alloc: A,
@@ -255,22 +192,85 @@ impl<A: Allocator + Copy> FollowedNets<A> {
         text: &DesignText<A>,
         component: &[u8],
     ) -> Result<Option<TouchedNets<A>>, AllocError>
-        requires { IsNoted (records_in text.now) self.now.common }
+        requires { HasNets library.now (records_in text.now) self.now }
         ensures { IfOk result (λ found. IfSome found (AreTouched library.now (design_of text.now))) }
     {
         text.statements_are_kept();
-        if self.has_stars {
-            return Ok(None);
-        }
         // (pins of the design, and virtual ones, stand under these names in entries of nets)
         if is_word(component, b"PIN") || is_word(component, b"VPIN") {
             return Ok(None);
         }
-        let Some(names) = nets_listing(alloc, text, component)? else {
+        let Some(kept) = &self.stars else {
             return Ok(None);
         };
-        let component = OwnName::copy_of(alloc, component)?;
-        self.touched(alloc, library, text, names, Some(component))
+        let Some(listing) = nets_listing(alloc, text, component)? else {
+            return Ok(None);
+        };
+        let Some(stars) = told_stars(alloc, library, text, &self.common, kept, component)? else {
+            return Ok(None);
+        };
+        let names = names_of_others(alloc, &listing, kept)?;
+        let name = OwnName::copy_of(alloc, component)?;
+        self.touched(
+            alloc,
+            library,
+            text,
+            names,
+            Some(TouchedComponent { name, stars }),
+        )
+    }
+
+    /// Whether the nets that are kept with their parts are those that an edit of a component touched, and others than those that an
+    /// edit of a net touched.
+    fn fits(&self, touched: &TouchedNets<A>) -> bool
+        ensures { IsTrue result → Fits self.now.stars touched.now }
+    {
+        match (&self.stars, &touched.component) {
+            (Some(stars), Some(own)) => are_named(stars, &own.stars),
+            (Some(stars), None) => are_others(stars, &touched.names),
+            (None, component) => component.is_none(),
+        }
+    }
+
+    /// The lines on nets once the pins of a component are exchanged in the nets that are kept with their parts, which follow, too.
+    fn follow_stars(
+        &mut self,
+        alloc: A,
+        library: &Library<'_, A>,
+        text: &DesignText<A>,
+        layers: &[&[u8]],
+        own: TouchedComponent<A>,
+        kept: KeptLines<A>,
+    ) -> Result<Option<KeptLines<A>>, AllocError>
+        requires common { AreCommon (records_in text.now) self.old.common }
+        requires awaits { (old : List Record) × (others : List Net) × (stars : List Net) × (self.old.stars ≡ Some stars) × AwaitsOwn library.now old (said (records_in text.now)) (map (λ w. w.now) layers.now) own.name others stars (map star_view own.stars.items) self.old.shapes kept.lines }
+        ensures common { self.new.common ≡ self.old.common }
+        ensures follows { (old : List Record) (others stars : List Net) → self.old.stars ≡ Some stars → AwaitsOwn library.now old (said (records_in text.now)) (map (λ w. w.now) layers.now) own.name others stars (map star_view own.stars.items) self.old.shapes kept.lines
+            → IfOk result (λ found. IfSome found (λ k. (then : List Net) × (self.new.stars ≡ Some then) × AreStarsThen library.now (said (records_in text.now)) others (names_of stars) then self.new.shapes k.lines)) }
+    {
+        text.statements_are_kept();
+        let Some(stars) = self.stars.take() else {
+            return Ok(None);
+        };
+        let name = own.name.bytes();
+        let Some(after) = told_stars(alloc, library, text, &self.common, &stars, name)? else {
+            return Ok(None);
+        };
+        match exchange_stars(
+            alloc,
+            layers,
+            &mut self.shapes,
+            stars,
+            own.stars,
+            after,
+            kept,
+        )? {
+            Some(StarsFollowed { stars, kept }) => {
+                self.stars = Some(stars);
+                Ok(Some(kept))
+            }
+            None => Ok(None),
+        }
     }
 
     /// The lines on the nets of a text after an edit, from those before it, where it changed no other nets than those that it touched;
@@ -289,6 +289,8 @@ impl<A: Allocator + Copy> FollowedNets<A> {
             → IfOk result (λ found. IfSome found (AreFollowed library.now (records_in text.now) self.new)) }
     {
         told_nets_are_exchanged();
+        one_entry_tells();
+        nets_are_told();
         net_lines_follow();
         short_is_symmetric();
         same_lines_sort_alike();
@@ -297,11 +299,29 @@ impl<A: Allocator + Copy> FollowedNets<A> {
         if !touched.are_all(alloc, text, made)? {
             return Ok(None);
         }
-        let TouchedNets { names, before, .. } = touched;
+        if !self.fits(&touched) {
+            return Ok(None);
+        }
+        let TouchedNets {
+            names,
+            before,
+            component,
+        } = touched;
         let Some(after) = told_nets(alloc, library, text, &self.common, &names)? else {
             return Ok(None);
         };
         let layers = layer_names(alloc, library)?;
-        exchange_nets(alloc, &layers, &mut self.shapes, before, after, kept)
+        let exchanged = exchange_nets(alloc, &layers, &mut self.shapes, before, after, kept)?;
+        let Some(kept) = exchanged else {
+            return Ok(None);
+        };
+        let Some(own) = component else {
+            return Ok(Some(kept));
+        };
+        let followed = self.follow_stars(alloc, library, text, &layers, own, kept)?;
+        let Some(lines) = followed else {
+            return Ok(None);
+        };
+        Ok(Some(lines))
     }
 }

@@ -1,12 +1,24 @@
 //! The lines on the nets of a text, which follow its edits.
+//!
+//! Begin with `FollowedNets::of`, which notes the nets of a text. Before an edit, `touched_by_net` and `touched_by_component` tell which nets
+//! it is about to change; after it, `follow` gives the lines from those before, where it changed no others. What is noted follows then,
+//! too, and else isn't to be used any more.
+//!
+//! A net is told by few statements of the text (`told`), and exchanged as a whole (`exchanging`). A net that lists a pin of all components
+//! is kept with its parts, and an edit of a component exchanges its pins of that component (`star_pins`, `star_exchange`).
 #![tactic(auto)]
 
 mod exchanging;
 mod followed;
 mod listed;
+mod noted;
+mod star_exchange;
+mod star_pins;
 mod stars;
 mod told;
 mod told_statements;
+mod touched;
 mod within;
 
-pub use followed::{FollowedNets, TouchedNets};
+pub use followed::FollowedNets;
+pub use touched::TouchedNets;

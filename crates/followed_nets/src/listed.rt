@@ -34,7 +34,7 @@ fn net_name<'t>(statement: &Statement<'t>) -> Option<&'t [u8]>
 }
 
 /// Puts a name behind others, unless it is one of them.
-fn add_name<A: Allocator + Copy>(
+pub(crate) fn add_name<A: Allocator + Copy>(
     alloc: A,
     nets: &mut Vec<OwnName<A>, A>,
     name: &[u8],
@@ -49,7 +49,7 @@ fn add_name<A: Allocator + Copy>(
 }
 
 /// Puts the name of the net of a statement behind others, unless it is one of them.
-fn add_net<A: Allocator + Copy>(
+pub(crate) fn add_net<A: Allocator + Copy>(
     alloc: A,
     nets: &mut Vec<OwnName<A>, A>,
     statement: &Statement<'_>,

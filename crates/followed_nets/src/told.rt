@@ -1,6 +1,6 @@
 //! What is told of one net of a text.
 
-ghost use Rattle.std.specs.Prelude.{◌≡◌, ◌<◌, ◌≤◌, ◌++◌, [], IfOk, IfSome, List, filter, flat_map, map};
+ghost use Rattle.std.specs.Prelude.{◌≡◌, ◌<◌, ◌≤◌, ◌++◌, [], IfOk, IfSome, List, flat_map, map};
 ghost use Rattle.def_grammar.specs.Records.{Record};
 ghost use Rattle.def_reader.specs.StatementViews.{record_view};
 ghost use Rattle.lef_grammar.specs.Library.{Library as TheLibrary};
@@ -8,12 +8,12 @@ ghost use Rattle.connection_rules.specs.NetLines.{barriers, net_lines, shapes_of
 ghost use Rattle.connection_rules.specs.NetParts.{net_named};
 ghost use Rattle.design_rules.specs.Boxes.{scale};
 ghost use Rattle.line_laws.specs.Lines.{SameLines};
-ghost use Rattle.net_laws.specs.NetsTold.{is_common};
 ghost use Rattle.net_laws.specs.OneNet.{TellNet};
 ghost use Rattle.net_lists.specs.PartCuts.{shape_view};
 ghost use Rattle.net_checks.specs.Drawings.{IsDrawingOf};
 ghost use Rattle.design_text.specs.DesignTexts.{design_of};
 ghost use Rattle.design_text.specs.Exchanges.{records_in};
+ghost use Rattle.followed_nets.specs.Noted.{AreCommon};
 ghost use Rattle.followed_nets.specs.Told.{IsTold, IsToldIn};
 ghost use Rattle.followed_nets.specs.ToldViews.{told_view};
 
@@ -84,7 +84,7 @@ pub(crate) fn told_net<A: Allocator + Copy>(
     common: &[StmtId],
     net: &[u8],
 ) -> Result<Option<ToldNet<A>>, AllocError>
-    requires { common.now ≡ map (λ x. x.0) (filter (λ x. is_common x.1) (records_in text.now)) }
+    requires { AreCommon (records_in text.now) common.now }
     ensures { IfOk result (λ found. IfSome found (λ t. IsToldIn library.now (design_of text.now) net.now (told_view t))) }
 {
     one_net_is_told();

@@ -6,10 +6,11 @@ ghost use Rattle.def_grammar.specs.Located.{is_entry};
 ghost use Rattle.def_grammar.specs.Records.{entry_of};
 ghost use Rattle.wire_parts.specs.TerminalViews.{terminals_of};
 ghost use Rattle.def_reader.specs.StatementViews.{record_view};
-ghost use Rattle.net_laws.specs.NetsTold.{is_common, is_of_net, terminals_of as terminals_of_record};
+ghost use Rattle.net_laws.specs.NetsTold.{is_of_net, terminals_of as terminals_of_record};
 ghost use Rattle.net_laws.specs.OneNet.{TellNet};
 ghost use Rattle.design_text.specs.DesignTexts.{design_of};
 ghost use Rattle.design_text.specs.Exchanges.{records_in};
+ghost use Rattle.followed_nets.specs.Noted.{AreCommon};
 ghost use Rattle.followed_nets.specs.Owners.{HasOwners, owners_in, statement_of};
 
 use crate::stars::is_any_of_all;
@@ -26,7 +27,7 @@ use wire_parts::nets::NetEntry;
 use wire_parts::terminals::Terminal;
 
 /// The entry of a net in a section. It alone is read.
-fn entry_in<'t, A: Allocator + Copy>(
+pub(crate) fn entry_in<'t, A: Allocator + Copy>(
     text: &'t DesignText<A>,
     section: Section,
     net: &[u8],
@@ -43,7 +44,10 @@ fn entry_in<'t, A: Allocator + Copy>(
 }
 
 /// The one entry of a net: `None` where the net has none, or one in each section.
-fn only_entry<'t, A: Allocator + Copy>(text: &'t DesignText<A>, net: &[u8]) -> Option<Statement<'t>>
+pub(crate) fn only_entry<'t, A: Allocator + Copy>(
+    text: &'t DesignText<A>,
+    net: &[u8],
+) -> Option<Statement<'t>>
     ensures { IfSome result (λ s. filter (is_of_net net.now) (design_of text.entry.now) ≡ record_view s ∷ []) }
 {
     let listed = entry_in(text, Section::Nets, net);
@@ -124,7 +128,7 @@ pub(crate) fn told_statements<'t, A: Allocator + Copy>(
     common: &[StmtId],
     net: &[u8],
 ) -> Result<Option<Vec<Statement<'t>, A>>, AllocError>
-    requires { common.now ≡ map (λ x. x.0) (filter (λ x. is_common x.1) (records_in text.now)) }
+    requires { AreCommon (records_in text.now) common.now }
     ensures { IfOk result (λ found. IfSome found (λ v. TellNet (map record_view v.items) (design_of text.entry.now) net.now)) }
 {
     text.statements_are_kept();

@@ -8,13 +8,14 @@ ghost use Rattle.def_grammar.specs.Records.{Record, entry as said_entry};
 ghost use Rattle.def_grammar.specs.Terminals.{is_of_all};
 ghost use Rattle.def_reader.specs.EntryViews.{entry_view};
 ghost use Rattle.def_reader.specs.StatementViews.{record_view, records_view};
-ghost use Rattle.net_laws.specs.NetChanges.{AgreeApart, is_one_of};
+ghost use Rattle.net_laws.specs.NetChanges.{is_one_of};
 ghost use Rattle.net_laws.specs.NetsTold.{terminals_of};
-ghost use Rattle.net_laws.specs.Within.{NoOtherLists, is_component, is_within};
+ghost use Rattle.net_laws.specs.Within.{is_component, is_within};
 ghost use Rattle.text_pieces.specs.KeptRecords.{HavePieces, record_of};
 ghost use Rattle.text_pieces.specs.Tables.{kept_at};
 ghost use Rattle.design_text.specs.Exchanges.{AreExchanges, IsExchange, exchange_view, records_in};
-ghost use Rattle.followed_nets.specs.Noted.{IsNoted, Note, said};
+ghost use Rattle.followed_nets.specs.Noted.{AreCommon, said};
+ghost use Rattle.followed_nets.specs.Within.{Leaves};
 
 use crate::stars::lists_all;
 use def_reader::entry::Entry;
@@ -23,7 +24,7 @@ use design_model::identifier::StmtId;
 use design_text::made::{Exchange, Made};
 use design_text::text::DesignText;
 use name_keys::OwnName;
-use net_laws::{apart_on_and_on, within_apart};
+use net_laws::{agree_on_and_on, apart_on_and_on, one_exchanged_agree, within_apart};
 use std::alloc::{AllocError, Allocator};
 use wire_parts::nets::NetEntry;
 
@@ -121,17 +122,17 @@ fn exchange_is_within<A: Allocator + Copy>(
     component: Option<&[u8]>,
 ) -> Result<bool, AllocError>
     requires { (old : List (Number × Record)) × (new : List (Number × Record)) × IsExchange text.now.pieces.table.slots old new (exchange_view exchange) }
-    ensures { (old new : List (Number × Record)) (common : Note) → IsExchange text.now.pieces.table.slots old new (exchange_view exchange.entry)
-        → NoOtherLists (said old) nets.now (option_map (λ w. w.now) component.entry) → IsNoted old common
-        → IfOk result (λ b. b ≡ true → AgreeApart (said old) (said new) (is_one_of nets.now) × NoOtherLists (said new) nets.now (option_map (λ w. w.now) component.entry) × IsNoted new common) }
+    ensures { (old new : List (Number × Record)) (common : List Number) → IsExchange text.now.pieces.table.slots old new (exchange_view exchange.entry) → AreCommon old common
+        → IfOk result (λ b. b ≡ true → Leaves (said old) (said new) nets.now (option_map (λ w. w.now) component.entry) × AreCommon new common) }
 {
     within_apart();
+    one_exchanged_agree();
     let goes = are_within(alloc, text, exchange.went, nets, component)?;
     Ok(goes && are_within(alloc, text, exchange.came, nets, component)?)
 }
 
-/// Whether the statements that an edit exchanged are all entries of these nets, or that component, or of what no net is made of. Then the
-/// other nets stay, if none of them lists the component; and so does what is noted.
+/// Whether the statements that an edit exchanged are all entries of these nets, or that component, or of what no net is made of. Then it
+/// leaves the other nets, if none of them lists the component; and so does what is noted.
 pub(crate) fn exchanges_are_within<A: Allocator + Copy>(
     alloc: A,
     text: &DesignText<A>,
@@ -140,11 +141,11 @@ pub(crate) fn exchanges_are_within<A: Allocator + Copy>(
     component: Option<&[u8]>,
 ) -> Result<bool, AllocError>
     requires { (old : List (Number × Record)) × AreExchanges text.now.pieces.table.slots old made.now.exchanges (records_in text.now) }
-    ensures { (old : List (Number × Record)) (common : Note) → AreExchanges text.now.pieces.table.slots old made.now.exchanges (records_in text.now)
-        → NoOtherLists (said old) nets.now (option_map (λ w. w.now) component.entry) → IsNoted old common
-        → IfOk result (λ b. b ≡ true → AgreeApart (said old) (said (records_in text.now)) (is_one_of nets.now) × IsNoted (records_in text.now) common) }
+    ensures { (old : List (Number × Record)) (common : List Number) → AreExchanges text.now.pieces.table.slots old made.now.exchanges (records_in text.now) → AreCommon old common
+        → IfOk result (λ b. b ≡ true → Leaves (said old) (said (records_in text.now)) nets.now (option_map (λ w. w.now) component.entry) × AreCommon (records_in text.now) common) }
 {
     apart_on_and_on();
+    agree_on_and_on();
     for place in 0..made.len() {
         let Some(exchange) = made.exchange(place) else {
             return Ok(false);

@@ -1,5 +1,5 @@
 -- What is noted of a text whose statements are exchanged.
-use Rattle.std.proofs.Common.{◌≡◌, ◌<◌, ◌≤◌, ◌+◌, ◌||◌, ℕ, Bool, true, false, List, [], ◌∷◌, ◌++◌, filter, flat_map, map, sum_by, Option, Some, None, Result, Ok, Err, refl, sym, ap, ap₂, ◌∙◌, arith, if◌then◌else◌}
+use Rattle.std.proofs.Common.{◌≡◌, ◌<◌, ◌≤◌, ◌||◌, ℕ, Bool, true, false, List, [], ◌∷◌, ◌++◌, filter, flat_map, map, sum_by, Option, Some, None, Result, Ok, Err, refl, sym, subst, ap, ap₂, ◌∙◌, arith, if◌then◌else◌}
 use Rattle.std.specs.Prelude.{IfOk, IfSome}
 use Rattle.std.specs.List.{cons_option, filter_map, list_any}
 use Rattle.std.specs.Option.{option_map}
@@ -15,7 +15,8 @@ use Rattle.design_rules.specs.Boxes.{Boxed, box_of, scale}
 use Rattle.design_rules.specs.PlaceLines.{lines_in}
 use Rattle.design_rules.specs.Surroundings.{Surroundings, keep_outs, surroundings}
 use Rattle.place_checks.specs.SameSurroundings.{HaveSameLines}
-use Rattle.line_laws.specs.Lines.{SameThings}
+use Rattle.line_laws.specs.Lines.{SameLines, SameThings}
+use Rattle.line_laws.specs.SortingLaws.{SameLinesSortAlike}
 use Rattle.following_laws.specs.DesignLaws.{lines_of_components}
 use Rattle.following_laws.specs.Following.{Exchange}
 use Rattle.staying_laws.specs.PlaceStatements.{ComponentsAreExchanged, PlacesFollow, SurroundingsAreTold, boxes_among, is_surrounding}
@@ -187,90 +188,87 @@ module _ (library : Library) (slots : List (Option Kept)) (old new : List (StmtI
         );
   }
 
-  module _ (places : Places) (kept : KeptLines) (f : AreFollowed library old places kept) (told : SurroundingsAreTold) where
-    -- by the numbers that are noted of the statements of what stands round components
-    pub around_kept : (numbers : List StmtId) → numbers ≡ places.around → HavePieces slots numbers
-    around_kept numbers are = rw (are ∙ f.places.around_are) (their_pieces slots old (with_these x.went) e.old_is old_pieces)
+  module _ (places : Places) (kept : KeptLines) (f : AreFollowed library old places kept) where
+    pub some_units : 0 < places.scale
+    some_units = rw f.places.scale_is f.some
 
-    pub around_said_is : (numbers : List StmtId) → numbers ≡ places.around → map (λ id. record_of (kept_at slots id)) numbers ≡ filter is_surrounding (said old)
-    around_said_is numbers are = ap (map (λ id. record_of (kept_at slots id))) (are ∙ f.places.around_are) ∙ their_records slots old (with_these x.went) e.old_is old_pieces
+    pub few_units : places.scale ≤ 100000
+    few_units = rw f.places.scale_is f.few
 
-    -- and by what these say
-    module _ (said_around : List Record) (are : said_around ≡ filter is_surrounding (said old)) where
-      scale_is : scale said_around ≡ scale (said old)
-      scale_is = ap scale are ∙ (told library (said old)).scale
+    -- unless one of those that went or came is of what stands round components
+    module _ (told : SurroundingsAreTold) (exchanged : ComponentsAreExchanged) (went_loose : list_any (λ (r : StmtId × Record). is_surrounding r.1) (these x.went) ≡ false)
+        (came_loose : list_any (λ (r : StmtId × Record). is_surrounding r.1) (these x.came) ≡ false) where
+      filtered : (all : List (StmtId × Record)) (some : List StmtId) → all ≡ these (with_these some) → list_any surrounds (these some) ≡ false
+          → filter surrounds all ≡ filter surrounds (these e.front) ++ filter surrounds (these e.rest)
+      filtered all some is loose =
+          ap (filter surrounds) (is ∙ parted some)
+          ∙ filter-append surrounds (these e.front) (these some ++ these e.rest)
+          ∙ ap (λ (l : List (StmtId × Record)). filter surrounds (these e.front) ++ l)
+          (filter-append surrounds (these some) (these e.rest) ∙ ap (λ (l : List (StmtId × Record)). l ++ filter surrounds (these e.rest)) (none_of surrounds (these some) loose))
 
-      pub some_units : 0 < scale said_around
-      some_units = rw scale_is f.some
+      same_around : filter is_surrounding (said old) ≡ filter is_surrounding (said new)
+      same_around = sym (filter_said old) ∙ ap said (filtered old x.went e.old_is went_loose ∙ sym (filtered new x.came e.new_is came_loose)) ∙ filter_said new
 
-      pub few_units : scale said_around ≤ 100000
-      few_units = rw scale_is f.few
+      -- so what stands round components stays
+      same_surroundings : surroundings library (said old) ≡ surroundings library (said new)
+      same_surroundings = sym (told library (said old)).surroundings ∙ ap (surroundings library) same_around ∙ (told library (said new)).surroundings
 
-      -- unless one of those that went or came is one of these
-      module _ (exchanged : ComponentsAreExchanged) (went_loose : list_any (λ (r : StmtId × Record). is_surrounding r.1) (these x.went) ≡ false) (came_loose : list_any (λ (r : StmtId × Record). is_surrounding r.1) (these x.came) ≡ false)
-          (u : ℕ) (u_is : u ≡ scale said_around) (s : Surroundings) (s_is : HaveSameLines s (surroundings library said_around)) (outs : List Rectangle) (outs_are : outs ≡ keep_outs said_around)
-          (went came : List (StmtId × Boxed)) (went_are : went ≡ components_under library (scale said_around) (these x.went)) (came_are : came ≡ components_under library (scale said_around) (these x.came)) where
-        filtered : (all : List (StmtId × Record)) (some : List StmtId) → all ≡ these (with_these some) → list_any surrounds (these some) ≡ false
-            → filter surrounds all ≡ filter surrounds (these e.front) ++ filter surrounds (these e.rest)
-        filtered all some is loose =
-            ap (filter surrounds) (is ∙ parted some)
-            ∙ filter-append surrounds (these e.front) (these some ++ these e.rest)
-            ∙ ap (λ (l : List (StmtId × Record)). filter surrounds (these e.front) ++ l)
-            (filter-append surrounds (these some) (these e.rest) ∙ ap (λ (l : List (StmtId × Record)). l ++ filter surrounds (these e.rest)) (none_of surrounds (these some) loose))
+      same_keep_outs : keep_outs (said old) ≡ keep_outs (said new)
+      same_keep_outs = sym (told library (said old)).keep_outs ∙ ap keep_outs same_around ∙ (told library (said new)).keep_outs
 
-        same_around : filter surrounds old ≡ filter surrounds new
-        same_around = filtered old x.went e.old_is went_loose ∙ sym (filtered new x.came e.new_is came_loose)
+      same_scale : scale (said old) ≡ scale (said new)
+      same_scale = sym (told library (said old)).scale ∙ ap scale same_around ∙ (told library (said new)).scale
 
-        same_surroundings : filter is_surrounding (said old) ≡ filter is_surrounding (said new)
-        same_surroundings = sym (filter_said old) ∙ ap said same_around ∙ filter_said new
+      follow : PlacesFollow library (said old) (said new) (say x.went) (say x.came) (say stay)
+      follow = exchanged library (said old) (said new) (say x.went) (say x.came) (say stay) exchange same_around
 
-        follow : PlacesFollow library (said old) (said new) (say x.went) (say x.came) (say stay)
-        follow = exchanged library (said old) (said new) (say x.went) (say x.came) (say stay) exchange same_surroundings
+      abbrev u : ℕ
+      u = places.scale
 
-        same_scale : scale (said new) ≡ scale (said old)
-        same_scale = sym (told library (said new)).scale ∙ ap scale (sym same_surroundings) ∙ (told library (said old)).scale
+      lines_are : (some : List StmtId) → lines_of_components places.surroundings (map (λ x. x.1) (components_under library u (these some))) (boxed_under library u slots stay) places.keep_outs []
+          ≡ lines_of_components (surroundings library (said old)) (boxes_among library (said old) (say some)) (boxes_among library (said old) (say stay)) (keep_outs (said old)) []
+      lines_are some =
+          rw (lines_the_same places.surroundings (surroundings library (said old)) f.places.surroundings_are (map (λ x. x.1) (components_under library u (these some))), f.places.keep_outs_are, seconds library u (these some), seconds library u (these stay), f.places.scale_is)
+          refl
 
-        units : u ≡ scale (said old)
-        units = u_is ∙ scale_is
+      all_awaited : Awaits library u slots stay places.surroundings places.keep_outs (components_under library u (these x.went)) (components_under library u (these x.came)) places.boxes kept.lines (lines_on_places library (said new))
+      all_awaited = record {
+        pieces = stay_pieces;
+        boxes_are = record { sums = λ w. f.places.boxes_are.sums w ∙ ap (λ v. sum_by w (map place_under (components_under library v old))) (sym f.places.scale_is) ∙ (places_parted u old x.went e.old_is).sums w };
+        before = lines_on_places library (said old);
+        kept_are = f.lines;
+        follow = rw (lines_are x.went, lines_are x.came) follow.lines;
+      }
 
-        around_is : surroundings library said_around ≡ surroundings library (said old)
-        around_is = ap (surroundings library) are ∙ (told library (said old)).surroundings
-
-        lines_are : (some : List StmtId) → lines_of_components s (map (λ x. x.1) (components_under library u (these some))) (boxed_under library u slots stay) outs []
-            ≡ lines_of_components (surroundings library (said old)) (boxes_among library (said old) (say some)) (boxes_among library (said old) (say stay)) (keep_outs (said old)) []
-        lines_are some =
-            rw (lines_the_same s (surroundings library said_around) s_is (map (λ x. x.1) (components_under library u (these some))), around_is, outs_are ∙ ap keep_outs are ∙ (told library (said old)).keep_outs, seconds library u (these some), seconds library u (these stay), units)
-            refl
-
-        all_awaited : Awaits library u slots stay s outs (components_under library u (these x.went)) (components_under library u (these x.came)) places.boxes kept.lines (lines_on_places library (said new))
-        all_awaited = record {
-          pieces = stay_pieces;
-          boxes_are = record { sums = λ w. f.places.boxes_are.sums w ∙ ap (λ v. sum_by w (map place_under (components_under library v old))) (sym units) ∙ (places_parted u old x.went e.old_is).sums w };
-          before = lines_on_places library (said old);
-          kept_are = f.lines;
-          follow = rw (lines_are x.went, lines_are x.came) follow.lines;
-        }
-
-        in_units : (some : List StmtId) (those : List (StmtId × Boxed)) → those ≡ components_under library (scale said_around) (these some) → those ≡ components_under library u (these some)
-        in_units some those is = is ∙ ap (λ v. components_under library v (these some)) (sym u_is)
-
-        pub awaits : Awaits library u slots stay s outs went came places.boxes kept.lines (lines_on_places library (said new))
-        awaits = rw (in_units x.went went went_are, in_units x.came came came_are) all_awaited
+      -- by the components among those that went, and among those that came
+      module _ (went came : List (StmtId × Boxed)) (went_are : went ≡ components_under library u (these x.went)) (came_are : came ≡ components_under library u (these x.came)) where
+        pub awaits : Awaits library u slots stay places.surroundings places.keep_outs went came places.boxes kept.lines (lines_on_places library (said new))
+        awaits = rw (went_are, came_are) all_awaited
 
         pub follows : (boxes : List (StmtId × Rectangle)) (lines : KeptLines) → lines.lines ≡ sorted_by_bytes (lines_on_places library (said new)) → SameThings boxes (map place_under came ++ map place_under (components_under library u (these stay)))
-            → AreFollowed library new (record { boxes = boxes; around = places.around }) lines
+            → AreFollowed library new (record { boxes = boxes; surroundings = places.surroundings; keep_outs = places.keep_outs; scale = u }) lines
         follows boxes lines lines_are same = record {
           places = record {
             boxes_are = record {
               sums = λ w.
                   same.sums w
-                  ∙ ap (λ (cs : List (StmtId × Boxed)). sum_by w (map place_under cs ++ map place_under (components_under library u (these stay)))) (in_units x.came came came_are)
+                  ∙ ap (λ (cs : List (StmtId × Boxed)). sum_by w (map place_under cs ++ map place_under (components_under library u (these stay)))) came_are
                   ∙ sym ((places_parted u new x.came e.new_is).sums w)
-                  ∙ ap (λ v. sum_by w (map place_under (components_under library v new))) (units ∙ sym same_scale);
+                  ∙ ap (λ v. sum_by w (map place_under (components_under library v new))) (f.places.scale_is ∙ same_scale);
             };
-            around_are = f.places.around_are ∙ ap (map (λ x. x.0)) same_around;
+            surroundings_are = subst (HaveSameLines places.surroundings) same_surroundings f.places.surroundings_are;
+            keep_outs_are = f.places.keep_outs_are ∙ same_keep_outs;
+            scale_is = f.places.scale_is ∙ same_scale;
           };
           lines = lines_are;
-          some = rw same_scale f.some;
-          few = rw same_scale f.few;
+          some = rw (← same_scale) f.some;
+          few = rw (← same_scale) f.few;
         }
+
+      -- where no component went and none came, the lines stay
+      pub stays : SameLinesSortAlike → [] ≡ components_under library u (these x.went) → [] ≡ components_under library u (these x.came)
+          → AreFollowed library new (record { boxes = places.boxes; surroundings = places.surroundings; keep_outs = places.keep_outs; scale = u }) kept
+      stays alike went_none came_none =
+          let a = awaits [] [] went_none came_none in
+          let same : SameLines a.before (lines_on_places library (said new)) = record { often = λ q. a.follow.old_is.often q ∙ sym (a.follow.new_is.often q) } in
+          follows [] [] went_none came_none places.boxes kept (a.kept_are ∙ alike a.before (lines_on_places library (said new)) same) a.boxes_are

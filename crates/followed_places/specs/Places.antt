@@ -1,5 +1,5 @@
 -- The components of a text that take part, under the numbers of their statements.
-use Rattle.std.specs.Prelude.{◌≡◌, ◌<◌, ◌≤◌, ℕ, List, [], filter, map, Option}
+use Rattle.std.specs.Prelude.{◌≡◌, ◌<◌, ◌≤◌, ℕ, List, map, Option}
 use Rattle.std.specs.List.{filter_map}
 use Rattle.std.specs.Option.{option_map}
 use Rattle.design_model.specs.declared.identifier.StmtId.{StmtId}
@@ -8,15 +8,18 @@ use Rattle.design_model.specs.Order.{sorted_by_bytes}
 use Rattle.def_grammar.specs.Records.{Record}
 use Rattle.lef_grammar.specs.Library.{Library}
 use Rattle.design_rules.specs.Boxes.{Boxed, box_of, scale}
+use Rattle.design_rules.specs.Surroundings.{Surroundings, keep_outs, surroundings}
 use Rattle.line_laws.specs.Lines.{SameThings}
-use Rattle.staying_laws.specs.PlaceStatements.{is_surrounding}
+use Rattle.place_checks.specs.SameSurroundings.{HaveSameLines}
 use Rattle.staying_laws.specs.Staying.{lines_on_places}
 use Rattle.kept_lines.specs.Kept.{Kept}
 
--- the boxes of components under the numbers of their statements, and the numbers of the statements of what stands round components
+-- the boxes of components under the numbers of their statements, what stands round them, and the database units per micron
 pub record Places : Type 0 where
   pub boxes : List (StmtId × Rectangle)
-  pub around : List StmtId
+  pub surroundings : Surroundings
+  pub keep_outs : List Rectangle
+  pub scale : ℕ
 
 -- what numbered statements say
 abbrev pub said : List (StmtId × Record) → List Record
@@ -32,10 +35,12 @@ components_under library u records = filter_map (component_under library u) reco
 abbrev pub place_under : StmtId × Boxed → StmtId × Rectangle
 place_under c = (c.0, c.1.box)
 
--- places are those of a text's numbered statements
+-- places are those of a text's numbered statements; each component has the same lines in these surroundings as in the text's
 pub record HasPlaces (library : Library) (records : List (StmtId × Record)) (p : Places) : Type 0 where
   pub boxes_are : SameThings p.boxes (map place_under (components_under library (scale (said records)) records))
-  pub around_are : p.around ≡ map (λ x. x.0) (filter (λ x. is_surrounding x.1) records)
+  pub surroundings_are : HaveSameLines p.surroundings (surroundings library (said records))
+  pub keep_outs_are : p.keep_outs ≡ keep_outs (said records)
+  pub scale_is : p.scale ≡ scale (said records)
 
 -- kept lines are those on the components of a design, in the order of their bytes
 abbrev pub AreOnPlaces : Library → List Record → Kept → Type 0

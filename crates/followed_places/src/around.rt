@@ -18,14 +18,26 @@ use design_model::geometry::Rect;
 use design_model::identifier::StmtId;
 use design_tables::Numbered;
 use place_checks::keep_outs::keep_outs_of;
+use place_checks::kept_surroundings::KeptSurroundings;
+use place_checks::scale::scale_of;
 use place_checks::surroundings::{Surroundings, surroundings_of};
 use std::alloc::{AllocError, Allocator};
 
-/// What stands round components, and the rectangles that keep them out.
+/// What stands round components, and the database units per micron by which it is measured, kept from one edit to the next.
+#[derive(Drop)]
+pub(crate) struct KeptAround<A: Allocator> {
+    pub(crate) surroundings: KeptSurroundings<A>,
+    /// The rectangles that keep components out.
+    pub(crate) keep_outs: Vec<Rect, A>,
+    pub(crate) scale: u32,
+}
+
+/// The same, lent for the lines of components.
 #[derive(Drop)]
 pub(crate) struct Around<'t, A: Allocator> {
     pub(crate) surroundings: Surroundings<'t, A>,
-    pub(crate) keep_outs: Vec<Rect, A>,
+    pub(crate) keep_outs: &'t [Rect],
+    pub(crate) scale: u32,
 }
 
 /// Whether a statement is of what stands round components, or of what all is measured by.
@@ -54,21 +66,37 @@ pub(crate) fn is_any_surrounding(statements: &[Numbered<'_>]) -> bool
     false
 }
 
-impl<'t, A: Allocator + Copy> Around<'t, A> {
+impl<A: Allocator + Copy> KeptAround<A> {
     /// That of these statements.
     pub(crate) fn of(
         alloc: A,
         library: &Library<'_, A>,
-        statements: &[Statement<'t>],
-    ) -> Result<Around<'t, A>, AllocError>
+        statements: &[Statement<'_>],
+    ) -> Result<KeptAround<A>, AllocError>
         requires some { 0 < scale (records_view statements.now) }
         requires few { scale (records_view statements.now) ≤ 100000 }
-        ensures surroundings { IfOk result (λ a. HaveSameLines (surroundings_view a.surroundings) (surroundings library.now (records_view statements.now))) }
+        ensures surroundings { IfOk result (λ a. HaveSameLines a.surroundings (surroundings library.now (records_view statements.now))) }
         ensures keep_outs { IfOk result (λ a. map rectangle_of a.keep_outs.items ≡ keep_outs (records_view statements.now)) }
+        ensures scale { IfOk result (λ a. a.scale ≡ scale (records_view statements.now)) }
+    {
+        let surroundings = surroundings_of(alloc, library, statements)?;
+        Ok(KeptAround {
+            surroundings: KeptSurroundings::of(alloc, &surroundings)?,
+            keep_outs: keep_outs_of(alloc, statements)?,
+            scale: scale_of(statements),
+        })
+    }
+
+    /// It, lent. No statement is read, and nothing is sorted.
+    pub(crate) fn lent<'a>(&'a self, alloc: A) -> Result<Around<'a, A>, AllocError>
+        ensures surroundings { IfOk result (λ a. surroundings_view a.surroundings ≡ self.entry.now.surroundings) }
+        ensures keep_outs { IfOk result (λ a. a.keep_outs.now ≡ self.entry.now.keep_outs.items) }
+        ensures scale { IfOk result (λ a. a.scale ≡ self.entry.now.scale) }
     {
         Ok(Around {
-            surroundings: surroundings_of(alloc, library, statements)?,
-            keep_outs: keep_outs_of(alloc, statements)?,
+            surroundings: self.surroundings.lent(alloc)?,
+            keep_outs: &self.keep_outs,
+            scale: self.scale,
         })
     }
 }

@@ -59,7 +59,7 @@ pub(crate) fn components_of<'t, A: Allocator + Copy>(
 }
 
 /// The boxes of the components among statements that take part, in their order.
-pub(crate) fn places_of<'t, A: Allocator + Copy>(
+fn places_of<'t, A: Allocator + Copy>(
     alloc: A,
     library: &'t Library<'_, A>,
     scale: u32,
@@ -79,6 +79,21 @@ pub(crate) fn places_of<'t, A: Allocator + Copy>(
         places.push(StatementBox { id, rect })?;
     }
     Ok(places)
+}
+
+/// The same, over tiles.
+pub(crate) fn boxes_of<'t, A: Allocator + Copy>(
+    alloc: A,
+    library: &'t Library<'_, A>,
+    scale: u32,
+    statements: &[Numbered<'t>],
+) -> Result<StatementBoxes<A>, AllocError>
+    requires some { 0 < scale }
+    requires few { scale ≤ 100000 }
+    ensures { IfOk result (λ boxes. SameThings boxes (map place_under (components_under library.now scale (map numbered_view statements.now)))) }
+{
+    let places = places_of(alloc, library, scale, statements)?;
+    StatementBoxes::of(alloc, &places)
 }
 
 /// Takes the boxes of components out, and says whether all of them were there.

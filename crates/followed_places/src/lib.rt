@@ -1,9 +1,9 @@
 //! The lines on the components of a text, which follow its edits.
 //!
-//! Begin with `FollowedPlaces::of`, which notes the components of a text that take part, over tiles, and which statements stand round
+//! Begin with `FollowedPlaces::of`, which notes the components of a text that take part, over tiles, and keeps what stands round
 //! components. For each exchange of statements that an edit of the text was made by, `follow` looks at those that went out and at those
 //! that came in: unless one of them is of what stands round components, it exchanges in lines that are kept the lines on their
-//! components, with those components alone whose boxes meet theirs. It reads these, and the statements of what stands round components.
+//! components, with those components alone whose boxes meet theirs. It reads these statements, and no others.
 //!
 //! What is noted is `HasPlaces` of `specs/Places`, and with the kept lines `AreFollowed`. Statements are asked of
 //! `design_text` by their numbers, lines are those of `place_checks`, and that they follow is a law of `staying_laws`.

@@ -60,18 +60,18 @@ fn push_components<'t, A: Allocator>(
 pub(crate) fn lines_of<'t, A: Allocator + Copy>(
     alloc: A,
     library: &'t Library<'_, A>,
-    scale: u32,
     text: &'t DesignText<A>,
     around: &Around<'t, A>,
     boxes: &StatementBoxes<A>,
     components: &[Placed<'t>],
 ) -> Result<Lines<A>, AllocError>
-    requires some { 0 < scale }
-    requires few { scale ≤ 100000 }
-    requires kept { (ids : List Number) × AreBoxesOf library.now scale text.now.pieces.table.slots ids boxes.now }
-    ensures { (ids : List Number) → AreBoxesOf library.now scale text.now.pieces.table.slots ids boxes.now
-        → IfOk result (λ lines. SameLines lines (lines_of_components (surroundings_view around.now.surroundings) (map component_of components.now) (boxed_under library.now scale text.now.pieces.table.slots ids) (map rectangle_of around.now.keep_outs.items) [])) }
+    requires some { 0 < around.now.scale }
+    requires few { around.now.scale ≤ 100000 }
+    requires kept { (ids : List Number) × AreBoxesOf library.now around.now.scale text.now.pieces.table.slots ids boxes.now }
+    ensures { (ids : List Number) → AreBoxesOf library.now around.now.scale text.now.pieces.table.slots ids boxes.now
+        → IfOk result (λ lines. SameLines lines (lines_of_components (surroundings_view around.now.surroundings) (map component_of components.now) (boxed_under library.now around.now.scale text.now.pieces.table.slots ids) (map rectangle_of around.now.keep_outs.now) [])) }
 {
+    let scale = around.scale;
     let mut lines = Lines::new(alloc);
     for (place, one) in components.iter().enumerate() {
         let mut others = met(alloc, library, scale, text, boxes, one.component.rect)?;
@@ -81,7 +81,7 @@ pub(crate) fn lines_of<'t, A: Allocator + Copy>(
             &around.surroundings,
             &one.component,
             &others,
-            &around.keep_outs,
+            around.keep_outs,
             &mut lines,
         )?;
     }

@@ -1,8 +1,14 @@
+mod ComponentPins
 mod NetChanges
 mod NetNames
 mod NoNets
+mod OneEntry
+mod OneExchanged
 mod OneNet
+mod PinLines
+mod PinsOnce
 pub mod Selecting
+mod StarNets
 mod ToldNets
 mod Touched
 pub mod Within

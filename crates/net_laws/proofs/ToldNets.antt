@@ -192,15 +192,16 @@ by_kind false true d x x' y y' z z' f g h = f refl
 by_kind false false true x x' y y' z z' f g h = g
 by_kind false false false x x' y y' z z' f g h = h
 
-module _ (library : Library) (a b : List Record) (u : ℕ) (name : List ℕ) (agree : AgreeOnNet a b name) where
+-- two designs agree on what any net may be made of
+module _ (library : Library) (a b : List Record) (u : ℕ) (common : filter is_common a ≡ filter is_common b) where
   same_vias : def_vias a ≡ def_vias b
-  same_vias = selected_alike is_common (λ (r : Record). entry_of r >>= via_of_entry) no_via a b agree.common
+  same_vias = selected_alike is_common (λ (r : Record). entry_of r >>= via_of_entry) no_via a b common
 
   same_rules : def_rules a ≡ def_rules b
-  same_rules = selected_alike is_common (λ (r : Record). entry_of r >>= rule_of_entry) no_rule a b agree.common
+  same_rules = selected_alike is_common (λ (r : Record). entry_of r >>= rule_of_entry) no_rule a b common
 
   same_pins : design_pins library a u ≡ design_pins library b u
-  same_pins = selected_alike is_common (pin_of library a u) (no_pin library a u) a b agree.common
+  same_pins = selected_alike is_common (pin_of library a u) (no_pin library a u) a b common
 
   same_shapes : via_shapes library a u ≡ via_shapes library b u
   same_shapes = ap (λ (vias : List DefVia). shapes_by library u vias) same_vias
@@ -233,22 +234,33 @@ module _ (library : Library) (a b : List Record) (u : ℕ) (name : List ℕ) (ag
   same_in (in_properties p) = refl
   same_in (end_section s) = refl
 
-  all_wired_same : (all : List Record) → filter_map (wired_in library a u) all ≡ filter_map (wired_in library b u) all
+  pub all_wired_same : (all : List Record) → filter_map (wired_in library a u) all ≡ filter_map (wired_in library b u) all
   all_wired_same [] = refl
   all_wired_same (r ∷ all) = ap₂ (λ (w : Option Wired) (ws : List Wired). cons_option w ws) (same_in r) (all_wired_same all)
 
+  pub same_design : (pin : List ℕ) → (pins_by_name library a u).of_design pin ≡ (pins_by_name library b u).of_design pin
+  same_design pin =
+      ap₂ (λ (f : Pin → NetPin) (pins : List Pin). option_to_list (option_map f (find_named (λ (p : Pin). p.name) pins pin))) same_pin same_pins
+
+  pub same_naming : (net : List ℕ) → (pins_by_name library a u).naming net ≡ (pins_by_name library b u).naming net
+  same_naming net = ap₂ (λ (f : Pin → NetPin) (pins : List Pin). map f (filter (names_net library a u net) pins)) same_pin same_pins
+
+  -- entries of one name
+  pub named_wired_same : (name : List ℕ) → filter (is_of_net name) a ≡ filter (is_of_net name) b
+      → filter (is_named library a u name) (all_wired library a u) ≡ filter (is_named library b u name) (all_wired library b u)
+  named_wired_same name entries =
+      named_wired library a u name a
+      ∙ ap (filter_map (wired_in library a u)) entries
+      ∙ all_wired_same (filter (is_of_net name) b)
+      ∙ sym (named_wired library b u name b)
+
+-- and on the rest that tells a net
+module _ (library : Library) (a b : List Record) (u : ℕ) (name : List ℕ) (agree : AgreeOnNet a b name) where
   abbrev pins_a : PinsByName
   pins_a = pins_by_name library a u
 
   abbrev pins_b : PinsByName
   pins_b = pins_by_name library b u
-
-  same_design : (pin : List ℕ) → pins_a.of_design pin ≡ pins_b.of_design pin
-  same_design pin =
-      ap₂ (λ (f : Pin → NetPin) (pins : List Pin). option_to_list (option_map f (find_named (λ (p : Pin). p.name) pins pin))) same_pin same_pins
-
-  same_naming : (net : List ℕ) → pins_a.naming net ≡ pins_b.naming net
-  same_naming net = ap₂ (λ (f : Pin → NetPin) (pins : List Pin). map f (filter (names_net library a u net) pins)) same_pin same_pins
 
   same_terminal : (t : Terminal) → FindsAlike a b t → pins_of pins_a t ≡ pins_of pins_b t
   same_terminal t found =
@@ -256,7 +268,7 @@ module _ (library : Library) (a b : List Record) (u : ℕ) (name : List ℕ) (ag
       (pins_a.of_component t.owner t.pin)
       (pins_b.of_component t.owner t.pin)
       (λ star. ap (filter_map (pin_of_component library u t.pin)) (found.all star))
-      (same_design t.pin)
+      (same_design library a b u agree.common t.pin)
       (ap (λ c. option_to_list (c >>= pin_of_component library u t.pin)) found.named)
 
   same_terminals : (ts : List Terminal) → AllByRecursion (FindsAlike a b) ts → flat_map (pins_of pins_a) ts ≡ flat_map (pins_of pins_b) ts
@@ -267,11 +279,7 @@ module _ (library : Library) (a b : List Record) (u : ℕ) (name : List ℕ) (ag
   wired all = filter (is_named library all u name) (all_wired library all u)
 
   same_entries : wired a ≡ wired b
-  same_entries =
-      named_wired library a u name a
-      ∙ ap (filter_map (wired_in library a u)) agree.entries
-      ∙ all_wired_same (filter (is_of_net name) b)
-      ∙ sym (named_wired library b u name b)
+  same_entries = named_wired_same library a b u agree.common name agree.entries
 
   abbrev listed : List Wired → List Terminal
   listed ws = flat_map (λ (w : Wired). w.terminals) ws
@@ -286,7 +294,7 @@ module _ (library : Library) (a b : List Record) (u : ℕ) (name : List ℕ) (ag
       ∙ ap (flat_map (pins_of pins_b)) (sym listed_are ∙ ap listed same_entries)
 
   pub same_net : net_named library a u name ≡ net_named library b u name
-  same_net = rw (same_listed, same_naming name, same_entries) refl
+  same_net = rw (same_listed, same_naming library a b u agree.common name, same_entries) refl
 
 pub nets_are_told : NetsAreTold
 nets_are_told library a b u name agree = same_net library a b u name agree

@@ -2,4 +2,6 @@ pub mod NetChanges
 pub mod NetExchanges
 pub mod NetsTold
 pub mod OneNet
+pub mod PinLines
+pub mod StarNets
 pub mod Within

@@ -11,6 +11,8 @@ ghost use Rattle.net_laws.specs.NetsTold.{NetsAreTold};
 ghost use Rattle.net_laws.specs.NetExchanges.{NetsAreExchanged, NoNetsNoLines};
 ghost use Rattle.net_laws.specs.NetChanges.{ApartOnAndOn, ToldNetsAreExchanged, TouchedApart};
 ghost use Rattle.net_laws.specs.OneNet.{OneNetIsTold};
+ghost use Rattle.net_laws.specs.PinLines.{PinLinesFollow};
+ghost use Rattle.net_laws.specs.StarNets.{AgreeOnAndOn, OneComponentExchanged, OneComponentIsTold, OneEntryTells, OneExchangedAgree};
 ghost use Rattle.net_laws.specs.Within.{WithinApart};
 
 /// A net is the same in two designs that agree on what tells it.
@@ -51,4 +53,34 @@ pub fn within_apart()
 /// Where designs agree apart from some nets that few statements tell in both, these nets are exchanged, and the others stay.
 pub fn told_nets_are_exchanged()
     ensures { ToldNetsAreExchanged }
+{}
+
+/// Where designs agree on what tells a net but for one component, the pins of that component are exchanged, and its other parts stay.
+pub fn one_component_exchanged()
+    ensures { OneComponentExchanged }
+{}
+
+/// Designs agree so where statements of one component are exchanged,
+pub fn one_exchanged_agree()
+    ensures { OneExchangedAgree }
+{}
+
+/// also after several such exchanges.
+pub fn agree_on_and_on()
+    ensures { AgreeOnAndOn }
+{}
+
+/// Few statements tell which pins of one component a net has.
+pub fn one_component_is_told()
+    ensures { OneComponentIsTold }
+{}
+
+/// Where a net has some pins in the place of others, the lines on nets follow by the shapes of these pins alone.
+pub fn pin_lines_follow()
+    ensures { PinLinesFollow }
+{}
+
+/// A net of one entry is told by some statements.
+pub fn one_entry_tells()
+    ensures { OneEntryTells }
 {}

@@ -71,6 +71,7 @@ impl<'t, A: Allocator + Copy> NetList<'t, A> {
     }
 
     /// Puts a part without shapes behind those of the last net. A refused growth leaves the list as it was.
+    #[inline(always)]
     pub fn begin_part(&mut self, is_pin: bool) -> Result<(), AllocError>
         requires { 0 < length self.old }
         ensures ok { OnOk result (self.new ≡ with_part is_pin self.old) }
@@ -86,6 +87,7 @@ impl<'t, A: Allocator + Copy> NetList<'t, A> {
 
     /// Puts a shape behind those of the last net's last part. A refused growth leaves the list as it was, and a part
     /// of 2^32 - 1 shapes doesn't grow.
+    #[inline(always)]
     pub fn push_shape(&mut self, layer: LayerId, rect: Rect) -> Result<(), AllocError>
         requires { 0 < length (last_parts self.old) }
         ensures ok { OnOk result (self.new ≡ with_shape (record { layer = layer.0; box = rectangle_of rect }) self.old) }

@@ -22,6 +22,7 @@ pub struct PartHead {
 
 impl PartHead {
     /// The part with one shape more. More than fit into a number are refused as memory is.
+    #[inline(always)]
     pub(crate) fn with_one_more(&self) -> Result<PartHead, AllocError>
         ensures { IfOk result (λ p. p ≡ record { is_pin = self.now.is_pin; shapes = self.now.shapes + 1 }) }
     {

@@ -1,5 +1,5 @@
 -- The words of pins in the program as those of the definitions, and as keys of a table.
-use Rattle.std.specs.Prelude.{◌≡◌, ℕ, Bool, ◌&&◌, List, [], ◌∷◌, Option, Some, None, IsTrue}
+use Rattle.std.specs.Prelude.{◌≡◌, ℕ, Bool, ◌-◌, ◌&&◌, List, [], ◌∷◌, length, slice_index, Option, Some, None, IsTrue}
 use Rattle.std.specs.Cmp.{IsEquivalence, and_equiv, first_so, on_equiv, second_so}
 use Rattle.std.specs.Cmp.Lexicographic.{bytes_decides, nat_list_eq_equiv, options_equiv}
 use Rattle.std.specs.Option.{option_eq}
@@ -15,6 +15,15 @@ words_in (Some component) pin = component.now ∷ pin ∷ []
 
 abbrev pub words_of : PinWords → Key
 words_of w = words_in w.component w.pin.now
+
+-- the last byte of a name, or 0 where there is none
+abbrev pub last_byte : List ℕ → ℕ
+last_byte name = slice_index name (length name - 1)
+
+-- that of a component's name
+abbrev pub end_of : Option (Bor (List ℕ)) → ℕ
+end_of None = 0
+end_of (Some component) = last_byte component.now
 
 abbrev pub is_same_lent : Bor (List ℕ) → Bor (List ℕ) → Bool
 is_same_lent a b = bytes_eq a.now b.now

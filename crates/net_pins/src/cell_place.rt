@@ -10,6 +10,7 @@ ghost use Rattle.design_wires.specs.Scales.{units_of};
 ghost use Rattle.net_pins.specs.CellPlaces.{place_of_spot};
 
 use crate::cell_frame::CellFrame;
+use crate::last_rects::LastRects;
 use cell_library::numbers::MicronRect;
 use design_model::geometry::{Orient, Point, Rect};
 use orient_geom::{move_by, place_rect};
@@ -25,6 +26,7 @@ pub(crate) struct CellPlace {
 }
 
 /// Where a component stands, in database units.
+#[inline(always)]
 fn place_of_spot(spot: Spot) -> Point
     ensures is { result ≡ place_of_spot spot }
     ensures near { IsPointWithin 2147483648 result }
@@ -37,6 +39,7 @@ fn place_of_spot(spot: Spot) -> Point
 
 impl CellPlace {
     /// That of a macro for a component that stands there.
+    #[inline(always)]
     pub(crate) fn of(frame: CellFrame, spot: Spot) -> CellPlace
         ensures frame { result.frame ≡ frame }
         ensures orient { result.orient ≡ spot.orient }
@@ -50,25 +53,25 @@ impl CellPlace {
     }
 
     /// Where the macro has a rectangle, before the component is placed.
-    fn in_macro(self, rectangle: MicronRect) -> Rect
+    #[inline(always)]
+    fn in_macro(self, rects: &mut LastRects, rectangle: MicronRect) -> Rect
         ensures is { rectangle_of result ≡ moved self.frame.origin.x self.frame.origin.y (rectangle_in (units_of self.frame.scale) (rectangle_view rectangle)) }
         ensures near { IsNearRectangle (rectangle_of result) }
     {
-        move_by(
-            rectangle.in_units(self.frame.scale.per_micron()),
-            self.frame.origin,
-        )
+        let rect = rects.in_units(rectangle, self.frame.scale);
+        move_by(rect, self.frame.origin)
     }
 
     /// Where a rectangle of the macro lies.
-    pub(crate) fn place(self, rectangle: MicronRect) -> Rect
+    #[inline(always)]
+    pub(crate) fn place(self, rects: &mut LastRects, rectangle: MicronRect) -> Rect
         ensures { rectangle_of result ≡ placed self.orient (rectangle_of self.frame.boundary) self.at (moved self.frame.origin.x self.frame.origin.y (rectangle_in (units_of self.frame.scale) (rectangle_view rectangle))) }
     {
         place_rect(
             self.orient,
             self.frame.boundary,
             self.at,
-            self.in_macro(rectangle),
+            self.in_macro(rects, rectangle),
         )
     }
 }

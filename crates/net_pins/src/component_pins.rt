@@ -15,6 +15,7 @@ ghost use Rattle.net_pins.specs.Putting.{HasPart};
 
 use crate::cell_place::CellPlace;
 use crate::found_pin::FoundPin;
+use crate::last_rects::LastRects;
 use crate::macro_pins::{has_shape, put_shapes};
 use checked_layers::LastLayers;
 use net_lists::NetList;
@@ -23,10 +24,12 @@ use place_parts::standing::Standing;
 use std::alloc::{AllocError, Allocator};
 
 /// Puts the shapes of a component's pin, where the component is placed, into the last part.
+#[inline(always)]
 fn put_placed<A: Allocator + Copy>(
     pin: FoundPin<'_, '_, '_, A>,
     component: &ComponentParts<'_>,
     layers: &mut LastLayers<'_, '_, A>,
+    rects: &mut LastRects,
     nets: &mut NetList<'_, A>,
 ) -> Result<(), AllocError>
     requires { HasPart nets.old }
@@ -41,14 +44,16 @@ fn put_placed<A: Allocator + Copy>(
         return Ok(());
     };
     let place = CellPlace::of(pin.frame, spot);
-    put_shapes(layers, place, pin.pin.shapes.as_slice(), nets)
+    put_shapes(layers, place, pin.pin.shapes.as_slice(), rects, nets)
 }
 
 /// Puts a component's pin behind the parts of the last net, where it counts.
+#[inline(always)]
 pub(crate) fn put_component_pin<A: Allocator + Copy>(
     pin: FoundPin<'_, '_, '_, A>,
     component: &ComponentParts<'_>,
     layers: &mut LastLayers<'_, '_, A>,
+    rects: &mut LastRects,
     nets: &mut NetList<'_, A>,
 ) -> Result<(), AllocError>
     requires { 0 < length nets.old }
@@ -60,5 +65,5 @@ pub(crate) fn put_component_pin<A: Allocator + Copy>(
         return Ok(());
     }
     nets.begin_part(true)?;
-    put_placed(pin, component, layers, nets)
+    put_placed(pin, component, layers, rects, nets)
 }

@@ -20,6 +20,7 @@ pub(crate) struct FoundPin<'a, 'l, 't, A: Allocator = Global> {
 
 impl<'a, 'l, 't, A: Allocator + Copy> FoundPin<'a, 'l, 't, A> {
     /// Whether it was found by these names, and with this scale.
+    #[inline(always)]
     pub(crate) fn is_of(&self, scale: Scale, cell: &[u8], name: &[u8]) -> bool
         ensures cell { result ≡ true → self.now.cell.now ≡ cell.now }
         ensures name { result ≡ true → self.now.name.now ≡ name.now }

@@ -37,6 +37,7 @@ impl<'a, 'l, 't, A: Allocator> Model for LastPins<'a, 'l, 't, A> {
 }
 
 /// The byte so many places before the end of a name, or 0 where there is none.
+#[inline(always)]
 fn byte_from_end(name: &[u8], places: usize) -> usize
     ensures { result < 256 }
 {
@@ -48,6 +49,7 @@ fn byte_from_end(name: &[u8], places: usize) -> usize
 
 /// The slot of a pin by the names of its macro and its own. Macros as `NAND2_X1` or `nand2_4` differ from others in their last bytes
 /// or in their length.
+#[inline(always)]
 fn slot_of(cell: &[u8], pin: &[u8]) -> usize
     ensures { result < 255 }
 {
@@ -60,6 +62,7 @@ fn slot_of(cell: &[u8], pin: &[u8]) -> usize
 }
 
 /// The pin in a slot, if it was found by these names and with this scale.
+#[inline(always)]
 fn pin_in<'a, 'l, 't, A: Allocator + Copy>(
     slots: &[FoundPin<'a, 'l, 't, A>],
     slot: usize,
@@ -157,6 +160,7 @@ impl<'a, 'l, 't, A: Allocator + Copy> LastPins<'a, 'l, 't, A> {
     }
 
     /// The pin of a name of the macro of a name, with the macro at a scale.
+    #[inline(always)]
     pub(crate) fn pin_of(
         &mut self,
         scale: Scale,

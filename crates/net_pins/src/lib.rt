@@ -21,6 +21,7 @@ mod component_pins;
 mod design_pins;
 mod found_pin;
 mod last_pins;
+mod last_rects;
 mod lent_pin;
 mod listed_pins;
 mod macro_pins;

@@ -39,6 +39,7 @@ use wire_parts::nets::NetEntry;
 use wire_parts::terminals::Terminal;
 
 /// Puts a pin of a component that its macro has, where it counts, unless it was seen.
+#[inline(always)]
 fn put_found<'t, A: Allocator + Copy>(
     pin: FoundPin<'_, '_, 't, A>,
     component: &ComponentParts<'t>,
@@ -57,10 +58,11 @@ fn put_found<'t, A: Allocator + Copy>(
     if !walk.seen.note(words)? {
         return Ok(());
     }
-    put_component_pin(pin, component, &mut walk.layers, nets)
+    put_component_pin(pin, component, &mut walk.layers, &mut walk.rects, nets)
 }
 
 /// Puts the pin of this name of a component, where it has that and it counts, unless it was seen.
+#[inline(always)]
 fn put_pin_of<'a, 'l: 'a, 'r: 'a, 't: 'a, A: Allocator + Copy>(
     of: &Sources<'_, 'a, 'l, 'r, 't, A>,
     component: &ComponentParts<'t>,
@@ -121,6 +123,7 @@ fn put_pin_of_statement<'a, 'l: 'a, 'r: 'a, 't: 'a, A: Allocator + Copy>(
 }
 
 /// Puts the pin of this name of each component that has it.
+#[inline(never)]
 fn put_pins_of_all<'a, 'l: 'a, 'r: 'a, 't: 'a, A: Allocator + Copy>(
     of: &Sources<'_, 'a, 'l, 'r, 't, A>,
     records: &[Statement<'t>],
@@ -160,6 +163,7 @@ fn pin_named<'r, 't, A: Allocator + Copy>(
 }
 
 /// Puts the first pin of the design with this name.
+#[inline(never)]
 fn put_pin_named<'a, 'l: 'a, 'r: 'a, 't: 'a, A: Allocator + Copy>(
     of: &Sources<'_, 'a, 'l, 'r, 't, A>,
     name: &[u8],
@@ -177,6 +181,7 @@ fn put_pin_named<'a, 'l: 'a, 'r: 'a, 't: 'a, A: Allocator + Copy>(
 }
 
 /// Puts the pin of this name of the first component with this name.
+#[inline(always)]
 fn put_pin_of_named<'a, 'l: 'a, 'r: 'a, 't: 'a, A: Allocator + Copy>(
     of: &Sources<'_, 'a, 'l, 'r, 't, A>,
     component: &[u8],
@@ -188,13 +193,14 @@ fn put_pin_of_named<'a, 'l: 'a, 'r: 'a, 't: 'a, A: Allocator + Copy>(
     ensures ok { OnOk result ((walk.new.seen, nets.new) ≡ with_pins ((pins_in of.now).of_component component.now pin.entry.now) (walk.old.seen, nets.old)) }
     ensures ready { OnOk result (IsReady of.now.library.now walk.new nets.new) }
 {
-    match of.names.component(component) {
+    match of.names.component_near(component, &mut walk.noted) {
         Some(parts) => put_pin_of(of, parts, pin, walk, nets),
         None => Ok(()),
     }
 }
 
 /// Puts the pins that a terminal stands for.
+#[inline(always)]
 fn put_terminal<'a, 'l: 'a, 'r: 'a, 't: 'a, A: Allocator + Copy>(
     of: &Sources<'_, 'a, 'l, 'r, 't, A>,
     terminal: &Terminal<'t>,

@@ -10,6 +10,7 @@ ghost use Rattle.net_pins.specs.MacroPins.{all_checked, all_placed, layer_checke
 ghost use Rattle.net_pins.specs.Putting.{HasPart};
 
 use crate::cell_place::CellPlace;
+use crate::last_rects::LastRects;
 use cell_library::numbers::MicronRect;
 use cell_library::shapes::LayerShapes;
 use checked_layers::LastLayers;
@@ -18,6 +19,7 @@ use net_lists::NetList;
 use std::alloc::{AllocError, Allocator};
 
 /// Whether there is a rectangle on a layer, and the layer is such a one.
+#[inline(always)]
 fn layer_has_shape<A: Allocator + Copy>(
     layers: &mut LastLayers<'_, '_, A>,
     layer: &LayerShapes<'_, A>,
@@ -32,6 +34,7 @@ fn layer_has_shape<A: Allocator + Copy>(
 }
 
 /// Whether there is a shape on such a layer.
+#[inline(always)]
 pub(crate) fn has_shape<A: Allocator + Copy>(
     layers: &mut LastLayers<'_, '_, A>,
     shapes: &[LayerShapes<'_, A>],
@@ -48,10 +51,12 @@ pub(crate) fn has_shape<A: Allocator + Copy>(
 }
 
 /// Puts rectangles on a layer, where they lie for a component, into the last part.
+#[inline(always)]
 fn put_rectangles<A: Allocator + Copy>(
     place: CellPlace,
     layer: LayerId,
     rectangles: &[MicronRect],
+    rects: &mut LastRects,
     nets: &mut NetList<'_, A>,
 ) -> Result<(), AllocError>
     requires { HasPart nets.old }
@@ -59,16 +64,18 @@ fn put_rectangles<A: Allocator + Copy>(
     ensures part { OnOk result (HasPart nets.new) }
 {
     for rectangle in rectangles {
-        nets.push_shape(layer, place.place(*rectangle))?;
+        nets.push_shape(layer, place.place(rects, *rectangle))?;
     }
     Ok(())
 }
 
 /// Puts the shapes on a layer, where it is such a one, into the last part.
+#[inline(always)]
 fn put_layer<A: Allocator + Copy>(
     layers: &mut LastLayers<'_, '_, A>,
     place: CellPlace,
     layer: &LayerShapes<'_, A>,
+    rects: &mut LastRects,
     nets: &mut NetList<'_, A>,
 ) -> Result<(), AllocError>
     requires { HasPart nets.old }
@@ -77,16 +84,18 @@ fn put_layer<A: Allocator + Copy>(
     ensures same { layers.new ≡ layers.old }
 {
     match layers.layer_of(layer.layer) {
-        Some(id) => put_rectangles(place, id, layer.rectangles.as_slice(), nets),
+        Some(id) => put_rectangles(place, id, layer.rectangles.as_slice(), rects, nets),
         None => Ok(()),
     }
 }
 
 /// Puts the shapes on such layers, where they lie for a component, into the last part.
+#[inline(always)]
 pub(crate) fn put_shapes<A: Allocator + Copy>(
     layers: &mut LastLayers<'_, '_, A>,
     place: CellPlace,
     shapes: &[LayerShapes<'_, A>],
+    rects: &mut LastRects,
     nets: &mut NetList<'_, A>,
 ) -> Result<(), AllocError>
     requires { HasPart nets.old }
@@ -95,7 +104,7 @@ pub(crate) fn put_shapes<A: Allocator + Copy>(
     ensures same { layers.new ≡ layers.old }
 {
     for layer in shapes {
-        put_layer(layers, place, layer, nets)?;
+        put_layer(layers, place, layer, rects, nets)?;
     }
     Ok(())
 }

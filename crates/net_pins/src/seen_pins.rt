@@ -3,7 +3,7 @@
 ghost use Rattle.std.specs.Prelude.{◌≡◌, ◌++◌, ◌∷◌, [], IfOk, OnOk, not, if◌then◌else◌};
 ghost use Rattle.statement_model.specs.Reading.{is_among};
 ghost use Rattle.std.specs.Cmp.{partial_equiv_from_equiv};
-ghost use Rattle.net_pins.specs.SeenViews.{is_same_pin, same_pins, same_words_of, words_of};
+ghost use Rattle.net_pins.specs.SeenViews.{end_of, is_same_pin, last_byte, same_pins, same_words_of, words_of};
 
 use indexmap::IndexSet;
 use std::alloc::{AllocError, Allocator, Global};
@@ -11,7 +11,7 @@ use std::hash::{Hash, Hasher, RandomState};
 use std::marker::Model;
 
 /// How many pins are gone over one by one, which are all pins of most nets.
-const FEW: usize = 16;
+const FEW: usize = 8;
 
 /// The component of a pin, unless it is the design's, and its name: a key of a table, each hashed by one write.
 #[derive(Clone, Copy, Drop)]
@@ -20,13 +20,37 @@ pub(crate) struct PinWords<'t> {
     pub(crate) pin: &'t [u8],
 }
 
+/// The last byte of a component's name, in which the names of most components of a net differ; 0 where there is none.
+#[inline(always)]
+fn end_of(component: Option<&[u8]>) -> u8
+    ensures { result ≡ end_of component.entry }
+{
+    match component {
+        Some(name) => last_byte(name),
+        None => 0,
+    }
+}
+
+/// The last byte of a name, or 0 where there is none.
+#[inline(always)]
+fn last_byte(name: &[u8]) -> u8
+    ensures { result ≡ last_byte name.now }
+{
+    match name.last() {
+        Some(byte) => *byte,
+        None => 0,
+    }
+}
+
 impl<'t> PartialEq for PinWords<'t> {
     ghost eq = { is_same_pin };
 
     ghost laws = { partial_equiv_from_equiv same_pins };
 
     fn eq(&self, other: &PinWords<'t>) -> bool {
-        self.component == other.component && self.pin == other.pin
+        end_of(self.component) == end_of(other.component)
+            && self.component == other.component
+            && self.pin == other.pin
     }
 }
 
@@ -64,7 +88,7 @@ impl<'t, A: Allocator> Model for SeenPins<'t, A> {
 
     ghost view = { λ s. map words_of (s.first.items ++ s.further.keys) };
 
-    ghost invariant = { λ s. length s.first.items < 16 → s.further.keys ≡ [] };
+    ghost invariant = { λ s. length s.first.items < 8 → s.further.keys ≡ [] };
 }
 
 impl<'t, A: Allocator + Copy> SeenPins<'t, A> {

@@ -3,6 +3,7 @@ pub mod CountLemmas
 pub mod FitLemmas
 pub mod HeightLemmas
 pub mod HullLemmas
+pub mod KeptLemmas
 pub mod OwnLines
 pub mod PatternLemmas
 pub mod Ranges

@@ -3,6 +3,8 @@ pub mod FenceLines
 pub mod Heights
 pub mod Hulls
 pub mod IndexViews
+pub mod KeptOrders
+pub mod KeptViews
 pub mod OneLines
 pub mod Patterns
 pub mod PlaceViews

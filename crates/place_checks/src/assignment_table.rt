@@ -27,7 +27,7 @@ pub struct AssignmentTable<'t, A: Allocator = Global> {
 }
 
 /// A pattern that has a star.
-fn starred_of<'t>(pattern: &'t [u8]) -> Option<StarredPattern<'t>>
+pub(crate) fn starred_of<'t>(pattern: &'t [u8]) -> Option<StarredPattern<'t>>
     ensures { MatchOption result (has_star pattern.now ≡ false) (λ p. (starred_pattern p ≡ pattern.now) × (has_star pattern.now ≡ true)) }
 {
     StarredPattern::of(pattern)
@@ -47,7 +47,11 @@ fn push_patterns<'t, A: Allocator>(
         let pattern = pattern.word.bytes;
         let region = assignment.region;
         match starred_of(pattern) {
-            Some(pattern) => starred.push(Starred { pattern, region })?,
+            Some(cut) => starred.push(Starred {
+                pattern: cut,
+                bytes: pattern,
+                region,
+            })?,
             None => named.push(Assigned { pattern, region })?,
         }
     }
@@ -116,6 +120,32 @@ impl<'t, A: Allocator + Copy> AssignmentTable<'t, A> {
         }
         named.sort_unstable_by(|a, b| a.pattern.cmp(b.pattern));
         Ok(AssignmentTable { named, starred })
+    }
+
+    /// A table of these patterns, which are those of one, in its order. It takes no memory.
+    pub(crate) fn in_order(
+        named: Vec<Assigned<'t>, A>,
+        starred: Vec<Starred<'t>, A>,
+    ) -> AssignmentTable<'t, A>
+        requires sorted { IsSortedByKey (λ a. a.pattern.now) (slice_cmp nat_cmp) named.items }
+        requires starless { list_any is_starred named.items ≡ false }
+        ensures { assignments_view result ≡ map assigned_view named.entry.items ++ map starred_view starred.entry.items }
+    {
+        AssignmentTable { named, starred }
+    }
+
+    /// The patterns without a star.
+    pub(crate) fn named(&self) -> &[Assigned<'t>]
+        ensures { result.now ≡ self.now.named.items }
+    {
+        &self.named
+    }
+
+    /// Those with one.
+    pub(crate) fn starred(&self) -> &[Starred<'t>]
+        ensures { result.now ≡ self.now.starred.items }
+    {
+        &self.starred
     }
 
     /// The patterns without a star that are this name.

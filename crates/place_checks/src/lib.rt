@@ -8,7 +8,8 @@
 //! (`assignment_table`), passing over fences whose hull is apart from its box (`hull`). `count::counts_of` puts a line for each
 //! section whose header says another number. Who follows a change asks for the lines of one component in what
 //! `surroundings::surroundings_of` gives, or of one rectangle: `place_lines::lines_in` and the calls of `one`; `boxes::boxes_among` has the
-//! components among some of the statements.
+//! components among some of the statements. From one edit to the next it keeps the surroundings by `kept_surroundings`, which lends
+//! them again.
 //! What they say is defined in `design_rules/specs`: `Boxes`, `Surroundings`, `OverlapLines`, `PlaceLines` and `CountLines`;
 //! `specs/Views`, `PlaceViews` and `IndexViews` say how components and surroundings are seen there. No text is read here:
 //! statements come from `def_reader`.
@@ -31,6 +32,12 @@ pub mod floor;
 pub mod groups;
 mod hull;
 pub mod keep_outs;
+mod kept_assigned;
+mod kept_assignments;
+mod kept_fence;
+mod kept_row;
+mod kept_rows;
+pub mod kept_surroundings;
 mod names;
 pub mod one;
 pub mod overlap;

@@ -42,6 +42,21 @@ impl<'t, A: Allocator> RowIndex<'t, A> {
         RowIndex { rows }
     }
 
+    /// An index of these rows, which are those of one, in its order. It takes no memory.
+    pub(crate) fn in_order(rows: Vec<PlacedRow<'t>, A>) -> RowIndex<'t, A>
+        requires { IsSortedByKey edge_of int_cmp rows.items }
+        ensures { rows_view result ≡ map placed_row_view rows.entry.items }
+    {
+        RowIndex { rows }
+    }
+
+    /// All rows, in the order of the index.
+    pub(crate) fn rows(&self) -> &[PlacedRow<'t>]
+        ensures { result.now ≡ self.now.rows.items }
+    {
+        &self.rows
+    }
+
     /// The rows that are looked up by an edge.
     pub(crate) fn at_edge(&self, edge: i64) -> &[PlacedRow<'t>]
         ensures { result.now ≡ filter (λ row. int_eq (edge_of row) edge) self.now.rows.items }

@@ -1,6 +1,7 @@
 pub mod BoxSteps
 pub mod CellAnswers
 pub mod DensitySteps
+pub mod ExchangeSteps
 pub mod MeasuredSteps
 pub mod NetAnswers
 pub mod TableLemmas

@@ -1,7 +1,7 @@
 -- Nets that are measured one after the other.
 use Rattle.std.proofs.Common.{◌≡◌, ◌+◌, ◌≤◌, ℕ, List, [], ◌∷◌, ◌++◌, flat_map, length, map, sum, take, refl, sym, ap, ap₂, ◌∙◌, Some, ℤ, arith, slice_get}
 use Rattle.std.proofs.lemmas.Grind.{flat_map-append}
-use Rattle.std.proofs.lemmas.List.{append-nil, length-append, length-map, map-append, take_all, take_more}
+use Rattle.std.proofs.lemmas.List.{append-nil, length-append, map-append, take_all, take_more}
 use Rattle.std.proofs.lemmas.List.Sums.{sum_by_push}
 use Rattle.std.proofs.lemmas.Option.{slice_get_within, get_or_from_slice_get}
 use Rattle.design_model.specs.Geometry.{Rectangle}

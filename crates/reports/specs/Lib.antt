@@ -1,3 +1,4 @@
 pub mod Answers
 pub mod Densities
+pub mod Exchanges
 pub mod MeasuredNets

@@ -1,15 +1,17 @@
 //! What is measured of a design: the lengths of its nets, the boxes round them, and how dense the cells of its grid are.
 //!
 //! Begin with `Reports::open`, which makes it all once; then ask `net_length`, `net_box`, `total_length`, `cell` and `place_cell`.
-//! What they answer is defined in `measure_rules/specs`; `specs/Answers` says that of all of them together (`ReportsOn`). The nets come
-//! from `design_nets`, components that take part from `place_checks`, the lines of the grid from `design_grid`, and sums by cells from
-//! `cell_sums`.
+//! What they answer is defined in `measure_rules/specs`; `specs/Answers` says that of all of them together (`ReportsOn`). They follow an
+//! exchange of the shapes of one net, or of the box of one component, by `exchange_net` and `exchange_component`; `specs/Exchanges` says
+//! what becomes of each answer. The nets come from `design_nets`, components that take part from `place_checks`, the lines of the grid
+//! from `design_grid`, and sums by cells from `cell_sums`.
 //!
 //! `Reports` owns what it holds and lends nothing: a name, a length and a box for each net, and the sums of cells that are in use.
-//! While it is made it draws one net after the other, and holds the shapes of that net alone. Making it is all that takes memory, and
-//! its one error is `AllocError`.
+//! While it is made it draws one net after the other, and holds the shapes of that net alone. Making it and following an exchange are
+//! all that takes memory, and their one error is `AllocError`; after one of an exchange the reports are of no use.
 #![tactic(auto)]
 
+mod cell_densities;
 mod densities;
 mod measured_nets;
 mod net_box;

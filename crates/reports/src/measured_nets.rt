@@ -16,11 +16,11 @@ ghost use Rattle.measure_rules.specs.NetBoxes.{box_round};
 ghost use Rattle.reports.specs.Densities.{HoldsMore};
 ghost use Rattle.reports.specs.MeasuredNets.{AreMeasured, name_of, shape_box};
 
-use crate::densities::{add_shapes, no_densities};
+use crate::cell_densities::CellDensities;
+use crate::densities::no_densities;
 use crate::net_box::box_round;
 use crate::net_table::{Measures, NetTable};
 use cell_library::library::Library;
-use cell_sums::CellSums;
 use design_names::names::Names;
 use design_nets::put_net;
 use design_wires::wires::DesignWires;
@@ -38,7 +38,7 @@ pub(crate) struct MeasuredNets<A: Allocator = Global> {
     pub(crate) table: NetTable<A>,
     /// 2^64 - 1 where it is more.
     pub(crate) total: u64,
-    pub(crate) cells: CellSums<A>,
+    pub(crate) cells: CellDensities<A>,
 }
 
 impl<A: Allocator + Copy> MeasuredNets<A> {
@@ -73,7 +73,7 @@ impl<A: Allocator + Copy> MeasuredNets<A> {
             bounds: box_round(shapes),
         };
         self.table.add(alloc, name, measures)?;
-        add_shapes(&mut self.cells, shapes)?;
+        self.cells.add_shapes(shapes)?;
         self.total = self.total.saturating_add(length);
         Ok(())
     }

@@ -1,7 +1,8 @@
 //! Nets by their names.
 
-ghost use Rattle.std.specs.Prelude.{◌≡◌, [], IfOk, OnOk};
+ghost use Rattle.std.specs.Prelude.{◌≡◌, ℕ, List, [], Some, IfOk, OnOk, if◌then◌else◌};
 ghost use Rattle.std.specs.Option.{option_map};
+ghost use Rattle.std.specs.Str.{bytes_eq};
 ghost use Rattle.form_meanings.specs.Firsts.{find_named, with_first};
 ghost use Rattle.reports.specs.MeasuredNets.{measures_view, name_of};
 
@@ -56,11 +57,21 @@ impl<A: Allocator + Copy> NetTable<A> {
     ) -> Result<(), AllocError>
         ensures { OnOk result (self.new ≡ with_first name_of self.old (measures_view name.now measures)) }
     {
-        if self.nets.contains_key(Name { bytes: name }) {
-            return Ok(());
+        // A name is nearly always new: one look-up puts it there, and a second one puts back the net that came first.
+        let key = OwnName::copy_of(alloc, name)?;
+        if let Some(first) = self.nets.insert(key, measures)? {
+            let key = OwnName::copy_of(alloc, name)?;
+            self.nets.insert(key, first)?;
         }
-        let name = OwnName::copy_of(alloc, name)?;
-        self.nets.insert(name, measures)?;
+        Ok(())
+    }
+
+    /// Gives the net of a name these measures, in the place of those that it has, if it is there. The name is copied.
+    pub(crate) fn set(&mut self, name: &[u8], measures: Measures) -> Result<(), AllocError>
+        ensures { OnOk result ((n : List ℕ) → find_named name_of self.new n ≡ (if bytes_eq name.now n then Some (measures_view name.now measures) else find_named name_of self.old n)) }
+    {
+        let key = OwnName::copy_of(*self.nets.allocator(), name)?;
+        self.nets.insert(key, measures)?;
         Ok(())
     }
 

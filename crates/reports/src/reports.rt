@@ -1,6 +1,6 @@
 //! What is measured of a design.
 
-ghost use Rattle.std.specs.Prelude.{◌≡◌, ◌<◌, ◌≤◌, ◌^◌, IfOk, flat_map};
+ghost use Rattle.std.specs.Prelude.{◌≡◌, ◌+◌, ◌<◌, ◌≤◌, ◌^◌, IfOk, OnOk, flat_map, map};
 ghost use Rattle.std.specs.List.{All};
 ghost use Rattle.std.specs.Option.{option_map};
 ghost use Rattle.design_model.specs.Ranges.{IsWithin};
@@ -8,20 +8,26 @@ ghost use Rattle.design_model.specs.Views.{rectangle_of};
 ghost use Rattle.design_rules.specs.Boxes.{scale};
 ghost use Rattle.measure_rules.specs.GridCells.{lines_along_x, lines_along_y};
 ghost use Rattle.measure_rules.specs.Lengths.{total_length};
+ghost use Rattle.net_lists.specs.PartCuts.{shape_view};
 ghost use Rattle.reports.specs.Answers.{ReportsOn, box_in, cell_in, length_in, place_cell_in};
+ghost use Rattle.reports.specs.Exchanges.{ComponentExchanged, NetExchanged};
 
+use crate::cell_densities::CellDensities;
 use crate::densities::place_densities;
 use crate::measured_nets::measured_nets;
-use crate::net_table::NetTable;
+use crate::net_table::{Measures, NetTable};
 use cell_library::library::Library;
-use cell_sums::CellSums;
 use design_model::geometry::Rect;
 use design_model::identifier::LayerId;
 use design_names::names::Names;
 use measure_laws::lengths::none_is_longer;
+use net_lists::NetShape;
 use place_checks::boxes::boxes_of;
 use std::alloc::{AllocError, Allocator, Global};
 use std::marker::Model;
+
+/// More layers are refused as memory is: areas are summed under twice a layer's number.
+const MOST_LAYERS: usize = usize::MAX / 2;
 
 /// The lengths of all nets and the boxes round them, and how dense the cells of the grid are, of one design.
 #[derive(Drop)]
@@ -29,16 +35,19 @@ pub struct Reports<A: Allocator = Global> {
     layers: usize,
     nets: NetTable<A>,
     total: u64,
-    cells: CellSums<A>,
-    place_cells: CellSums<A>,
+    cells: CellDensities<A>,
+    place_cells: CellDensities<A>,
 }
 
 impl<A: Allocator> Model for Reports<A> {
+    ghost use Rattle.std.specs.Prelude.{◌<◌, ◌^◌};
     ghost use Rattle.reports.specs.Answers.{Answers};
 
     ghost Value = { Answers };
 
     ghost view = { λ r. record { layers = r.layers; nets = r.nets; total_length = r.total; cells = r.cells; place_cells = r.place_cells } };
+
+    ghost invariant = { λ r. r.layers < 2 ^ 63 };
 }
 
 impl<A: Allocator + Copy> Reports<A> {
@@ -57,6 +66,9 @@ impl<A: Allocator + Copy> Reports<A> {
     {
         none_is_longer();
         let layers = library.layer_count();
+        if layers > MOST_LAYERS {
+            return Err(AllocError);
+        }
         let measured = measured_nets(alloc, library, names)?;
         let boxes = boxes_of(alloc, library, names.records())?;
         let place_cells = place_densities(alloc, names, &boxes)?;
@@ -67,6 +79,49 @@ impl<A: Allocator + Copy> Reports<A> {
             cells: measured.cells,
             place_cells,
         })
+    }
+
+    /// Follows an exchange of some shapes of a net by others, after which the net has this length and this box. The old length is that
+    /// which the net had, 0 if it is new. Lengths are in database units, and so are rectangles. After an error the answers are of no use.
+    pub fn exchange_net(
+        &mut self,
+        name: &[u8],
+        old_length: u64,
+        new_length: u64,
+        gone: &[NetShape],
+        come: &[NetShape],
+        bounds: Option<Rect>,
+    ) -> Result<(), AllocError>
+        requires within { old_length ≤ self.old.total_length }
+        requires fits { self.old.total_length + new_length < old_length + 2 ^ 64 }
+        ensures { OnOk result (NetExchanged name.now old_length new_length (map shape_view gone.now) (map shape_view come.now) (option_map rectangle_of bounds) self.old self.new) }
+    {
+        let Reports {
+            nets,
+            cells,
+            total,
+            ..
+        } = self;
+        let measures = Measures {
+            length: new_length,
+            bounds,
+        };
+        nets.set(name, measures)?;
+        cells.exchange(gone, come)?;
+        *total = *total - old_length + new_length;
+        Ok(())
+    }
+
+    /// Follows an exchange of the box of a component that takes part by another: one that moves has both, one that is removed has none
+    /// any more, and one that is added had none. Boxes are in database units. After an error the answers are of no use.
+    pub fn exchange_component(
+        &mut self,
+        gone: Option<Rect>,
+        come: Option<Rect>,
+    ) -> Result<(), AllocError>
+        ensures { OnOk result (ComponentExchanged (option_map rectangle_of gone) (option_map rectangle_of come) self.old self.new) }
+    {
+        self.place_cells.exchange_box(gone, come)
     }
 
     /// The length of a net along the centres of its wires, in database units; `None` where there is no such net.
@@ -102,7 +157,7 @@ impl<A: Allocator + Copy> Reports<A> {
         ensures { result ≡ cell_in self.now i j layer.0 }
     {
         if layer.0 < self.layers {
-            self.cells.sum(layer.0, i, j)
+            self.cells.density(layer.0, i, j)
         } else {
             None
         }
@@ -112,6 +167,6 @@ impl<A: Allocator + Copy> Reports<A> {
     pub fn place_cell(&self, i: usize, j: usize) -> Option<u128>
         ensures { result ≡ place_cell_in self.now i j }
     {
-        self.place_cells.sum(0, i, j)
+        self.place_cells.density(0, i, j)
     }
 }

@@ -1,7 +1,7 @@
 -- The order of all shapes of a slab, made at once.
-use Rattle.std.proofs.Common.{◌≡◌, ◌<◌, ◌+◌, ℕ, List, [], ◌∷◌, Option, Some, None, refl, sym, ap, ◌∙◌, subst, arith, get_or, length, map, take}
+use Rattle.std.proofs.Common.{◌≡◌, ◌≤◌, ◌<◌, ◌+◌, ℕ, zero, suc, true, false, List, [], ◌∷◌, Option, Some, None, refl, sym, ap, ◌∙◌, subst, arith, get_or, length, map, take}
 use Rattle.std.proofs.Math.Path.{ap₂}
-use Rattle.std.specs.Prelude.{sum_by, option_map, IsPermutation, IsSorted}
+use Rattle.std.specs.Prelude.{sum_by, ◌==◌, option_map, IsPermutation, IsSorted}
 use Rattle.std.specs.List.{All, Contains, cons_option}
 use Rattle.std.proofs.lemmas.List.{length-map, get_or-map}
 use Rattle.std.proofs.lemmas.List.Elements.{All-head, All-tail, All-map, All-weaker, All-contains_itself}
@@ -15,9 +15,11 @@ use Rattle.shape_index.specs.declared.shape.Shape.{Shape}
 use Rattle.shape_index.specs.declared.tile.TileKey.{TileKey}
 use Rattle.shape_index.specs.Shapes.{numbered}
 use Rattle.shape_index.specs.Tiles.{key}
-use Rattle.shape_index.specs.TileOrder.{Before, listed, AreInOrder, IsOrderOf}
+use Rattle.shape_index.specs.TileOrder.{Before, listed, once, AreInOrder, IsOrderOf}
 use Rattle.shape_index.proofs.KeyOrder.{key_cmp, none_before}
-use Rattle.shape_index.proofs.SlabEntries.{id_of, slab_added}
+use Rattle.shape_index.proofs.OrderChanges.{is_of}
+use Rattle.shape_index.proofs.Repeats.{once_full}
+use Rattle.shape_index.proofs.SlabEntries.{id_of, shapes_from, slab_added}
 
 abbrev Entry : Type 0
 Entry = ShapeId × Shape
@@ -79,22 +81,67 @@ in_order es keys same sorted i j d low high =
     let at_i : get_or keys i (key d) ≡ key (get_or es i d) = ap (λ (l : List TileKey). get_or l i (key d)) (sym same) ∙ get_or-map key es i d (key d) (omega (arith, low, high)) in
     subst (λ (k : TileKey). ¬ Before k (key (get_or es i d))) at_j (subst (λ (k : TileKey). ¬ Before (get_or keys j (key d)) k) at_i (none_before keys i j (key d) sorted low long))
 
+none_below : (n k : ℕ) (slots : List (Option Shape)) → n < k → sum_by (is_of n) (shapes_from k slots) ≡ 0
+none_below n k [] low = refl
+none_below n k (None ∷ slots) low = none_below n (k + 1) slots (omega (arith, low))
+none_below n k (Some x ∷ slots) low =
+    let other : (k == n) ≡ false = grind (arith, low) in
+    let none : is_of n (id_of k, x) ≡ 0 = rw other refl in
+    omega (arith, sum_by-cons (is_of n) (id_of k, x) (shapes_from (k + 1) slots), none, none_below n (k + 1) slots (omega (arith, low)))
+
+one_at_most : (n k : ℕ) (slots : List (Option Shape)) → sum_by (is_of n) (shapes_from k slots) ≤ 1
+one_at_most n k [] = omega arith
+one_at_most n k (None ∷ slots) = one_at_most n (k + 1) slots
+one_at_most n k (Some x ∷ slots) =
+    let sum = sum_by-cons (is_of n) (id_of k, x) (shapes_from (k + 1) slots) in
+    elim (k == n) as (λ b. (k == n) ≡ b → sum_by (is_of n) (shapes_from k (Some x ∷ slots)) ≤ 1) [
+      | true ↦ λ t.
+          let same : k ≡ n = grind (arith, t) in
+          let one : is_of n (id_of k, x) ≡ 1 = rw t refl in
+          omega (arith, sum, one, none_below n (k + 1) slots (omega (arith, same)))
+      | false ↦ λ t.
+          let none : is_of n (id_of k, x) ≡ 0 = rw t refl in
+          omega (arith, sum, none, one_at_most n (k + 1) slots)
+    ] refl
+
+two_side_by_side : (es : List Entry) (i n : ℕ) (d : Entry) → i + 1 < length es → (get_or es i d).0.0 ≡ n → (get_or es (i + 1) d).0.0 ≡ n → 2 ≤ sum_by (is_of n) es
+two_side_by_side [] i n d below first next = absurd (omega (arith, below))
+two_side_by_side (e ∷ []) i n d below first next = absurd (omega (arith, below))
+two_side_by_side (e ∷ f ∷ es) zero n d below first next =
+    let one : is_of n e ≡ 1 = counted n e first in
+    let two : is_of n f ≡ 1 = counted n f next in
+    omega (arith, sum_by-cons (is_of n) e (f ∷ es), sum_by-cons (is_of n) f es, one, two)
+  where
+    counted : (n : ℕ) (e : Entry) → e.0.0 ≡ n → is_of n e ≡ 1
+    counted n e same = let t : (e.0.0 == n) ≡ true = grind (arith, same) in rw t refl
+two_side_by_side (e ∷ f ∷ es) (suc i) n d below first next =
+    let same : suc i + 1 ≡ suc (i + 1) = omega arith in
+    omega (arith, sum_by-cons (is_of n) e (f ∷ es), two_side_by_side (f ∷ es) i n d (omega (arith, below)) first (subst (λ (k : ℕ). (get_or (e ∷ f ∷ es) k d).0.0 ≡ n) same next))
+
+-- of the shapes of a slab, each once, none repeats another's number
+once_each : (s : Slab Shape) (es : List Entry) → SameThings es (numbered (entries s)) → once es ≡ es
+once_each s es same =
+    once_full es (λ i d below alike.
+    let n : ℕ = (get_or es i d).0.0 in
+    omega (arith, two_side_by_side es i n d below refl alike, same.sums (is_of n), one_at_most n 0 s.slots))
+
 -- the numbers of the sorted keys of all shapes
 pub order_made : (s : Slab Shape) (keys sorted : List TileKey) (ids : List ShapeId) → keys ≡ map key (numbered (entries s)) → IsPermutation keys sorted → IsSorted key_cmp sorted → ids ≡ map number sorted
     → IsOrderOf s ids
 order_made s keys sorted ids of_all moved rises numbers =
     let all = All-permutation (IsKeyOf s) keys sorted moved (rw of_all (are_keys s (entries s) (all_stand s))) in
     let keys_are = listed_keys s sorted all in
+    let same : SameThings (listed s (map number sorted)) (numbered (entries s)) = record {
+      sums = λ w.
+          sum_listed w s sorted
+          ∙ sum_by-IsPermutation (λ k. weight w (number k) (get s k.id)) keys sorted moved
+          ∙ sym (sum_listed w s keys)
+          ∙ ap (λ (l : List TileKey). sum_by w (listed s (map number l))) of_all
+          ∙ ap (sum_by w) (listed_entries s (entries s) (all_stand s));
+    } in
     rw numbers (record {
       all_there = sym (length-map (listed s (map number sorted)) key) ∙ ap length keys_are ∙ sym (length-map sorted number);
-      same = record {
-        sums = λ w.
-            sum_listed w s sorted
-            ∙ sum_by-IsPermutation (λ k. weight w (number k) (get s k.id)) keys sorted moved
-            ∙ sym (sum_listed w s keys)
-            ∙ ap (λ (l : List TileKey). sum_by w (listed s (map number l))) of_all
-            ∙ ap (sum_by w) (listed_entries s (entries s) (all_stand s));
-      };
+      same = record { sums = λ w. ap (sum_by w) (once_each s (listed s (map number sorted)) same) ∙ same.sums w };
       in_order = in_order (listed s (map number sorted)) sorted keys_are rises;
     })
 

@@ -8,6 +8,7 @@ use Rattle.std.proofs.lemmas.Cmp.{int_eq_equiv}
 use Rattle.std.proofs.lemmas.Bool.{and_parts}
 use Rattle.std.proofs.lemmas.Int.{ints}
 use Rattle.std.proofs.lemmas.List.Elements.{All-push, All-map, All-weaker, All-filter, Contains-append_left, Contains-push, All-contains}
+use Rattle.std.proofs.lemmas.List.Filters.{All-dedup}
 use Rattle.slab.specs.Slab.{Slab, entries, get}
 use Rattle.design_model.specs.Geometry.{Rectangle}
 use Rattle.design_model.specs.Views.{rectangle_of}
@@ -16,7 +17,7 @@ use Rattle.design_model.specs.declared.identifier.ShapeId.{ShapeId}
 use Rattle.shape_rules.specs.Meeting.{meets}
 use Rattle.shape_index.specs.declared.shape.Shape.{Shape}
 use Rattle.shape_index.specs.Shapes.{AreSame, at, is_met, met_by, numbered}
-use Rattle.shape_index.specs.TileOrder.{listed, IsOrderOf}
+use Rattle.shape_index.specs.TileOrder.{listed, once, IsOrderOf}
 use Rattle.shape_index.proofs.AllListed.{Stands, all_stand}
 use Rattle.shape_index.proofs.Listed.{of_slab}
 use Rattle.shape_index.proofs.OrderChanges.{is_of, somewhere, stands}
@@ -109,31 +110,34 @@ of_passing p P (e ∷ es) (suc i) d all below pass =
       | false ↦ λ a. of_passing p P es i d a (omega (arith, below)) pass
     ] all
 
+once_of_slab : (s : Slab Shape) (ids : List ShapeId) → All (λ e. get s e.0.0 ≡ Some e.1) (once (listed s ids))
+once_of_slab s ids = All-dedup (λ (a b : Entry). a.0.0 == b.0.0) (λ (e : Entry). get s e.0.0 ≡ Some e.1) (listed s ids) (λ i d below. of_slab s ids i d below)
+
 -- so none among those that are met is none at all
-none_same : (s : Slab Shape) (ids : List ShapeId) (x : Shape) → IsOrderOf s ids → All (λ e. ¬ AreSame e.1 x) (met_by x.layer x.rect (listed s ids)) → All (λ e. ¬ AreSame e.1 x) (numbered (entries s))
+none_same : (s : Slab Shape) (ids : List ShapeId) (x : Shape) → IsOrderOf s ids → All (λ e. ¬ AreSame e.1 x) (met_by x.layer x.rect (once (listed s ids))) → All (λ e. ¬ AreSame e.1 x) (numbered (entries s))
 none_same s ids x o none =
     All-map (λ (e : Entry). ¬ AreSame e.1 x) (λ (e : ℕ × Shape). (id_of e.0, e.1)) (entries s) (All-weaker (Stands s) (λ (e : ℕ × Shape). ¬ AreSame e.1 x) (λ e is same.
-    let place = somewhere e.0 (listed s ids) (omega (arith, stands e.0 e.1 (numbered (entries s)) (sym (slab_at s e.0) ∙ is), o.same.sums (is_of e.0))) in
-    let there : Entry = get_or (listed s ids) place.place (id_of e.0, e.1) in
-    let held : get s there.0.0 ≡ Some there.1 = of_slab s ids place.place (id_of e.0, e.1) place.below in
+    let place = somewhere e.0 (once (listed s ids)) (omega (arith, stands e.0 e.1 (numbered (entries s)) (sym (slab_at s e.0) ∙ is), o.same.sums (is_of e.0))) in
+    let there : Entry = get_or (once (listed s ids)) place.place (id_of e.0, e.1) in
+    let held : get s there.0.0 ≡ Some there.1 = once_of_slab s ids place.place (id_of e.0, e.1) place.below in
     let number : there.0.0 ≡ e.0 = place.is (id_of e.0, e.1) in
     let shape : there.1 ≡ e.1 = let f : get s e.0 ≡ Some there.1 = subst (λ (m : ℕ). get s m ≡ Some there.1) number held in cc in
     let alike : AreSame there.1 x = subst (λ (y : Shape). AreSame y x) (sym shape) same in
-    of_passing (is_met x.layer x.rect) (λ (e : Entry). ¬ AreSame e.1 x) (listed s ids) place.place (id_of e.0, e.1) none place.below (same_is_met x there alike) alike) (entries s) (all_stand s))
+    of_passing (is_met x.layer x.rect) (λ (e : Entry). ¬ AreSame e.1 x) (once (listed s ids)) place.place (id_of e.0, e.1) none place.below (same_is_met x there alike) alike) (entries s) (all_stand s))
 
 among : (p : Entry → Bool) (es : List Entry) (P : Entry → Type 0) → ((i : ℕ) (d : Entry) → i < length es → P (get_or es i d)) → (e : Entry) → Contains (filter p es) e → P e
 among p es P all e h = All-contains P (filter p es) e (All-filter p P es all) h
 
 -- and what is found stands under its number
-pub found_same : (s : Slab Shape) (ids : List ShapeId) (x : Shape) (r : Option ShapeId) → Found x (met_by x.layer x.rect (listed s ids)) r
+pub found_same : (s : Slab Shape) (ids : List ShapeId) (x : Shape) (r : Option ShapeId) → Found x (met_by x.layer x.rect (once (listed s ids))) r
     → IfSome r (λ id. (y : Shape) × (at id (numbered (entries s)) ≡ Some y) × AreSame y x)
 found_same s ids x None f = tt
 found_same s ids x (Some id) f =
-    let is = among (is_met x.layer x.rect) (listed s ids) (λ e. get s e.0.0 ≡ Some e.1) (λ i d below. of_slab s ids i d below) f.0 f.1 in
+    let is = among (is_met x.layer x.rect) (once (listed s ids)) (λ e. get s e.0.0 ≡ Some e.1) (once_of_slab s ids) f.0 f.1 in
     let number : f.0.0.0 ≡ id.0 = ap (λ (j : ShapeId). j.0) f.2 in
     (f.0.1, sym (slab_at s id.0) ∙ subst (λ (m : ℕ). get s m ≡ Some f.0.1) number is, f.3)
 
-pub found_none : (s : Slab Shape) (ids : List ShapeId) (x : Shape) (r : Option ShapeId) → IsOrderOf s ids → Found x (met_by x.layer x.rect (listed s ids)) r
+pub found_none : (s : Slab Shape) (ids : List ShapeId) (x : Shape) (r : Option ShapeId) → IsOrderOf s ids → Found x (met_by x.layer x.rect (once (listed s ids))) r
     → IfNone r (All (λ e. ¬ AreSame e.1 x) (numbered (entries s)))
 found_none s ids x None o f = none_same s ids x o f
 found_none s ids x (Some id) o f = tt

@@ -2,10 +2,12 @@ pub mod SlabEntries
 pub mod MetSteps
 pub mod Pushed
 pub mod TileSizes
+pub mod Repeats
 pub mod Listed
 pub mod EntryOrder
 pub mod TileSearch
 pub mod OrderChanges
+pub mod Gapped
 pub mod TileFloors
 pub mod KeyOrder
 pub mod AllListed

@@ -1,5 +1,5 @@
 -- The entries of an order of numbers.
-use Rattle.std.proofs.Common.{◌≡◌, ◌≢◌, ◌≤◌, ◌<◌, ℕ, zero, suc, Bool, true, false, cond, not, List, [], ◌∷◌, Option, Some, None, refl, sym, ap, subst, arith, get_or, length, filter, take, drop}
+use Rattle.std.proofs.Common.{◌≡◌, ◌≢◌, ◌≤◌, ◌<◌, ℕ, zero, suc, Bool, true, false, cond, not, List, [], ◌∷◌, Option, Some, None, refl, sym, ap, subst, arith, get_or, length, filter, take, drop, ◌∙◌}
 use Rattle.std.specs.Prelude.{sum_by, ◌==◌, option_map, slice_get}
 use Rattle.std.specs.List.{cons_option, insert, remove}
 use Rattle.std.proofs.lemmas.List.Elements.{filter_map-append}
@@ -8,7 +8,10 @@ use Rattle.std.proofs.lemmas.Option.{slice_get-get_or, slice_get_past}
 use Rattle.slab.specs.Slab.{Slab, get, Updates}
 use Rattle.design_model.specs.declared.identifier.ShapeId.{ShapeId}
 use Rattle.shape_index.specs.declared.shape.Shape.{Shape}
+use Rattle.shape_index.specs.GapOrder.{IsRun}
 use Rattle.shape_index.specs.TileOrder.{entry_of, listed, AreAllThere}
+use Rattle.shape_index.specs.Tiles.{key}
+use Rattle.shape_index.proofs.Repeats.{IsEntryRun}
 
 pub listed_short : (s : Slab Shape) (ids : List ShapeId) → length (listed s ids) ≤ length ids
 listed_short s [] = omega arith
@@ -63,6 +66,45 @@ of_slab s (y ∷ ys) i d below =
       | Some x ↦ λ e k. of_front s (y, x) (listed s ys) i d e k (λ j b. of_slab s ys j d b)
     ] refl below
 
+-- entries of one number have one key
+abbrev pub OneKey : List (ShapeId × Shape) → Type 0
+OneKey es = (k l : ℕ) (d : ShapeId × Shape) → k < length es → l < length es → (get_or es k d).0.0 ≡ (get_or es l d).0.0 → key (get_or es k d) ≡ key (get_or es l d)
+
+pub one_key : (s : Slab Shape) (ids : List ShapeId) → OneKey (listed s ids)
+one_key s ids k l d low high same =
+    let a = of_slab s ids k d low in
+    let b = of_slab s ids l d high in
+    let shape : (get_or (listed s ids) k d).1 ≡ (get_or (listed s ids) l d).1 =
+    let f : get s (get_or (listed s ids) l d).0.0 ≡ Some (get_or (listed s ids) k d).1 = subst (λ (m : ℕ). get s m ≡ Some (get_or (listed s ids) k d).1) same a in
+    cc
+    in
+    rw (same, shape) refl
+
+-- the number of an entry is that of its place
+pub number_at : (s : Slab Shape) (ids : List ShapeId) (k : ℕ) (d : ShapeId × Shape) → AreAllThere s ids → k < length ids → (get_or (listed s ids) k d).0 ≡ get_or ids k d.0
+number_at s [] k d all below = absurd (omega (arith, below))
+number_at s (y ∷ ys) zero d all below = let f = first_of s y ys all in rw f.is refl
+number_at s (y ∷ ys) (suc k) d all below = let f = first_of s y ys all in rw f.is (number_at s ys k d f.rest (omega (arith, below)))
+
+-- the slab has a shape under the number of a place
+pub shape_at : (s : Slab Shape) (ids : List ShapeId) (k : ℕ) (d : ShapeId) → AreAllThere s ids → k < length ids → (x : Shape) × (get s (get_or ids k d).0 ≡ Some x)
+shape_at s [] k d all below = absurd (omega (arith, below))
+shape_at s (y ∷ ys) zero d all below = let f = first_of s y ys all in (f.shape, f.is)
+shape_at s (y ∷ ys) (suc k) d all below = let f = first_of s y ys all in shape_at s ys k d f.rest (omega (arith, below))
+
+-- a run of a number is one of its entries
+pub run_listed : (s : Slab Shape) (ids : List ShapeId) (i j : ℕ) → AreAllThere s ids → IsRun ids i j → IsEntryRun (listed s ids) i j
+run_listed s ids i j all run =
+    let some = run.some in
+    let within = run.within in
+    let number : (k : ℕ) (d : ShapeId × Shape) → k < length ids → (get_or (listed s ids) k d).0.0 ≡ (get_or ids k d.0).0 = λ k d below. ap (λ (n : ShapeId). n.0) (number_at s ids k d all below) in
+    record {
+      some = some;
+      within = omega (arith, within, all);
+      same = λ k d low high. number k d (omega (arith, high, within)) ∙ ap (λ (n : ShapeId). n.0) (run.same k d.0 low high) ∙ sym (number i d (omega (arith, some, within)));
+      other = λ d below same. run.other d.0 (omega (arith, below, all)) (sym (number j d (omega (arith, below, all))) ∙ same ∙ number i d (omega (arith, some, within)));
+    }
+
 pub taken : (s : Slab Shape) (ids : List ShapeId) (p : ℕ) → AreAllThere s ids → listed s (take p ids) ≡ take p (listed s ids)
 taken s [] zero all = refl
 taken s [] (suc p) all = refl
@@ -114,23 +156,11 @@ without s t n (y ∷ ys) u =
           ])
     ] refl
 
-pub filter_short : {X : Type 0} (p : X → Bool) (xs : List X) → length (filter p xs) ≤ length xs
-filter_short p [] = omega arith
-filter_short p (x ∷ xs) =
-    let r = filter_short p xs in
-    elim (p x) as (λ b. length (cond b (x ∷ filter p xs) (filter p xs)) ≤ suc (length xs)) [
-      | true ↦ omega (arith, r)
-      | false ↦ omega (arith, r)
-    ]
-
--- a filter that leaves all
-pub filter_full : {X : Type 0} (p : X → Bool) (xs : List X) → length (filter p xs) ≡ length xs → filter p xs ≡ xs
-filter_full p [] h = refl
-filter_full {X} p (x ∷ xs) h =
-    elim (p x) as (λ b. length (cond b (x ∷ filter p xs) (filter p xs)) ≡ suc (length xs) → cond b (x ∷ filter p xs) (filter p xs) ≡ x ∷ xs) [
-      | true ↦ λ k. ap (λ (l : List X). x ∷ l) (filter_full p xs (omega (arith, k)))
-      | false ↦ λ k. absurd (omega (arith, k, filter_short p xs))
-    ] h
+pub filter_all : {X : Type 0} (p : X → Bool) (xs : List X) → ((i : ℕ) (d : X) → i < length xs → p (get_or xs i d) ≡ true) → filter p xs ≡ xs
+filter_all p [] h = refl
+filter_all {X} p (x ∷ xs) h =
+    let t : p x ≡ true = h 0 x (omega arith) in
+    rw t (ap (λ (l : List X). x ∷ l) (filter_all p xs (λ i d low. h (suc i) d (omega (arith, low)))))
 
 pub sum_filter : {X : Type 0} (w : X → ℕ) (p : X → Bool) (xs : List X) → sum_by w (filter p xs) ≡ sum_by (λ x. cond (p x) (w x) 0) xs
 sum_filter w p [] = refl

@@ -1,10 +1,9 @@
 -- What a search by tiles passes over.
-use Rattle.std.proofs.Common.{◌≡◌, ◌≤◌, ◌<◌, ◌+◌, ◌-◌, ◌/◌, ℕ, ℤ, zero, suc, Bool, true, false, cond, ◌&&◌, List, [], ◌∷◌, Some, None, length, get_or, drop, filter, refl, sym, ap, ◌∙◌, subst, arith, inl, inr, add-one}
+use Rattle.std.proofs.Common.{◌≡◌, ◌≤◌, ◌<◌, ◌+◌, ◌-◌, ◌/◌, ℕ, ℤ, zero, suc, Bool, true, false, cond, ◌&&◌, List, [], ◌∷◌, Some, None, length, get_or, drop, filter, refl, sym, ap, ◌∙◌, subst, arith, inl, inr}
 use Rattle.std.specs.Prelude.{◌==◌, slice_get, nat_le}
 use Rattle.std.specs.List.{FoldsTo}
 use Rattle.std.proofs.lemmas.Bool.{cases_lt, and_parts, and_from}
-use Rattle.std.proofs.lemmas.List.{drop-drop}
-use Rattle.std.proofs.lemmas.List.Sums.{sum_by-cons, sum_by-take-drop}
+use Rattle.std.proofs.lemmas.List.Sums.{sum_by-cons}
 use Rattle.std.proofs.lemmas.Option.{get_or_from_slice_get}
 use Rattle.design_model.specs.declared.geometry.Rect.{Rect}
 use Rattle.design_model.specs.declared.identifier.LayerId.{LayerId}
@@ -15,8 +14,10 @@ use Rattle.shape_index.specs.declared.tile.TileKey.{TileKey}
 use Rattle.shape_index.specs.declared.tile.Step.TheVariants.{From, End}
 use Rattle.shape_index.specs.Shapes.{is_met}
 use Rattle.shape_index.specs.Tiles.{key, is_near, is_within, near_count, offset, size_of, side}
-use Rattle.shape_index.specs.TileOrder.{Before, AreInOrder, IsNear, Leads}
+use Rattle.shape_index.specs.TileOrder.{Before, AreInOrder, IsNear, Leads, once}
 use Rattle.orient_geom.proofs.SharedPoints.{bounds}
+use Rattle.shape_index.proofs.Listed.{OneKey}
+use Rattle.shape_index.proofs.Repeats.{Changes, IsEntryRun, once_at_run, skipped, fewer_later}
 use Rattle.shape_index.proofs.TileSizes.{offset_rises, offset_below, least_some, lower, ends_next}
 
 abbrev Entry : Type 0
@@ -59,20 +60,6 @@ near_here layer r e n =
     and_from (e.1.layer.0 == layer.0) (is_within size r.x1 r.x2 e.1.rect.x1 && is_within size r.y1 r.y2 e.1.rect.y1) on
     (and_from (is_within size r.x1 r.x2 e.1.rect.x1) (is_within size r.y1 r.y2 e.1.rect.y1) x y)
 
-abbrev Fails : {X : Type 0} → (X → Bool) → List X → ℕ → ℕ → Type 0
-Fails {X} p xs i j = (k : ℕ) (d : X) → i ≤ k → k < j → p (get_or xs k d) ≡ false
-
-skip : {X : Type 0} (p : X → Bool) (xs : List X) (i j : ℕ) → i ≤ j → j ≤ length xs → Fails p xs i j → filter p (drop i xs) ≡ filter p (drop j xs)
-skip p [] zero zero low high h = refl
-skip p [] zero (suc j) low high h = absurd (omega arith)
-skip p [] (suc i) j low high h = absurd (omega arith)
-skip p (x ∷ xs) zero zero low high h = refl
-skip p (x ∷ xs) zero (suc j) low high h =
-    let e : p x ≡ false = h zero x (omega arith) (omega arith) in
-    rw e (skip p xs zero j (omega arith) (omega arith) (λ k d a b. h (suc k) d (omega arith) (omega arith)))
-skip p (x ∷ xs) (suc i) zero low high h = absurd (omega arith)
-skip p (x ∷ xs) (suc i) (suc j) low high h = skip p xs i j (omega arith) (omega arith) (λ k d a b. h (suc k) d (omega arith) (omega arith))
-
 drop_all : {X : Type 0} (xs : List X) → drop (length xs) xs ≡ []
 drop_all [] = refl
 drop_all (x ∷ xs) = drop_all xs
@@ -93,19 +80,19 @@ behind [] (suc i) h = refl
 behind (x ∷ xs) zero h = cc
 behind (x ∷ xs) (suc i) h = behind xs i h
 
+-- a place among entries of which those of one number side by side are one
 module _ {B : Type 0} (R : B → Entry → B → Type 0) (layer : LayerId) (r : Rect) (es : List Entry) where
   abbrev Rest : B → ℕ → B → Type 0
-  Rest a i last = FoldsTo R a (filter (is_met layer r) (drop i es)) last
+  Rest a i last = FoldsTo R a (filter (is_met layer r) (once (drop i es))) last
 
-  pub met_here : (i : ℕ) (e : Entry) (a b last : B) → Some e ≡ slice_get es i → is_met layer r e ≡ true → R a e b → Rest b (i + 1) last → Rest a i last
-  met_here i e a b last at test step k =
-      let f : drop i es ≡ e ∷ drop (i + 1) es = rw add-one (front es i e at) in
-      rw (f, test) (b, step, k)
+  at_run : (i j : ℕ) (e : Entry) → Some e ≡ slice_get es i → IsEntryRun es i j → once (drop i es) ≡ e ∷ once (drop j es)
+  at_run i j e at run = once_at_run es i j e run ∙ ap (λ (x : Entry). x ∷ once (drop j es)) (get_or_from_slice_get es i e e (sym at))
 
-  pub not_here : (i : ℕ) (e : Entry) (a last : B) → Some e ≡ slice_get es i → is_met layer r e ≡ false → Rest a (i + 1) last → Rest a i last
-  not_here i e a last at test k =
-      let f : drop i es ≡ e ∷ drop (i + 1) es = rw add-one (front es i e at) in
-      rw (f, test) k
+  pub met_here : (i j : ℕ) (e : Entry) (a b last : B) → Some e ≡ slice_get es i → IsEntryRun es i j → is_met layer r e ≡ true → R a e b → Rest b j last → Rest a i last
+  met_here i j e a b last at run test step k = rw (at_run i j e at run, test) (b, step, k)
+
+  pub not_here : (i j : ℕ) (e : Entry) (a last : B) → Some e ≡ slice_get es i → IsEntryRun es i j → is_met layer r e ≡ false → Rest a j last → Rest a i last
+  not_here i j e a last at run test k = rw (at_run i j e at run, test) k
 
   here : (i : ℕ) (e d : Entry) → Some e ≡ slice_get es i → get_or es i d ≡ e
   here i e d at = get_or_from_slice_get es i e d (sym at)
@@ -113,42 +100,57 @@ module _ {B : Type 0} (R : B → Entry → B → Type 0) (layer : LayerId) (r : 
   not_before : (i n : ℕ) (e d : Entry) → AreInOrder es → Some e ≡ slice_get es i → i ≤ n → n < length es → ¬ Before (key (get_or es n d)) (key e)
   not_before i n e d sorted at from to = rw (here i e d at) at (sorted i n d from to)
 
-  pub met_later : (i j : ℕ) (e : Entry) (t next : TileKey) (a last : B) → AreInOrder es → Some e ≡ slice_get es i → t ≡ key e → Leads layer r t (From next)
-      → i + 1 ≤ j → j ≤ length es → ((k : ℕ) (d : Entry) → i + 1 ≤ k → k < j → Before (key (get_or es k d)) next) → Rest a j last → Rest a i last
-  met_later i j e t next a last sorted at same_key of_key low high passed k =
+  pub met_later : (i m j : ℕ) (e : Entry) (t next : TileKey) (a last : B) → AreInOrder es → Some e ≡ slice_get es i → t ≡ key e → Leads layer r t (From next) → IsEntryRun es i m → OneKey es
+      → m ≤ j → j ≤ length es → ((k : ℕ) (d : Entry) → m ≤ k → k < j → Before (key (get_or es k d)) next) → Changes es j → Rest a j last → Rest a i last
+  met_later i m j e t next a last sorted at same_key of_key run one_key low high passed changes k =
       let leads = subst (λ (u : TileKey). Leads layer r u (From next)) same_key of_key in
-      rw (skip (is_met layer r) es i j (omega (arith, low)) high (λ n d from to. elim (cases_lt i n) [
-        | inl h ↦ far layer r (get_or es n d) (leads.1 (key (get_or es n d)) (not_before i n e d sorted at from (omega (arith, to, high))) (passed n d (omega (arith, h)) to))
-        | inr h ↦
-            let same : n ≡ i = omega (arith, h, from) in
-            rw (same, here i e d at) (far layer r e leads.0)
-      ])) k
+      let some = run.some in
+      rw (skipped (is_met layer r) es i j e (omega (arith, low, some)) high (λ n d from to. elim (cases_lt n m) [
+        | inl h ↦
+            let below : n < length es = omega (arith, to, high) in
+            let there : i < length es = inside es i e at in
+            let same : key (get_or es n d) ≡ key e = one_key n i d below there (run.same n d from h) ∙ ap key (here i e d at) in
+            far layer r (get_or es n d) (subst (λ (u : TileKey). ¬ IsNear layer r u) (sym same) leads.0)
+        | inr h ↦ far layer r (get_or es n d) (leads.1 (key (get_or es n d)) (not_before i n e d sorted at from (omega (arith, to, high))) (passed n d h to))
+      ]) changes) k
 
   pub met_end : (i : ℕ) (e : Entry) (t : TileKey) (a : B) → AreInOrder es → Some e ≡ slice_get es i → t ≡ key e → Leads layer r t End → Rest a i a
   met_end i e t a sorted at same_key of_key =
       let leads = subst (λ (u : TileKey). Leads layer r u End) same_key of_key in
       let below = inside es i e at in
-      rw (skip (is_met layer r) es i (length es) (omega (arith, below)) (omega arith) (λ n d from to. far layer r (get_or es n d) (leads (key (get_or es n d)) (not_before i n e d sorted at from to))), drop_all es) refl
+      rw (skipped (is_met layer r) es i (length es) e below (omega arith) (λ n d from to. far layer r (get_or es n d) (leads (key (get_or es n d)) (not_before i n e d sorted at from to))) (λ d over. absurd (omega (arith, over))), drop_all es) refl
 
   pub met_past : (i : ℕ) (a : B) → None ≡ slice_get es i → Rest a i a
   met_past i a at = rw (behind es i at) refl
+
+-- where a search goes on, another number stands than before it
+pub changes_at : (es : List Entry) (i m j : ℕ) (next : TileKey) → IsEntryRun es i m → OneKey es → m ≤ j → j ≤ length es
+    → ((k : ℕ) (d : Entry) → m ≤ k → k < j → Before (key (get_or es k d)) next) → ((k : ℕ) (d : Entry) → j ≤ k → k < length es → ¬ Before (key (get_or es k d)) next) → Changes es j
+changes_at es i m j next run one_key low high passed left d below same =
+    let some = run.some in
+    elim (cases_lt m j) [
+      | inl h ↦
+          let keys : key (get_or es j d) ≡ key (get_or es (j - 1) d) = one_key j (j - 1) d below (omega (arith, below)) same in
+          left j d (omega arith) below (subst (λ (u : TileKey). Before u next) (sym keys) (passed (j - 1) d (omega (arith, h)) (omega (arith, h))))
+      | inr h ↦
+          let at : j ≡ m = omega (arith, h, low) in
+          let last : (get_or es (j - 1) d).0.0 ≡ (get_or es i d).0.0 = run.same (j - 1) d (omega (arith, at, some)) (omega (arith, at, some)) in
+          run.other d (omega (arith, below, at)) (subst (λ (n : ℕ). (get_or es n d).0.0 ≡ (get_or es i d).0.0) at (same ∙ last))
+    ]
 
 abbrev hit : LayerId → Rect → Entry → ℕ
 hit layer r e = cond (is_near layer r e) 1 0
 
 -- one near entry fewer is left
-pub counted_here : (layer : LayerId) (r : Rect) (es : List Entry) (i : ℕ) (e : Entry) (t : TileKey) → Some e ≡ slice_get es i → t ≡ key e → IsNear layer r t → near_count layer r (drop i es) ≡ 1 + near_count layer r (drop (i + 1) es)
-counted_here layer r es i e t at same_key of_key =
+pub counted_here : (layer : LayerId) (r : Rect) (es : List Entry) (i j : ℕ) (e : Entry) (t : TileKey) → Some e ≡ slice_get es i → IsEntryRun es i j → t ≡ key e → IsNear layer r t
+    → near_count layer r (once (drop i es)) ≡ 1 + near_count layer r (once (drop j es))
+counted_here layer r es i j e t at run same_key of_key =
     let n = subst (λ (u : TileKey). IsNear layer r u) same_key of_key in
-    let f : drop i es ≡ e ∷ drop (i + 1) es = rw add-one (front es i e at) in
+    let f : once (drop i es) ≡ e ∷ once (drop j es) = once_at_run es i j e run ∙ ap (λ (x : Entry). x ∷ once (drop j es)) (get_or_from_slice_get es i e e (sym at)) in
     let one : hit layer r e ≡ 1 = ap (λ (b : Bool). cond {A = ℕ} b 1 0) (near_here layer r e n) in
-    let sum = sum_by-cons (hit layer r) e (drop (i + 1) es) in
-    ap (near_count layer r) f ∙ sum ∙ ap (λ (m : ℕ). m + near_count layer r (drop (i + 1) es)) one
+    let sum = sum_by-cons (hit layer r) e (once (drop j es)) in
+    ap (near_count layer r) f ∙ sum ∙ ap (λ (m : ℕ). m + near_count layer r (once (drop j es))) one
 
 -- no more are left later
-pub counted_later : (layer : LayerId) (r : Rect) (es : List Entry) (i j : ℕ) → i ≤ j → near_count layer r (drop j es) ≤ near_count layer r (drop i es)
-counted_later layer r es i j h =
-    let split = sum_by-take-drop (hit layer r) (drop i es) (j - i) in
-    let at : i + (j - i) ≡ j = omega (arith, h) in
-    let same = drop-drop (j - i) i es ∙ ap (λ (n : ℕ). drop n es) at in
-    omega (arith, split, ap (near_count layer r) same)
+pub counted_later : (layer : LayerId) (r : Rect) (es : List Entry) (i j : ℕ) (d : Entry) → i < j → j ≤ length es → Changes es j → near_count layer r (once (drop j es)) ≤ near_count layer r (once (drop i es))
+counted_later layer r es i j d low high changes = fewer_later (hit layer r) es i j d low high changes

@@ -1,3 +1,4 @@
+pub mod GapOrder
 pub mod Pushing
 pub mod Shapes
 pub mod TileLaws

@@ -1,6 +1,6 @@
 -- Entries in the order of their tiles, and how a search goes through them.
-use Rattle.std.specs.Prelude.{◌≡◌, ◌≤◌, ◌<◌, ◌+◌, ◌/◌, ℕ, List, ◌⊎◌, length, slice_index_or, option_map, Option}
-use Rattle.std.specs.List.{filter_map}
+use Rattle.std.specs.Prelude.{◌≡◌, ◌≤◌, ◌<◌, ◌+◌, ◌/◌, ◌==◌, ℕ, List, ◌⊎◌, length, slice_index_or, option_map, Option}
+use Rattle.std.specs.List.{dedup, filter_map}
 use Rattle.slab.specs.Slab.{Slab, entries, get}
 use Rattle.line_laws.specs.Lines.{SameThings}
 use Rattle.design_model.specs.declared.geometry.Rect.{Rect}
@@ -34,10 +34,14 @@ listed s ids = filter_map (entry_of s) ids
 abbrev pub AreAllThere : Slab Shape → List ShapeId → Type 0
 AreAllThere s ids = length (listed s ids) ≡ length ids
 
--- the numbers are those of the slab, in the order of their tiles
+-- of entries of one number that stand side by side the first alone
+abbrev pub once : List (ShapeId × Shape) → List (ShapeId × Shape)
+once es = dedup (λ a b. a.0.0 == b.0.0) es
+
+-- the numbers are those of the slab, in the order of their tiles, where one may stand in several slots
 pub record IsOrderOf (s : Slab Shape) (ids : List ShapeId) : Type 0 where
   pub all_there : AreAllThere s ids
-  pub same : SameThings (listed s ids) (numbered (entries s))
+  pub same : SameThings (once (listed s ids)) (numbered (entries s))
   pub in_order : AreInOrder (listed s ids)
 
 -- a tile is on a layer, and at most one lower than those that a rectangle meets

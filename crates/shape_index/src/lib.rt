@@ -13,6 +13,7 @@
 //! that 64 bits hold. Want of memory is `AllocError`, of `of`, `reserve` and `met_of`, and leaves the shapes as they were.
 #![tactic(auto)]
 
+mod gaps;
 mod laws;
 mod met;
 mod plain;

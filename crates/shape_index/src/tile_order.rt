@@ -5,8 +5,9 @@ ghost use Rattle.std.specs.List.{FoldsTo};
 ghost use Rattle.slab.specs.Slab.{entries};
 ghost use Rattle.shape_index.specs.Shapes.{met_by, numbered};
 ghost use Rattle.shape_index.specs.Tiles.{key, near_count};
-ghost use Rattle.shape_index.specs.TileOrder.{AreAllThere, AreInOrder, Before, IsOrderOf, listed};
+ghost use Rattle.shape_index.specs.TileOrder.{AreAllThere, AreInOrder, Before, IsOrderOf, listed, once};
 
+use crate::gaps::past_run;
 use crate::shape::{Shape, is_met};
 use crate::tile::{Step, TileKey, is_before, key_of, next_step};
 use design_model::geometry::Rect;
@@ -116,14 +117,14 @@ pub(crate) fn search<A: Allocator + Copy, B, F: Fn(B, ShapeId, &Shape) -> B>(
     requires callable { F.IsAlwaysCallable f }
     requires all_there { AreAllThere shapes.now order.now }
     requires in_order { AreInOrder (listed shapes.now order.now) }
-    ensures folded { FoldsTo (λ a e b. (shown : _) × (shown.now ≡ e.1) × F.post f a e.0 shown b) acc (met_by layer rect (listed shapes.now order.now)) result.0 }
-    ensures compared { result.1 ≤ near_count layer rect (listed shapes.now order.now) }
+    ensures folded { FoldsTo (λ a e b. (shown : _) × (shown.now ≡ e.1) × F.post f a e.0 shown b) acc (met_by layer rect (once (listed shapes.now order.now))) result.0 }
+    ensures compared { result.1 ≤ near_count layer rect (once (listed shapes.now order.now)) }
 {
     let mut acc = acc;
     let mut compared = 0u64;
     let mut place = 0;
     while let Some((id, shape)) = entry_at(shapes, order, place) {
-        place += 1;
+        place = past_run(order, place);
         match next_step(&key_of(id, shape), layer, &rect) {
             Step::Here => {
                 compared = compared.saturating_add(1);

@@ -5,6 +5,7 @@ ghost use Rattle.slab.specs.Slab.{entries};
 ghost use Rattle.line_laws.specs.Lines.{SameThings};
 ghost use Rattle.shape_index.specs.Shapes.{AreSame, at, numbered};
 
+use crate::gaps::{make_room, put_in, spread, take_out, with_gaps};
 use crate::shape::{Shape, ShapeSet, are_same};
 use crate::tile::key_of;
 use crate::tile_order::{first_from, order_of, search};
@@ -16,23 +17,24 @@ use std::marker::Model;
 
 /// A set of shapes that is searched by tiles. A shape's size is the least power of two that isn't below its sides, and its
 /// tile that of its lower left corner among the tiles of that size. A search compares shapes whose tile is one of those that
-/// the rectangle meets, or one lower in x or in y.
+/// the rectangle meets, or one lower in x or in y. A shape is put in and taken out by moving the few numbers between its place and
+/// the nearest gap.
 #[derive(Drop)]
 pub struct TiledShapes<A: Allocator = Global> {
     shapes: Slab<Shape, A>,
-    // The numbers of the shapes in the order of their tiles.
+    // The numbers of the shapes in the order of their tiles, with gaps.
     order: Vec<ShapeId, A>,
 }
 
 impl<A: Allocator> Model for TiledShapes<A> {
-    ghost use Rattle.std.specs.Prelude.{◌-◌, length, min, vec_capacity};
+    ghost use Rattle.std.specs.Prelude.{◌-◌, min, vec_capacity};
     ghost use Rattle.slab.specs.Slab.{entries, slab_len};
     ghost use Rattle.shape_index.specs.Shapes.{Shapes, numbered};
     ghost use Rattle.shape_index.specs.TileOrder.{IsOrderOf};
 
     ghost Value = { Shapes };
 
-    ghost view = { λ s. record { entries = numbered (entries s.shapes); spare = min (s.shapes.capacity - slab_len s.shapes) (vec_capacity s.order - length s.order.items) } };
+    ghost view = { λ s. record { entries = numbered (entries s.shapes); spare = min (s.shapes.capacity - slab_len s.shapes) (vec_capacity s.order - slab_len s.shapes) } };
 
     ghost invariant = { λ s. IsOrderOf s.shapes s.order.items };
 }
@@ -48,12 +50,13 @@ impl<A: Allocator + Copy> TiledShapes<A> {
         }
     }
 
-    /// A set of these shapes, made at once: their order is sorted once, while each `insert_reserved` moves the numbers behind it.
+    /// A set of these shapes, made at once: their order is sorted once, while each `insert_reserved` looks for its place.
     pub fn of(alloc: A, shapes: &[Shape]) -> Result<Self, AllocError>
         ensures { IfOk result (λ s. SameThings (map (λ e. e.1) s.entries) shapes.now) }
     {
         let shapes = slab_of(alloc, shapes)?;
-        let order = order_of(alloc, &shapes)?;
+        let sorted = order_of(alloc, &shapes)?;
+        let order = spread(alloc, &sorted, with_gaps(sorted.len()))?;
         Ok(TiledShapes { shapes, order })
     }
 
@@ -105,22 +108,23 @@ impl<A: Allocator + Copy> ShapeSet for TiledShapes<A> {
     ghost most = { λ s layer rect. near_count layer rect s.entries };
 
     fn reserve(&mut self, count: usize) -> Result<(), AllocError> {
+        let numbers = self.shapes.len().checked_add(count).ok_or(AllocError)?;
         self.shapes.reserve(count)?;
-        self.order.reserve(count)
+        make_room(&mut self.order, numbers)
     }
 
     fn insert_reserved(&mut self, shape: Shape) -> ShapeId {
         let key = key_of(ShapeId(self.shapes.vacant_key()), &shape);
         let place = first_from(&self.shapes, &self.order, 0, &key);
         let id = ShapeId(self.shapes.insert_reserved(shape));
-        self.order.insert(place, id).unwrap();
+        put_in(&mut self.order, place, id);
         id
     }
 
     fn remove(&mut self, id: ShapeId) -> Option<Shape> {
         let shape = self.shapes.get(id.0).copied()?;
         let place = first_from(&self.shapes, &self.order, 0, &key_of(id, &shape));
-        self.order.remove(place);
+        take_out(&mut self.order, place);
         self.shapes.try_remove(id.0)
     }
 

@@ -1,20 +1,20 @@
 -- What components stand in is told by some statements, and the others are exchanged with the components that they are.
-use Rattle.std.proofs.Common.{◌≡◌, ◌+◌, ℕ, Bool, true, false, List, [], ◌∷◌, ◌++◌, filter, flat_map, map, sum_by, Option, Some, None, refl, sym, ap, ap₂, ◌∙◌, arith, subst, if◌then◌else◌}
+use Rattle.std.proofs.Common.{◌≡◌, ◌+◌, ℕ, Bool, true, false, List, [], ◌∷◌, ◌++◌, filter, flat_map, map, sum_by, Option, Some, None, refl, sym, ap, ap₂, ◌∙◌, arith, if◌then◌else◌}
 use Rattle.std.specs.List.{cons_option, filter_map}
 use Rattle.std.proofs.lemmas.List.Elements.{filter_map-append}
-use Rattle.std.proofs.lemmas.List.Sums.{sum_by-append, sum_by-cons}
+use Rattle.std.proofs.lemmas.List.Sums.{sum_by-cons}
 use Rattle.design_model.specs.Geometry.{Rectangle}
 use Rattle.form_meanings.specs.Words.{first}
 use Rattle.def_grammar.specs.Records as records
 use Rattle.def_grammar.specs.Records.{Record, end_section, entry, in_properties, top, units_of}
 use Rattle.def_grammar.specs.Top.{end_design, extension, floor, header, kept, properties, units}
 use Rattle.lef_grammar.specs.Library.{Library}
-use Rattle.design_rules.specs.Boxes.{Boxed, box_of, boxes, scale, units_or_1}
-use Rattle.design_rules.specs.Surroundings.{assignment_of, assignments, die, die_of, fence_of, fences, keep_out_of, keep_outs, placed_row, placed_rows, row_of, surroundings}
+use Rattle.design_rules.specs.Boxes.{box_of, boxes, scale, units_or_1}
+use Rattle.design_rules.specs.Surroundings.{assignment_of, die, die_of, fence_of, keep_out_of, keep_outs, placed_row, placed_rows, row_of, surroundings}
 use Rattle.line_laws.specs.Lines.{SameThings}
 use Rattle.line_laws.proofs.OneOfAll.{design_has_component_lines}
 use Rattle.following_laws.specs.DesignLaws.{ComponentLinesFollow}
-use Rattle.following_laws.specs.Following.{Exchange, LinesFollow}
+use Rattle.following_laws.specs.Following.{Exchange}
 use Rattle.staying_laws.specs.PlaceStatements.{SurroundingsAreTold, PlacesFollow, ComponentsAreExchanged, TellsSurroundings, boxes_among, is_surrounding}
 
 -- what is selected of statements of which some say nothing

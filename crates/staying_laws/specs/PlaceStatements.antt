@@ -1,7 +1,6 @@
 -- The lines on components, where statements go out of a design and others come in.
-use Rattle.std.specs.Prelude.{◌≡◌, ℕ, Bool, true, false, List, [], filter, map}
+use Rattle.std.specs.Prelude.{◌≡◌, Bool, true, false, List, [], filter}
 use Rattle.std.specs.List.{filter_map}
-use Rattle.design_model.specs.Geometry.{Rectangle}
 use Rattle.def_grammar.specs.Records as records
 use Rattle.def_grammar.specs.Records.{Record, entry, top}
 use Rattle.def_grammar.specs.Top.{floor, units}

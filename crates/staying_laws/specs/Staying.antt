@@ -1,6 +1,5 @@
 -- The parts of a report, and which of them an edit leaves as they are.
-use Rattle.std.specs.Prelude.{◌≡◌, ℕ, List, ◌++◌, flat_map, ℤ}
-use Rattle.design_model.specs.declared.geometry.Orient.{Orient}
+use Rattle.std.specs.Prelude.{ℕ, List, ◌++◌, flat_map}
 use Rattle.def_grammar.specs.Records.{Record}
 use Rattle.lef_grammar.specs.Library.{Library}
 use Rattle.entry_rules.specs.Unchecked.{unchecked_in_library}
@@ -9,9 +8,6 @@ use Rattle.design_rules.specs.Boxes.{scale}
 use Rattle.design_rules.specs.CountLines.{count_lines}
 use Rattle.design_rules.specs.OverlapLines.{overlap_lines}
 use Rattle.design_rules.specs.PlaceLines.{place_lines}
-use Rattle.edit_rules.specs.ComponentEdits.{place_at, unplace_it}
-use Rattle.edit_rules.specs.Edits.{applied, of_component, of_net}
-use Rattle.edit_rules.specs.NetEdits.{NetChange}
 use Rattle.line_laws.specs.Lines.{SameLines}
 use Rattle.report_rules.specs.Diagnostics.{all_lines, statement_lines}
 
@@ -27,18 +23,3 @@ lines_on_places library design = overlap_lines library design ++ place_lines lib
 abbrev pub PartsAreAll : Type 0
 PartsAreAll = (library : Library) (design : List Record)
     → SameLines (lines_on_statements library design ++ (lines_on_places library design ++ net_lines library design (scale design))) (all_lines library design)
-
--- An edit of a net leaves the lines on components.
-abbrev pub NetEditsKeepPlaces : Type 0
-NetEditsKeepPlaces = (library : Library) (name : List ℕ) (change : NetChange) (design : List Record)
-    → lines_on_places library (applied (of_net name change) design) ≡ lines_on_places library design
-
--- Where a component stands makes no difference to the lines on statements.
-abbrev pub PlacingKeepsStatements : Type 0
-PlacingKeepsStatements = (library : Library) (name : List ℕ) (x y : ℤ) (o : Orient) (design : List Record)
-    → lines_on_statements library (applied (of_component name (place_at x y o)) design) ≡ lines_on_statements library design
-
--- Nor does whether it stands anywhere.
-abbrev pub UnplacingKeepsStatements : Type 0
-UnplacingKeepsStatements = (library : Library) (name : List ℕ) (design : List Record)
-    → lines_on_statements library (applied (of_component name unplace_it) design) ≡ lines_on_statements library design

@@ -15,7 +15,7 @@ followed-requires g c =
       before,
       f.told,
       record {
-        places = of_some (HasPlaces library before) _ _ c.in_ok-places.ensures.value f.had;
+        places = of_some (HasPlaces library before) _ _ c.in-Some.ensures.value f.had;
         lines = of_some (AreKept (lines_on_places library (said before))) _ _ c.in_ok-kept.ensures.value f.knew.places;
         some = good.some;
         few = good.few;

@@ -1,6 +1,3 @@
-use Rattle.std.proofs.Common.{◌≡◌, map}
-use Rattle.design_model.specs.Views.{rectangle_of}
-use Rattle.place_checks.specs.IndexViews.{surroundings_view}
 use Rattle.followed_places.proofs.ExchangeLemmas.{always, boxes_grown, boxes_left, lines_follow}
 use Rattle.followed_places.proofs.followed.exchanged.Goals as goal
 

@@ -9,6 +9,6 @@ use Rattle.followed_places.specs.Placed.{component_of}
 use Rattle.followed_places.proofs.own_lines.lines_of.Given as goal
 
 abbrev pub invariant-loop-place : goal.invariant-loop-place
-invariant-loop-place g l = (ids : List StmtId) → AreBoxesOf l.library l.scale l.text.pieces.table.slots ids l.boxes
-    → SameLines (l.lines ++ lines_of_components (surroundings_view l.around.surroundings) (map component_of (drop l.place l.components)) (boxed_under l.library l.scale l.text.pieces.table.slots ids) (map rectangle_of l.around.keep_outs.items) [])
-    (lines_of_components (surroundings_view l.around.surroundings) (map component_of l.components) (boxed_under l.library l.scale l.text.pieces.table.slots ids) (map rectangle_of l.around.keep_outs.items) [])
+invariant-loop-place g l = (ids : List StmtId) → AreBoxesOf l.library l.around.scale l.text.pieces.table.slots ids l.boxes
+    → SameLines (l.lines ++ lines_of_components (surroundings_view l.around.surroundings) (map component_of (drop l.place l.components)) (boxed_under l.library l.around.scale l.text.pieces.table.slots ids) (map rectangle_of l.around.keep_outs.now) [])
+    (lines_of_components (surroundings_view l.around.surroundings) (map component_of l.components) (boxed_under l.library l.around.scale l.text.pieces.table.slots ids) (map rectangle_of l.around.keep_outs.now) [])

@@ -2,4 +2,4 @@ use Rattle.std.proofs.Common.{[]}
 use Rattle.reports.proofs.densities.place_densities.Goals as goal
 
 pub returns : goal.returns
-returns g c = c.in_ok-add_boxes.ensures.holds _ _ [] c.in_ok-sums.ensures
+returns g c = c.in_ok-add_boxes.ensures.holds _ _ [] c.in_ok-densities.ensures

@@ -1,4 +1,4 @@
-use Rattle.std.proofs.Common.{rules, ◌≡◌, [], ◌∷◌, map, flat_map, refl, ap, ◌∙◌}
+use Rattle.std.proofs.Common.{rules, map, flat_map, refl, ap, ◌∙◌}
 use Rattle.design_rules.specs.Boxes.{scale}
 use Rattle.connection_rules.specs.NetLines.{shapes_of_net}
 use Rattle.connection_rules.specs.NetParts.{Net}

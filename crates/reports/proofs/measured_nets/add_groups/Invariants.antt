@@ -1,6 +1,5 @@
-use Rattle.std.proofs.Common.{◌≡◌, map, take}
+use Rattle.std.proofs.Common.{◌≡◌}
 use Rattle.design_rules.specs.Boxes.{scale}
-use Rattle.name_groups.specs.GroupViews.{group_view}
 use Rattle.measure_rules.specs.GridCells.{columns, rows}
 use Rattle.net_entries.specs.NetEntries.{wired_group}
 use Rattle.design_nets.specs.NetGroups.{length_of_group, net_of_group}

@@ -5,9 +5,8 @@ use Rattle.def_grammar.specs.Records.{Record, read_def}
 use Rattle.design_text.specs.DesignTexts.{text_of}
 use Rattle.design_text.specs.Exchanges.{MadeEdit, records_in}
 use Rattle.edit_rules.specs.Edits.{change_of}
-use Rattle.followed_places.specs.Places.{AreOnPlaces, HasPlaces, said}
-use Rattle.staying_laws.specs.Staying.{lines_on_places}
-use Rattle.edit_session.specs.Known.{AreKept, AreKnown, AreKnownOf}
+use Rattle.followed_places.specs.Places.{said}
+use Rattle.edit_session.specs.Known.{AreKnownOf, HasFollowed, HasNoted}
 use Rattle.edit_session.specs.Sessions.{AnswersOn}
 use Rattle.edit_session.proofs.EditLemmas.{edits_nothing}
 use Rattle.edit_session.proofs.FollowLemmas.{is_read, said_is}
@@ -40,25 +39,15 @@ invariant_of-self g c =
       subst (λ (text : List ℕ). IsOk (read_def text)) (sym same) i.0,
       subst (λ (text : List ℕ). IfSome c.self.inside.reports (AnswersOn library text)) (sym same) i.1,
       subst (λ (text : List ℕ). AreKnownOf library text c.self.inside.known) (sym same) i.2,
-      subst (λ (rs : List (StmtId × Record)). IfSome c.note_places.new.noted (HasPlaces library rs)) (sym c.in_err-made.ensures.same) c.note_places.ensures,
+      subst (λ (rs : List (StmtId × Record)). HasNoted library rs c.note-touched.new.self) (sym c.in_err-made.ensures.same) c.note-touched.ensures.noted,
     )
 
-pub follow_places-places-requires : goal.follow_places-places-requires
-follow_places-places-requires g c =
+pub follow-followed-requires : goal.follow-followed-requires
+follow-followed-requires g c =
     let before = c.self.inside.text in
     let design = said (records_in before) in
     let reads : read_def (text_of before) ≡ Ok design = said_is (text_of before) (records_in before) _ c.statements_are_kept.ensures.said c.design_is_read.ensures.reads in
-    (before, record { told = c.in_ok-made.ensures.exchanged; reads = reads; had = c.note_places.ensures; knew = c.self.invariant.2 design reads })
-
-pub follow-requires : goal.follow-requires
-follow-requires g c =
-    let edited = c.in_ok-made.ensures.applied in
-    record {
-      before = edited.0;
-      reads = ap read_def c.let_go.ensures.text ∙ edited.2;
-      knew = c.follow_places-places.ensures.known edited.0 (c.self.invariant.2 edited.0 edited.1);
-      told = c.before-out.ensures edited.0 edited.1;
-    }
+    (before, record { told = c.in_ok-made.ensures.exchanged; reads = reads; touched = c.note-touched.ensures.touched; had = c.note-touched.ensures.noted; knew = c.self.invariant.2 design reads })
 
 pub invariant_of-self-2 : goal.invariant_of-self-2
 invariant_of-self-2 g c =
@@ -68,8 +57,8 @@ invariant_of-self-2 g c =
       is_read (text_of after) _ reads,
       tt,
       λ design also.
-          c.put_places.ensures library design (c.follow.ensures design also)
-          (of_this (λ (d : List Record). IfSome c.follow_places-places.result (AreKept (lines_on_places library d))) (text_of after) (said (records_in after)) design reads also
-          (subst (λ (rs : List (StmtId × Record)). IfSome c.follow_places-places.result (AreOnPlaces library (said rs))) (sym c.let_go.ensures.records) c.follow_places-places.ensures.lines)),
-      subst (λ (rs : List (StmtId × Record)). IfSome c.follow_places-places.new.noted (HasPlaces library rs)) (sym c.let_go.ensures.records) c.follow_places-places.ensures.noted,
+          c.put.ensures library design (c.none.ensures library design)
+          (of_this (λ (d : List Record). HasFollowed library d c.follow-followed.result) (text_of after) (said (records_in after)) design reads also
+          (subst (λ (rs : List (StmtId × Record)). HasFollowed library (said rs) c.follow-followed.result) (sym c.let_go.ensures.records) c.follow-followed.ensures.lines)),
+      subst (λ (rs : List (StmtId × Record)). HasNoted library rs c.follow-followed.new.self) (sym c.let_go.ensures.records) c.follow-followed.ensures.noted,
     )

@@ -1,19 +1,33 @@
-use Rattle.std.proofs.Common.{◌≡◌, ◌∙◌, ℕ, List, Some, false, sym, subst}
-use Rattle.std.specs.Prelude.{flat_map}
-use Rattle.std.specs.List.{list_any}
+use Rattle.std.proofs.Common.{◌≡◌, ◌∙◌, List, ap, map, subst, sym}
 use Rattle.def_grammar.specs.Records.{Record}
-use Rattle.def_grammar.specs.Terminals.{is_of_all}
 use Rattle.design_text.specs.DesignTexts.{design_of}
-use Rattle.net_laws.specs.NetsTold.{terminals_of}
-use Rattle.net_laws.specs.Within.{NoOtherLists}
+use Rattle.followed_nets.specs.Stars.{AreStars, names_of}
+use Rattle.followed_nets.specs.ToldViews.{star_view}
+use Rattle.followed_nets.specs.Touched.{star_names}
 use Rattle.followed_nets.proofs.ToldNets.{no_other_lists}
 use Rattle.followed_nets.proofs.followed.FollowedNets.touched_by_component.Goals as goal
 
 pub touched-requires-clause-lists : goal.touched-requires-clause-lists
 touched-requires-clause-lists g c =
     let design = design_of c.args.text.now in
-    let noted = rw (← c.self.view_is) at c.requires in
-    let stars = subst (λ (d : List Record). list_any is_of_all (flat_map terminals_of d) ≡ false) c.statements_are_kept.ensures.said (noted.no_stars c.if-self.false) in
-    let listing = rw (c.in-Some.is) at (c.in_ok-names.ensures.listing) in
-    subst (λ (n : List ℕ). NoOtherLists design c.in-Some.names.items (Some n)) (sym c.in_ok-component.ensures)
-    (no_other_lists c.args.component.now (sym c.is_word.ensures ∙ c.if-is_word.false) (sym c.is_word-else-is_word.ensures ∙ c.if-is_word-2.false) design c.in-Some.names.items stars listing)
+    let library = c.args.library.now in
+    let kept = rw (c.in-Some.is) at (rw (← c.self.view_is) at c.requires.stars_are) in
+    let are = subst (λ (d : List Record). AreStars library d c.in-Some.kept.items) c.statements_are_kept.ensures.said kept in
+    let told = rw (c.in-Some-3.is) at c.in_ok-stars.ensures.named in
+    let named : star_names (map star_view c.in-Some-3.stars.items) ≡ names_of c.in-Some.kept.items = told ∙ ap names_of c.deref-2.ensures.value in
+    let listing = rw (c.in-Some-2.is) at c.in_ok-listing.ensures.listing in
+    let cover = rw (c.deref-3.ensures.value, c.deref-4.ensures.value) at c.in_ok-names.ensures.all in
+    rw (named, c.in_ok-name.ensures)
+    (no_other_lists c.args.component.now (sym c.is_word.ensures ∙ c.if-is_word.false) (sym c.is_word-else-is_word.ensures ∙ c.if-is_word-2.false) design c.in_ok-names.names.items (names_of c.in-Some.kept.items) c.in-Some-2.listing.items are.names listing cover)
+
+pub touched-requires-clause-apart : goal.touched-requires-clause-apart
+touched-requires-clause-apart g c =
+    let kept = rw (c.in-Some.is) at (rw (← c.self.view_is) at c.requires.stars_are) in
+    let told = rw (c.in-Some-3.is) at c.in_ok-stars.ensures.named in
+    let named : star_names (map star_view c.in-Some-3.stars.items) ≡ names_of c.in-Some.kept.items = told ∙ ap names_of c.deref-2.ensures.value in
+    let listing = rw (c.in-Some-2.is) at c.in_ok-listing.ensures.apart in
+    let apart = rw (c.deref-3.ensures.value, c.deref-4.ensures.value) at c.in_ok-names.ensures.apart in
+    rw named (apart listing kept.names.apart)
+
+pub touched-requires-clause-pins : goal.touched-requires-clause-pins
+touched-requires-clause-pins g c = rw (c.in_ok-name.ensures) (rw (c.in-Some-3.is) at c.in_ok-stars.ensures.pins)

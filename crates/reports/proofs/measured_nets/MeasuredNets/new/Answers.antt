@@ -1,4 +1,3 @@
-use Rattle.std.proofs.Common.{rules}
 use Rattle.reports.proofs.MeasuredSteps.{none_measured}
 use Rattle.reports.proofs.measured_nets.MeasuredNets.new.Goals as goal
 

@@ -5,4 +5,4 @@ pub invariant_of-self : goal.invariant_of-self
 invariant_of-self g c = after_growth c.self.inside.shapes c.reserve.new.self _ _ c.reserve.ensures.rest_kept c.self.invariant
 
 pub invariant_of-self-2 : goal.invariant_of-self-2
-invariant_of-self-2 g c = rw c.reserve-2.ensures.items (after_growth c.self.inside.shapes c.reserve.new.self c.self.inside.order.items _ c.reserve.ensures.rest_kept c.self.invariant)
+invariant_of-self-2 g c = c.make_room.ensures.same c.reserve.new.self (after_growth c.self.inside.shapes c.reserve.new.self c.self.inside.order.items _ c.reserve.ensures.rest_kept c.self.invariant)

@@ -1,0 +1,32 @@
+use Rattle.std.proofs.Common.{sym}
+use Rattle.design_text.specs.Exchanges.{records_in}
+use Rattle.followed_nets.specs.FollowedNets.{HasNets}
+use Rattle.followed_nets.specs.Touched.{AreTouched}
+use Rattle.followed_places.specs.Places.{said}
+use Rattle.edit_session.specs.Known.{AreOnNets}
+use Rattle.edit_session.proofs.FollowLemmas.{of_some}
+use Rattle.edit_session.proofs.nets.follow_nets.Goals as goal
+
+pub follow-requires : goal.follow-requires
+follow-requires g c =
+    let library = c.args.library.now in
+    let before = records_in c.requires.0 in
+    let t = c.requires.1 in (
+      before,
+      t.told,
+      of_some (AreTouched library (said before)) _ _ (sym c.in_ok-touched.was) t.touched,
+      record {
+        nets = of_some (HasNets library before) _ _ c.in_ok-nets.ensures.value t.had;
+        lines = of_some (AreOnNets library (said before)) _ _ c.in_ok-kept.ensures.value t.knew.nets;
+      },
+    )
+
+pub returns-in-Ok-Some-clause-noted : goal.returns-in-Ok-Some-clause-noted
+returns-in-Ok-Some-clause-noted g c =
+    let library = c.args.library.now in
+    let before = records_in c.requires.0 in
+    let t = c.requires.1 in
+    let touched = of_some (AreTouched library (said before)) _ _ (sym c.in_ok-touched.was) t.touched in
+    let had = of_some (HasNets library before) _ _ c.in_ok-nets.ensures.value t.had in
+    let lines = of_some (AreOnNets library (said before)) _ _ c.in_ok-kept.ensures.value t.knew.nets in
+    (rw (c.in-Ok-Some.field-0-is) at (c.in-Ok-Some.ensures before t.told touched (record { nets = had; lines = lines }))).nets

@@ -1,0 +1,11 @@
+use Rattle.std.proofs.Common.{◌≡◌, ◌++◌, drop, map}
+use Rattle.design_text.specs.DesignTexts.{design_of}
+use Rattle.followed_nets.specs.Exchanging.{AreToldIn, name_of}
+use Rattle.followed_nets.specs.ToldViews.{told_view}
+use Rattle.followed_nets.proofs.touched.told_nets.Given as goal
+
+abbrev pub invariant-loop-name : goal.invariant-loop-name
+invariant-loop-name g l = record {
+  told : AreToldIn l.library (design_of l.text) (map told_view l.told.items);
+  named : map name_of (map told_view l.told.items) ++ drop l.name-index l.names ≡ l.names;
+}

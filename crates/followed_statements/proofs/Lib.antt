@@ -1,0 +1,4 @@
+mod ExchangeLemmas
+mod LineLemmas
+mod PlaceLemmas
+mod ShowLemmas

@@ -1,0 +1,17 @@
+//! The lines on the statements of a text, which follow its edits.
+//!
+//! `follow_statements` gives them after an edit from those before it, where each statement that it exchanges shows others the same as the
+//! one that comes for it (`all_shown` of `agreement_laws/specs/Agreement`): the lines on those that went go, the lines on those that came
+//! come, and no other statement is read. `specs/Following` says what lines these are. What a statement names is looked up in the tables of
+//! the text. `leaves_places` tells of an edit that it exchanged nothing that lines on components hang on. `put_statement` gives the lines on one statement, by any look-ups. The one error is `AllocError`.
+#![tactic(auto)]
+
+mod defined_text;
+mod following;
+mod lines;
+mod places;
+mod showing;
+
+pub use following::follow_statements;
+pub use lines::put_statement;
+pub use places::leaves_places;

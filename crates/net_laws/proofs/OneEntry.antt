@@ -1,0 +1,145 @@
+-- A net of one entry is told by that, by all components, and by what any net may be made of.
+use Rattle.std.proofs.Common.{◌≡◌, ◌∙◌, ℕ, Bool, true, false, ◌||◌, List, [], ◌∷◌, filter, Option, Some, None, refl, sym, ap, if◌then◌else◌}
+use Rattle.std.specs.List.{AllByRecursion, cons_option, filter_map}
+use Rattle.std.proofs.lemmas.Slice.Eq.{bytes_eq-Decides}
+use Rattle.form_meanings.specs.Firsts.{find_named}
+use Rattle.def_grammar.specs.Components.{Component}
+use Rattle.def_grammar.specs.Nets.{is_net, must_join}
+use Rattle.def_grammar.specs.Records as records
+use Rattle.def_grammar.specs.Records.{Record, component_of, end_section, entry, in_properties, top}
+use Rattle.def_grammar.specs.Terminals.{Terminal}
+use Rattle.net_laws.specs.NetsTold.{FindsAlike, is_common, is_of_net, net_of_record, terminals_in}
+use Rattle.net_laws.specs.StarNets.{OneEntryTells}
+use Rattle.net_laws.proofs.Selecting.{selected_of_those}
+use Rattle.net_laws.proofs.StarNets.{within}
+
+module _ (net : List ℕ) where
+  tells_all : Record → Bool
+  tells_all (entry (records.component c)) = true
+  tells_all r = is_common r || is_of_net net r
+
+  or_true : (b : Bool) → (b || true) ≡ true
+  or_true true = refl
+  or_true false = refl
+
+  common_told : (r : Record) → is_common r ≡ true → tells_all r ≡ true
+  unfolding tells_all
+  common_told (top t) h = ap (λ (b : Bool). b || is_of_net net (top t)) h
+  common_told (in_properties p) h = absurd (cc)
+  common_told (end_section s) h = absurd (cc)
+  common_told (entry (records.component x)) h = refl
+  common_told (entry (records.pin x)) h = refl
+  common_told (entry (records.region x)) h = absurd (cc)
+  common_told (entry (records.group x)) h = absurd (cc)
+  common_told (entry (records.blockage x)) h = refl
+  common_told (entry (records.net x)) h = absurd (cc)
+  common_told (entry (records.special_net x)) h = absurd (cc)
+  common_told (entry (records.via x)) h = refl
+  common_told (entry (records.rule x)) h = refl
+  common_told (entry (records.skipped s x)) h = absurd (cc)
+
+  net_told : (r : Record) → is_of_net net r ≡ true → tells_all r ≡ true
+  unfolding tells_all
+  net_told (top t) h = absurd (cc)
+  net_told (in_properties p) h = absurd (cc)
+  net_told (end_section s) h = absurd (cc)
+  net_told (entry (records.component x)) h = refl
+  net_told (entry (records.pin x)) h = refl
+  net_told (entry (records.region x)) h = absurd (cc)
+  net_told (entry (records.group x)) h = absurd (cc)
+  net_told (entry (records.blockage x)) h = refl
+  net_told (entry (records.net x)) h = h
+  net_told (entry (records.special_net x)) h = h
+  net_told (entry (records.via x)) h = refl
+  net_told (entry (records.rule x)) h = refl
+  net_told (entry (records.skipped s x)) h = absurd (cc)
+
+  no_component : (r : Record) → tells_all r ≡ false → component_of r ≡ None
+  unfolding tells_all
+  no_component (top t) h = refl
+  no_component (in_properties p) h = refl
+  no_component (end_section s) h = refl
+  no_component (entry (records.component x)) h = absurd (cc)
+  no_component (entry (records.pin x)) h = refl
+  no_component (entry (records.region x)) h = refl
+  no_component (entry (records.group x)) h = refl
+  no_component (entry (records.blockage x)) h = refl
+  no_component (entry (records.net x)) h = refl
+  no_component (entry (records.special_net x)) h = refl
+  no_component (entry (records.via x)) h = refl
+  no_component (entry (records.rule x)) h = refl
+  no_component (entry (records.skipped s x)) h = refl
+
+  -- the nets among them are that one
+  kept_so : (t p : Bool) (r : Record) (left those : List Record) → (t ≡ true → p ≡ false → net_of_record r ≡ None) → (p ≡ true → t ≡ true)
+      → filter_map net_of_record left ≡ filter_map net_of_record those
+      → filter_map net_of_record (if t then r ∷ left else left) ≡ filter_map net_of_record (if p then r ∷ those else those)
+  kept_so true true r left those none follows later = ap (cons_option (net_of_record r)) later
+  kept_so true false r left those none follows later = ap (λ (n : Option (List ℕ)). cons_option n (filter_map net_of_record left)) (none refl refl) ∙ later
+  kept_so false true r left those none follows later = absurd (let no = follows refl in cc)
+  kept_so false false r left those none follows later = later
+
+  no_other_net : (r : Record) → tells_all r ≡ true → is_of_net net r ≡ false → net_of_record r ≡ None
+  unfolding tells_all
+  no_other_net (top t) h g = refl
+  no_other_net (in_properties p) h g = refl
+  no_other_net (end_section s) h g = refl
+  no_other_net (entry (records.component x)) h g = refl
+  no_other_net (entry (records.pin x)) h g = refl
+  no_other_net (entry (records.region x)) h g = refl
+  no_other_net (entry (records.group x)) h g = refl
+  no_other_net (entry (records.blockage x)) h g = refl
+  no_other_net (entry (records.net (is_net n))) h g = absurd (cc)
+  no_other_net (entry (records.net (must_join x))) h g = refl
+  no_other_net (entry (records.special_net n)) h g = absurd (cc)
+  no_other_net (entry (records.via x)) h g = refl
+  no_other_net (entry (records.rule x)) h g = refl
+  no_other_net (entry (records.skipped s x)) h g = refl
+
+  its_names : (all : List Record) → filter_map net_of_record (filter tells_all all) ≡ filter_map net_of_record (filter (is_of_net net) all)
+  its_names [] = refl
+  its_names (r ∷ all) = kept_so (tells_all r) (is_of_net net r) r (filter tells_all all) (filter (is_of_net net) all) (no_other_net r) (net_told r) (its_names all)
+
+  named_so : (r : Record) → is_of_net net r ≡ true → net_of_record r ≡ Some net
+  named_so (entry (records.net (is_net n))) h = ap Some ((bytes_eq-Decides n.name net).0 h)
+  named_so (entry (records.special_net n)) h = ap Some ((bytes_eq-Decides n.name net).0 h)
+  named_so (top t) h = absurd (cc)
+  named_so (in_properties p) h = absurd (cc)
+  named_so (end_section s) h = absurd (cc)
+  named_so (entry (records.component x)) h = absurd (cc)
+  named_so (entry (records.pin x)) h = absurd (cc)
+  named_so (entry (records.region x)) h = absurd (cc)
+  named_so (entry (records.group x)) h = absurd (cc)
+  named_so (entry (records.blockage x)) h = absurd (cc)
+  named_so (entry (records.net (must_join x))) h = absurd (cc)
+  named_so (entry (records.via x)) h = absurd (cc)
+  named_so (entry (records.rule x)) h = absurd (cc)
+  named_so (entry (records.skipped s x)) h = absurd (cc)
+
+  first_passes : (all : List Record) (e : Record) (left : List Record) → filter (is_of_net net) all ≡ e ∷ left → is_of_net net e ≡ true
+  first_passes [] e left h = absurd (cc)
+  first_passes (r ∷ all) e left h = one (is_of_net net r) refl h (first_passes all e left)
+    where
+      one : (b : Bool) → is_of_net net r ≡ b → (if b then r ∷ filter (is_of_net net) all else filter (is_of_net net) all) ≡ e ∷ left → (filter (is_of_net net) all ≡ e ∷ left → is_of_net net e ≡ true) → is_of_net net e ≡ true
+      one true is g later = let same : r ≡ e = cc in ap (is_of_net net) (sym same) ∙ is
+      one false is g later = later g
+
+  found_alike : (some design : List Record) → filter_map component_of some ≡ filter_map component_of design → (ts : List Terminal) → AllByRecursion (FindsAlike some design) ts
+  found_alike some design same [] = tt
+  found_alike some design same (t ∷ ts) =
+      (record { named = ap (λ (cs : List Component). find_named (λ (c : Component). c.name) cs t.owner) same; all = λ star. same }, found_alike some design same ts)
+
+pub one_entry_tells : OneEntryTells
+one_entry_tells design net e one =
+    let some = filter (tells_all net) design in
+    let components = selected_of_those (tells_all net) component_of (no_component net) design in (
+      some,
+      record {
+        agree = record {
+          common = within is_common (tells_all net) (common_told net) design;
+          entries = within (is_of_net net) (tells_all net) (net_told net) design;
+          components = found_alike net some design components (terminals_in some net);
+        };
+        only = its_names net design ∙ ap (filter_map net_of_record) one ∙ ap (λ (n : Option (List ℕ)). cons_option n []) (named_so net e (first_passes net design e [] one));
+      },
+    )

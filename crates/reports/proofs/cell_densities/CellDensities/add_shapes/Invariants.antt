@@ -1,0 +1,7 @@
+use Rattle.std.proofs.Common.{map, take}
+use Rattle.net_lists.specs.PartCuts.{shape_view}
+use Rattle.reports.specs.Densities.{HoldsMore}
+use Rattle.reports.proofs.cell_densities.CellDensities.add_shapes.Given as goal
+
+abbrev pub invariant-loop-shape : goal.invariant-loop-shape
+invariant-loop-shape g l = HoldsMore (map shape_view (take l.shape-index l.shapes)) l.initial.self l.self

@@ -1,8 +1,0 @@
-use Rattle.std.proofs.Common.{refl}
-use Rattle.net_lists.specs.PartCuts.{shape_view}
-use Rattle.reports.proofs.DensitySteps.{next_more}
-use Rattle.reports.proofs.densities.add_shapes.Goals as goal
-
-pub loop-shape-preserved : goal.loop-shape-preserved
-loop-shape-preserved g c =
-    next_more shape_view c.args.shapes.now c.loop-shape.shape-index c.shape-item.result _ _ c.args.sums.now c.loop-shape.sums c.add.new.self c.loop-shape-test.true c.shape-item.is refl c.loop-shape.invariant c.in_ok-add.ensures
