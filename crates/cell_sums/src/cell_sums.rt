@@ -1,6 +1,6 @@
 //! Sums of areas by the cells of a grid.
 
-ghost use Rattle.std.specs.Prelude.{◌≡◌, ◌<◌, ◌≤◌, ◌+◌, ◌%◌, ◌^◌, ℕ, IfSome, OnOk};
+ghost use Rattle.std.specs.Prelude.{◌≡◌, ◌<◌, ◌≤◌, ◌+◌, ◌%◌, ◌^◌, ℕ, IfOk, IfSome, OnOk};
 ghost use Rattle.std.specs.Option.{option_map};
 ghost use Rattle.design_model.specs.Views.{rectangle_of};
 ghost use Rattle.measure_rules.specs.GridCells.{cell_among};
@@ -213,6 +213,15 @@ impl<A: Allocator + Copy> CellSums<A> {
             upright: Sheet::new(alloc, hash_builder),
             added: 0,
         }
+    }
+
+    /// No sums yet, for the same cells.
+    pub fn none_alike(&self, alloc: A, hash_builder: RandomState) -> Result<CellSums<A>, AllocError>
+        ensures { IfOk result (IsNew self.now.columns self.now.rows) }
+    {
+        let columns = self.columns.copied(alloc)?;
+        let rows = self.rows.copied(alloc)?;
+        Ok(CellSums::new(alloc, hash_builder, columns, rows))
     }
 
     /// Adds to each cell of a layer the area that it has in common with a rectangle. A refused growth may leave some of them added.

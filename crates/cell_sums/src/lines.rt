@@ -1,6 +1,6 @@
 //! The lines of one axis of a grid.
 
-ghost use Rattle.std.specs.Prelude.{◌≡◌, ◌<◌, ◌+◌, ◌^◌, true, IfSome};
+ghost use Rattle.std.specs.Prelude.{◌≡◌, ◌<◌, ◌+◌, ◌^◌, true, IfOk, IfSome};
 ghost use Rattle.std.specs.List.{All};
 ghost use Rattle.design_model.specs.Ranges.{IsWithin};
 ghost use Rattle.measure_rules.specs.GridCells.{between, in_order};
@@ -106,6 +106,19 @@ impl<A: Allocator + Copy> GridLines<A> {
             counts,
             per_unit,
         }
+    }
+}
+
+impl<A: Allocator + Copy> GridLines<A> {
+    /// The same lines.
+    pub(crate) fn copied(&self, alloc: A) -> Result<GridLines<A>, AllocError>
+        ensures { IfOk result (λ lines. lines ≡ self.now) }
+    {
+        Ok(GridLines {
+            lines: Vec::from_slice(alloc, &self.lines)?,
+            counts: Vec::from_slice(alloc, &self.counts)?,
+            per_unit: self.per_unit,
+        })
     }
 }
 

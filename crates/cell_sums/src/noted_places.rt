@@ -3,6 +3,12 @@
 use crate::runs::Key;
 use std::alloc::{AllocError, Allocator};
 
+/// How far the slots of one major number lie behind those of the one before it: most grids have no more blocks along an axis.
+const ROW: usize = 17;
+
+/// How far those of one layer lie behind those of the one before it: in any number of slots, far apart.
+const LAYER: usize = 0x9e37_79b9_7f4a_7c15;
+
 /// Where blocks were found last, in slots by their keys. A key may find another one's place in its slot: who reads a place looks
 /// whether the key stands there, so nothing hangs on a slot but time.
 #[derive(Drop)]
@@ -19,14 +25,13 @@ impl<A: Allocator + Copy> NotedPlaces<A> {
         }
     }
 
-    /// The slot of a key, where there are any. A text can make keys share one; they are then found by their hashes.
+    /// The slot of a key, where there are any. Blocks that lie near each other on a layer have slots near each other, and layers begin
+    /// apart. A text can make keys share one; they are then found by their hashes.
     fn slot_of(&self, key: Key) -> usize {
         let (layer, major, block) = key;
-        let mixed = layer
-            .wrapping_mul(0x9e37_79b9_7f4a_7c15)
-            .wrapping_add(major.wrapping_mul(0xc2b2_ae3d_27d4_eb4f))
-            .wrapping_add(block.wrapping_mul(0xd6e8_feb8_6659_fd93));
-        (mixed >> 32) & self.slots.len().wrapping_sub(1)
+        let near = block.wrapping_add(major.wrapping_mul(ROW));
+        let slot = near.wrapping_add(layer.wrapping_mul(LAYER));
+        slot & self.slots.len().wrapping_sub(1)
     }
 
     /// The place that was noted last in the slot of a key.

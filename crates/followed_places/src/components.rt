@@ -13,6 +13,7 @@ use cell_library::library::Library;
 use design_model::identifier::StmtId;
 use design_tables::Numbered;
 use place_checks::boxes::box_of;
+use place_checks::last_macros::LastMacros;
 use place_checks::placed_box::PlacedBox;
 use statement_boxes::{StatementBox, StatementBoxes};
 use std::alloc::{AllocError, Allocator};
@@ -47,9 +48,10 @@ pub(crate) fn components_of<'t, A: Allocator + Copy>(
     requires few { scale ≤ 100000 }
     ensures { IfOk result (λ v. map placed_view v.items ≡ components_under library.entry.now scale (map numbered_view statements.now)) }
 {
+    let mut macros = LastMacros::new(library, scale);
     let mut components = Vec::new(alloc);
     for numbered in statements {
-        let Some(component) = box_of(library, scale, &numbered.statement) else {
+        let Some(component) = box_of(&mut macros, &numbered.statement) else {
             continue;
         };
         let id = numbered.id;
@@ -69,9 +71,10 @@ fn places_of<'t, A: Allocator + Copy>(
     requires few { scale ≤ 100000 }
     ensures { IfOk result (λ v. map box_view v.items ≡ map place_under (components_under library.now scale (map numbered_view statements.now))) }
 {
+    let mut macros = LastMacros::new(library, scale);
     let mut places = Vec::new(alloc);
     for numbered in statements {
-        let Some(component) = box_of(library, scale, &numbered.statement) else {
+        let Some(component) = box_of(&mut macros, &numbered.statement) else {
             continue;
         };
         let id = numbered.id;

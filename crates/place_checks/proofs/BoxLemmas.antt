@@ -53,12 +53,6 @@ pub in_order_is : (w h x1 y1 x2 y2 : ℤ) → x1 ≡ int_min (pos 0) w → y1 �
     → record { x1 = x1; y1 = y1; x2 = x2; y2 = y2 } ≡ in_order (corner w h)
 in_order_is w h x1 y1 x2 y2 a b c d = rw (a, b, c, d) refl
 
-near_low : (w x : ℤ) → nat_abs w ≤ 100000000000 → x ≡ int_min (pos 0) w → IsNear x
-near_low w x h e = rw e (record { low = omega (arith, ints, clamps); high = omega (arith, ints, clamps) })
-
-near_high : (w x : ℤ) → nat_abs w ≤ 100000000000 → x ≡ int_max (pos 0) w → IsNear x
-near_high w x h e = rw e (record { low = omega (arith, ints, clamps); high = omega (arith, ints, clamps) })
-
 small_low : (w x : ℤ) → nat_abs w ≤ 100000000000 → x ≡ int_min (pos 0) w → nat_abs x ≤ 100000000000
 small_low w x h e = rw e (omega (arith, ints, clamps))
 
@@ -106,10 +100,6 @@ near_placed o r at s across up =
       x2 = near_moved _ _ at.x t.x2 t.x1 across;
       y2 = near_moved _ _ at.y t.y2 t.y1 up;
     }
-
-pub near_corner : (w h x1 y1 x2 y2 : ℤ) → nat_abs w ≤ 100000000000 → nat_abs h ≤ 100000000000 → x1 ≡ int_min (pos 0) w → y1 ≡ int_min (pos 0) h
-    → x2 ≡ int_max (pos 0) w → y2 ≡ int_max (pos 0) h → IsNearRectangle (record { x1 = x1; y1 = y1; x2 = x2; y2 = y2 })
-near_corner w h x1 y1 x2 y2 narrow low a b c d = record { x1 = near_low w x1 narrow a; y1 = near_low h y1 low b; x2 = near_high w x2 narrow c; y2 = near_high h y2 low d }
 
 -- a boundary by its width and height
 corner_is : (u : ℕ) (size : Option Distances) → corner (point_or_0 u size).x (point_or_0 u size).y ≡ boundary_of u size

@@ -6,6 +6,7 @@ pub mod IndexViews
 pub mod KeptOrders
 pub mod KeptViews
 pub mod OneLines
+pub mod Outlines
 pub mod Patterns
 pub mod PlaceViews
 pub mod RowEdges

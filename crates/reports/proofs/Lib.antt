@@ -1,4 +1,5 @@
 pub mod BoxSteps
+pub mod BoxSums
 pub mod CellAnswers
 pub mod DensitySteps
 pub mod ExchangeSteps

@@ -2,9 +2,8 @@
 use Rattle.std.specs.Prelude.{◌≡◌, ℕ, ◌+◌, ◌-◌, ◌*◌, List, [], ◌∷◌, ◌++◌, Option, Some, None, ℤ}
 use Rattle.std.specs.Option.{option_map}
 use Rattle.design_model.specs.Geometry.{Rectangle}
-use Rattle.design_model.specs.Views.{rectangle_of}
 use Rattle.lef_grammar.specs.Measures.{Shape}
-use Rattle.place_checks.specs.declared.placed_box.PlacedBox.{PlacedBox}
+use Rattle.design_rules.specs.Boxes.{Boxed}
 use Rattle.measure_rules.specs.Density.{density}
 use Rattle.measure_rules.specs.GridCells.{cell_among}
 use Rattle.cell_sums.specs.Tables.{CellTable, sums}
@@ -38,8 +37,8 @@ pub record HasExchanged (gone come : List Shape) (old new : CellTable) : Type 0 
 abbrev pub shape_on : ℕ → Rectangle → Shape
 shape_on layer r = record { layer = layer; box = r }
 
-abbrev pub place_shape : PlacedBox → Shape
-place_shape b = shape_on 0 (rectangle_of b.rect)
+abbrev pub box_shape : Boxed → Shape
+box_shape b = shape_on 0 b.box
 
 -- the box of a component that may have none
 abbrev pub box_shapes : Option Rectangle → List Shape

@@ -1,6 +1,6 @@
 //! How dense the cells of a grid are with shapes that come and go.
 
-ghost use Rattle.std.specs.Prelude.{◌≡◌, ◌<◌, ◌^◌, [], ◌∷◌, OnOk, map};
+ghost use Rattle.std.specs.Prelude.{◌≡◌, ◌<◌, ◌^◌, [], ◌∷◌, IfOk, OnOk, map};
 ghost use Rattle.std.specs.Option.{option_map};
 ghost use Rattle.design_model.specs.Views.{rectangle_of};
 ghost use Rattle.net_lists.specs.PartCuts.{shape_view};
@@ -41,6 +41,19 @@ impl<A: Allocator + Copy> CellDensities<A> {
         CellDensities {
             sums: CellSums::new(alloc, hash_builder, columns, rows),
         }
+    }
+
+    /// The densities of no shapes, in the same cells.
+    pub(crate) fn none_alike(
+        &self,
+        alloc: A,
+        hash_builder: RandomState,
+    ) -> Result<CellDensities<A>, AllocError>
+        ensures { IfOk result (HoldsDensities self.now.columns self.now.rows []) }
+    {
+        Ok(CellDensities {
+            sums: self.sums.none_alike(alloc, hash_builder)?,
+        })
     }
 
     /// Adds a shape. A layer whose number is too high to be doubled is refused as memory is, here and where a shape is taken out.

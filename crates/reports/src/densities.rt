@@ -1,15 +1,21 @@
 //! How dense the cells of a grid are.
 
-ghost use Rattle.std.specs.Prelude.{[], IfOk, OnOk, flat_map, map};
-ghost use Rattle.std.specs.List.{All};
+ghost use Rattle.std.specs.Prelude.{◌≡◌, ◌<◌, ◌≤◌, [], IfOk, OnOk, flat_map, map};
+ghost use Rattle.std.specs.List.{All, filter_map};
 ghost use Rattle.design_model.specs.Ranges.{IsWithin};
+ghost use Rattle.design_rules.specs.Boxes.{box_of, boxes, scale};
+ghost use Rattle.def_reader.specs.StatementViews.{records_view};
 ghost use Rattle.measure_rules.specs.GridCells.{columns, lines_along_x, lines_along_y, rows};
-ghost use Rattle.reports.specs.Densities.{HoldsDensities, HoldsMore, place_shape};
+ghost use Rattle.reports.specs.Densities.{HoldsDensities, HoldsMore, box_shape};
 
 use crate::cell_densities::CellDensities;
+use cell_library::library::Library;
+use def_reader::statement::Statement;
 use design_grid::{columns_of, rows_of};
 use design_names::names::Names;
-use place_checks::placed_box::PlacedBox;
+use place_checks::boxes::box_of;
+use place_checks::last_macros::LastMacros;
+use place_checks::scale::scale_of;
 use std::alloc::{AllocError, Allocator};
 
 /// The densities of no shapes in the cells of a design.
@@ -26,30 +32,41 @@ pub(crate) fn no_densities<A: Allocator + Copy>(
     Ok(CellDensities::new(alloc, names.hash_builder(), columns, rows))
 }
 
-/// Adds components to the densities of cells, all on layer 0.
-fn add_boxes<A: Allocator + Copy>(
+/// Adds the boxes of the components among statements that take part to the densities of cells, all on layer 0.
+fn add_boxes<'t, A: Allocator + Copy>(
     densities: &mut CellDensities<A>,
-    boxes: &[PlacedBox<'_>],
+    library: &'t Library<'_, A>,
+    scale: u32,
+    records: &[Statement<'t>],
 ) -> Result<(), AllocError>
-    ensures { OnOk result (HoldsMore (map place_shape boxes.now) densities.old densities.new) }
+    requires some { 0 < scale }
+    requires few { scale ≤ 100000 }
+    ensures { OnOk result (HoldsMore (map box_shape (filter_map (box_of library.now scale) (records_view records.now))) densities.old densities.new) }
 {
-    for placed in boxes {
-        densities.add(0, placed.rect)?;
+    let mut macros = LastMacros::new(library, scale);
+    for statement in records {
+        if let Some(placed) = box_of(&mut macros, statement) {
+            densities.add(0, placed.rect)?;
+        }
     }
     Ok(())
 }
 
-/// The densities of components, all on layer 0, in the cells of a design.
-pub(crate) fn place_densities<A: Allocator + Copy>(
+/// The densities of the components of a design that take part, all on layer 0, in the cells that others are of.
+pub(crate) fn place_densities<'t, A: Allocator + Copy>(
     alloc: A,
-    names: &Names<'_, '_, A>,
-    boxes: &[PlacedBox<'_>],
+    library: &'t Library<'_, A>,
+    names: &Names<'_, 't, A>,
+    others: &CellDensities<A>,
 ) -> Result<CellDensities<A>, AllocError>
-    requires across { All (IsWithin 2147483647) (flat_map lines_along_x names.now) }
-    requires upward { All (IsWithin 2147483647) (flat_map lines_along_y names.now) }
-    ensures { IfOk result (HoldsDensities (columns names.entry.now) (rows names.entry.now) (map place_shape boxes.now)) }
+    requires some { 0 < scale names.now }
+    requires few { scale names.now ≤ 100000 }
+    requires columns { others.now.columns ≡ columns names.now }
+    requires rows { others.now.rows ≡ rows names.now }
+    ensures { IfOk result (HoldsDensities (columns names.entry.now) (rows names.entry.now) (map box_shape (boxes library.entry.now names.entry.now))) }
 {
-    let mut densities = no_densities(alloc, names)?;
-    add_boxes(&mut densities, boxes)?;
+    let records = names.records();
+    let mut densities = others.none_alike(alloc, names.hash_builder())?;
+    add_boxes(&mut densities, library, scale_of(records), records)?;
     Ok(densities)
 }

@@ -22,7 +22,6 @@ use design_model::identifier::LayerId;
 use design_names::names::Names;
 use measure_laws::lengths::none_is_longer;
 use net_lists::NetShape;
-use place_checks::boxes::boxes_of;
 use std::alloc::{AllocError, Allocator, Global};
 use std::marker::Model;
 
@@ -70,8 +69,7 @@ impl<A: Allocator + Copy> Reports<A> {
             return Err(AllocError);
         }
         let measured = measured_nets(alloc, library, names)?;
-        let boxes = boxes_of(alloc, library, names.records())?;
-        let place_cells = place_densities(alloc, names, &boxes)?;
+        let place_cells = place_densities(alloc, library, names, &measured.cells)?;
         Ok(Reports {
             layers,
             nets: measured.table,

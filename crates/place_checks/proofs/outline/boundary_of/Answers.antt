@@ -3,7 +3,7 @@ use Rattle.std.proofs.lemmas.Int.{ints}
 use Rattle.design_model.specs.Views.{rectangle_of}
 use Rattle.cell_library.specs.CellViews.{cell_view}
 use Rattle.place_checks.proofs.BoxLemmas.{boundary_by}
-use Rattle.place_checks.proofs.boxes.boundary_of.Goals as goal
+use Rattle.place_checks.proofs.outline.boundary_of.Goals as goal
 
 pub returns-clause-spans : goal.returns-clause-spans
 returns-clause-spans g c =
