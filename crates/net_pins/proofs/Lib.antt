@@ -5,7 +5,6 @@ pub mod KeptLemmas
 pub mod MacroLemmas
 pub mod NamingLemmas
 pub mod NearLemmas
-pub mod OrderLemmas
 pub mod PinNames
 pub mod PortLemmas
 pub mod PutLemmas

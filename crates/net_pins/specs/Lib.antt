@@ -3,7 +3,6 @@ pub mod Counting
 pub mod EntryPins
 pub mod FoundPins
 pub mod MacroPins
-pub mod PinOrder
 pub mod PortViews
 pub mod PortsLeft
 pub mod Putting

@@ -20,7 +20,6 @@ mod cell_place;
 mod component_pins;
 mod design_pins;
 mod found_pin;
-mod further_pins;
 mod last_pins;
 mod last_rects;
 mod lent_pin;

@@ -5,7 +5,7 @@ ghost use Rattle.statement_model.specs.Reading.{is_among};
 ghost use Rattle.std.specs.Cmp.{partial_equiv_from_equiv};
 ghost use Rattle.net_pins.specs.SeenViews.{end_of, is_same_pin, last_byte, same_pins, same_words_of, words_of};
 
-use crate::further_pins::FurtherPins;
+use indexmap::IndexSet;
 use std::alloc::{AllocError, Allocator, Global};
 use std::hash::{Hash, Hasher, RandomState};
 use std::marker::Model;
@@ -71,12 +71,12 @@ impl<'t> Hash for PinWords<'t> {
     }
 }
 
-/// Pins by their words, in the order in which they were noted: the first of them, which are gone over one by one, and those behind
-/// them.
+/// Pins by their words, in the order in which they were noted: the first of them, and those behind them, which are looked up by a
+/// hash.
 #[derive(Drop)]
 pub(crate) struct SeenPins<'t, A: Allocator = Global> {
     first: Vec<PinWords<'t>, A>,
-    further: FurtherPins<'t, A>,
+    further: IndexSet<PinWords<'t>, RandomState, A>,
 }
 
 impl<'t, A: Allocator> Model for SeenPins<'t, A> {
@@ -86,9 +86,9 @@ impl<'t, A: Allocator> Model for SeenPins<'t, A> {
 
     ghost Value = { List Key };
 
-    ghost view = { λ s. map words_of (s.first.items ++ s.further) };
+    ghost view = { λ s. map words_of (s.first.items ++ s.further.keys) };
 
-    ghost invariant = { λ s. length s.first.items < 8 → s.further ≡ [] };
+    ghost invariant = { λ s. length s.first.items < 8 → s.further.keys ≡ [] };
 }
 
 impl<'t, A: Allocator + Copy> SeenPins<'t, A> {
@@ -98,16 +98,22 @@ impl<'t, A: Allocator + Copy> SeenPins<'t, A> {
     {
         SeenPins {
             first: Vec::new(alloc),
-            further: FurtherPins::new(alloc, hash_builder),
+            further: IndexSet::with_hasher(alloc, hash_builder),
         }
     }
 
-    /// Forgets all pins. The room for the first of them stays.
+    /// Forgets all pins. The room for the first of them stays, unless there were others: emptying a large table costs as much as
+    /// filling it.
     pub(crate) fn clear(&mut self)
         ensures { self.new ≡ [] }
     {
-        self.first.clear();
-        self.further.clear();
+        if self.further.is_empty() {
+            self.first.clear();
+        } else {
+            let alloc = *self.further.allocator();
+            let hash_builder = *self.further.hasher();
+            *self = SeenPins::new(alloc, hash_builder);
+        }
     }
 
     /// Notes a pin, and says whether it is new.

@@ -7,36 +7,36 @@ use Rattle.net_pins.proofs.seen_pins.SeenPins.note.Goals as goal
 pub returns-then-contains-clause-is_new : goal.returns-then-contains-clause-is_new
 returns-then-contains-clause-is_new g c =
     let s = c.self.inside in
-    rw (← c.self.view_is) (ap not (sym (is_first c.args.pin s.first.items s.further c.contains.result (rw (c.as_slice.ensures.value) at c.contains.ensures.value) c.if-contains.true)))
+    rw (← c.self.view_is) (ap not (sym (is_first c.args.pin s.first.items s.further.keys c.contains.result (rw (c.as_slice.ensures.value) at c.contains.ensures.value) c.if-contains.true)))
 
 pub returns-then-contains-clause-noted : goal.returns-then-contains-clause-noted
 returns-then-contains-clause-noted g c =
     let s = c.self.inside in
-    rw (← c.self.view_is) (is_kept c.args.pin s.first.items s.further c.contains.result (rw (c.as_slice.ensures.value) at c.contains.ensures.value) c.if-contains.true)
+    rw (← c.self.view_is) (is_kept c.args.pin s.first.items s.further.keys c.contains.result (rw (c.as_slice.ensures.value) at c.contains.ensures.value) c.if-contains.true)
 
 pub returns-then-len-lt-FEW-clause-is_new : goal.returns-then-len-lt-FEW-clause-is_new
 returns-then-len-lt-FEW-clause-is_new g c =
     let s = c.self.inside in
     let none = c.self.invariant (search rules) in
-    rw (← c.self.view_is) (ap not (sym (is_new_first c.args.pin s.first.items s.further c.contains.result (rw (c.as_slice.ensures.value) at c.contains.ensures.value) c.if-contains.false none)))
+    rw (← c.self.view_is) (ap not (sym (is_new_first c.args.pin s.first.items s.further.keys c.contains.result (rw (c.as_slice.ensures.value) at c.contains.ensures.value) c.if-contains.false none)))
 
 pub returns-then-len-lt-FEW-clause-noted : goal.returns-then-len-lt-FEW-clause-noted
 returns-then-len-lt-FEW-clause-noted g c =
     let s = c.self.inside in
     let none = c.self.invariant (search rules) in
     rw (← c.self.view_is)
-    (ap (λ (ks : List PinWords). map words_of (ks ++ s.further)) c.in_ok-push.ensures.items
-    ∙ with_first c.args.pin s.first.items s.further c.contains.result (rw (c.as_slice.ensures.value) at c.contains.ensures.value) c.if-contains.false none)
+    (ap (λ (ks : List PinWords). map words_of (ks ++ s.further.keys)) c.in_ok-push.ensures.items
+    ∙ with_first c.args.pin s.first.items s.further.keys c.contains.result (rw (c.as_slice.ensures.value) at c.contains.ensures.value) c.if-contains.false none)
 
 pub returns-clause-is_new : goal.returns-clause-is_new
 returns-clause-is_new g c =
     let s = c.self.inside in
     rw (← c.self.view_is)
-    (c.in_ok-is_new.ensures.is_new ∙ ap not (sym (is_behind c.args.pin s.first.items s.further c.contains.result (rw (c.as_slice.ensures.value) at c.contains.ensures.value) c.if-contains.false)))
+    (c.in_ok-is_new.ensures.added ∙ ap not (sym (is_behind c.args.pin s.first.items s.further.keys c.contains.result (rw (c.as_slice.ensures.value) at c.contains.ensures.value) c.if-contains.false)))
 
 pub returns-clause-noted : goal.returns-clause-noted
 returns-clause-noted g c =
     let s = c.self.inside in
     rw (← c.self.view_is)
-    (ap (λ (ks : List PinWords). map words_of (s.first.items ++ ks)) c.in_ok-is_new.ensures.noted
-    ∙ with_further c.args.pin s.first.items s.further c.contains.result (rw (c.as_slice.ensures.value) at c.contains.ensures.value) c.if-contains.false)
+    (ap (λ (ks : List PinWords). map words_of (s.first.items ++ ks)) c.in_ok-is_new.ensures.keys
+    ∙ with_further c.args.pin s.first.items s.further.keys c.contains.result (rw (c.as_slice.ensures.value) at c.contains.ensures.value) c.if-contains.false)
