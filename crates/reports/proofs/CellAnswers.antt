@@ -15,7 +15,7 @@ use Rattle.measure_rules.specs.NetBoxes as net_boxes
 use Rattle.measure_rules.specs.GridCells.{cell_among, cell_at, columns, rows}
 use Rattle.cell_sums.specs.Tables.{CellTable, sums}
 use Rattle.reports.specs.Answers.{Answers, ReportsOn, box_in, length_in}
-use Rattle.reports.specs.Densities.{HoldsDensities, came, density_in, shape_on, went}
+use Rattle.reports.specs.Densities.{HoldsDensities, box_shape, came, density_in, went}
 
 less_gone : (x d y : ℕ) → x ≡ d + y → x - y ≡ d
 less_gone x d y e = omega (arith, e)
@@ -39,31 +39,27 @@ module _ (library : Library) (design : List Record) where
       ap₂ (λ n (o : Option ℕ). if nat_lt layer n then o else None) count
       (density_is (columns design) (rows design) (map (λ (s : NetShape). s.shape) (net_shapes library design (scale design))) t held layer i j)
 
-  -- boxes of components, all on layer 0
-  abbrev on_layer : Boxed → Shape
-  on_layer b = shape_on 0 b.box
-
-  areas_are : (cell : Rectangle) (bs : List Boxed) → density (map on_layer bs) 0 cell ≡ sum_by (λ (b : Boxed). common_area cell b.box) bs
+  areas_are : (cell : Rectangle) (bs : List Boxed) → density (map box_shape bs) 0 cell ≡ sum_by (λ (b : Boxed). common_area cell b.box) bs
   areas_are cell [] = refl
   areas_are cell (b ∷ bs) =
-      sum_by-cons (area_on 0 cell) (on_layer b) (map on_layer bs)
+      sum_by-cons (area_on 0 cell) (box_shape b) (map box_shape bs)
       ∙ ap (λ n. common_area cell b.box + n) (areas_are cell bs)
       ∙ sym (sum_by-cons (λ (b : Boxed). common_area cell b.box) b bs)
 
-  areas_in : (bs : List Boxed) (o : Option Rectangle) → option_map (density (map on_layer bs) 0) o ≡ option_map (λ cell. sum_by (λ (b : Boxed). common_area cell b.box) bs) o
+  areas_in : (bs : List Boxed) (o : Option Rectangle) → option_map (density (map box_shape bs) 0) o ≡ option_map (λ cell. sum_by (λ (b : Boxed). common_area cell b.box) bs) o
   areas_in bs None = refl
   areas_in bs (Some cell) = ap Some (areas_are cell bs)
 
-  place_is : (t : CellTable) → HoldsDensities (columns design) (rows design) (map on_layer (boxes library design)) t → (i j : ℕ) → density_in t 0 i j ≡ place_density library design i j
+  place_is : (t : CellTable) → HoldsDensities (columns design) (rows design) (map box_shape (boxes library design)) t → (i j : ℕ) → density_in t 0 i j ≡ place_density library design i j
   place_is t held i j =
-      density_is (columns design) (rows design) (map on_layer (boxes library design)) t held 0 i j
+      density_is (columns design) (rows design) (map box_shape (boxes library design)) t held 0 i j
       ∙ areas_in (boxes library design) (cell_at design i j)
 
   -- what is told of nets, and what cells hold, is all that is answered
   pub reports_on : (a : Answers) → ((name : List ℕ) → length_in a name ≡ lengths.net_length library design (scale design) name) → ((name : List ℕ) → box_in a name ≡ net_boxes.net_box library design (scale design) name)
       → a.total_length ≡ lengths.total_length library design (scale design) → a.layers ≡ length library.layers
       → HoldsDensities (columns design) (rows design) (map (λ (s : NetShape). s.shape) (net_shapes library design (scale design))) a.cells
-      → HoldsDensities (columns design) (rows design) (map on_layer (boxes library design)) a.place_cells
+      → HoldsDensities (columns design) (rows design) (map box_shape (boxes library design)) a.place_cells
       → ReportsOn library design a
   reports_on a net_length net_box total_length layers cells place_cells = record {
     net_length = net_length;
@@ -75,9 +71,3 @@ module _ (library : Library) (design : List Record) where
     cells = cells;
     place_cells = place_cells;
   }
-
--- boxes that are seen as those of components
-pub boxes_on_layer : {X : Type 0} (box_of : X → Rectangle) (boxed : X → Boxed) → ((x : X) → (boxed x).box ≡ box_of x) → (xs : List X)
-    → map (λ x. shape_on 0 (box_of x)) xs ≡ map (λ (b : Boxed). shape_on 0 b.box) (map boxed xs)
-boxes_on_layer box_of boxed same [] = refl
-boxes_on_layer box_of boxed same (x ∷ xs) = ap₂ (λ r ss. shape_on 0 r ∷ ss) (sym (same x)) (boxes_on_layer box_of boxed same xs)

@@ -90,9 +90,9 @@ none_more t = record { holds = λ columns rows shapes held. rw (append-nil shape
 pub none_less : (t : CellTable) → HoldsLess [] t t
 none_less t = record { holds = λ columns rows rest held. held }
 
-more_then : (more : List Shape) (s : Shape) (old now new : CellTable) → HoldsMore more old now → HoldsMore (s ∷ []) now new → HoldsMore (more ++ s ∷ []) old new
-more_then more s old now new a b = record {
-  holds = λ columns rows shapes before. subst (λ ss. HoldsDensities columns rows ss new) (append_assoc shapes more (s ∷ [])) (b.holds columns rows (shapes ++ more) (a.holds columns rows shapes before));
+pub more_after : (more others : List Shape) (old now new : CellTable) → HoldsMore more old now → HoldsMore others now new → HoldsMore (more ++ others) old new
+more_after more others old now new a b = record {
+  holds = λ columns rows shapes before. subst (λ ss. HoldsDensities columns rows ss new) (append_assoc shapes more others) (b.holds columns rows (shapes ++ more) (a.holds columns rows shapes before));
 }
 
 less_then : (less : List Shape) (s : Shape) (old now new : CellTable) → HoldsLess less old now → HoldsLess (s ∷ []) now new → HoldsLess (less ++ s ∷ []) old new
@@ -109,7 +109,7 @@ module _ {X : Type 0} (view : X → Shape) (xs : List X) (i : ℕ) where
       ap (map view) more ∙ map-append view before (x ∷ [])
 
   pub next_more : (x : X) (old now new : CellTable) → i < length xs → x ≡ get_or xs i x → HoldsMore (map view (take i xs)) old now → HoldsMore (view x ∷ []) now new → HoldsMore (map view (take (i + 1) xs)) old new
-  next_more x old now new below is a b = subst (λ ss. HoldsMore ss old new) (sym (one_further x below is)) (more_then (map view (take i xs)) (view x) old now new a b)
+  next_more x old now new below is a b = subst (λ ss. HoldsMore ss old new) (sym (one_further x below is)) (more_after (map view (take i xs)) (view x ∷ []) old now new a b)
 
   pub next_less : (x : X) (old now new : CellTable) → i < length xs → x ≡ get_or xs i x → HoldsLess (map view (take i xs)) old now → HoldsLess (view x ∷ []) now new → HoldsLess (map view (take (i + 1) xs)) old new
   next_less x old now new below is a b = subst (λ ss. HoldsLess ss old new) (sym (one_further x below is)) (less_then (map view (take i xs)) (view x) old now new a b)

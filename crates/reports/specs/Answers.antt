@@ -6,13 +6,13 @@ use Rattle.form_meanings.specs.Firsts.{find_named}
 use Rattle.def_grammar.specs.Records.{Record}
 use Rattle.lef_grammar.specs.Library.{Library}
 use Rattle.connection_rules.specs.NetLines.{NetShape, net_shapes}
-use Rattle.design_rules.specs.Boxes.{Boxed, boxes, scale}
+use Rattle.design_rules.specs.Boxes.{boxes, scale}
 use Rattle.measure_rules.specs.Density.{cell_density, place_density}
 use Rattle.measure_rules.specs.GridCells.{columns, rows}
 use Rattle.measure_rules.specs.Lengths as lengths
 use Rattle.measure_rules.specs.NetBoxes as net_boxes
 use Rattle.cell_sums.specs.Tables.{CellTable}
-use Rattle.reports.specs.Densities.{HoldsDensities, density_in, shape_on}
+use Rattle.reports.specs.Densities.{HoldsDensities, box_shape, density_in}
 use Rattle.reports.specs.MeasuredNets.{MeasuredNet, name_of}
 
 -- what the answers are found in: how many layers there are, the nets, the lengths of all nets together, and the sums of the cells on
@@ -47,4 +47,4 @@ pub record ReportsOn (library : Library) (design : List Record) (a : Answers) : 
   pub place_cell : (i j : ℕ) → place_cell_in a i j ≡ place_density library design i j
   pub layers : a.layers ≡ length library.layers
   pub cells : HoldsDensities (columns design) (rows design) (map (λ (s : NetShape). s.shape) (net_shapes library design (scale design))) a.cells
-  pub place_cells : HoldsDensities (columns design) (rows design) (map (λ (b : Boxed). shape_on 0 b.box) (boxes library design)) a.place_cells
+  pub place_cells : HoldsDensities (columns design) (rows design) (map box_shape (boxes library design)) a.place_cells

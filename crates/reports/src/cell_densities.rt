@@ -94,7 +94,7 @@ impl<A: Allocator + Copy> CellDensities<A> {
     }
 
     /// Adds the box of a component, on layer 0, if it has one.
-    fn add_box(&mut self, rect: Option<Rect>) -> Result<(), AllocError>
+    pub(crate) fn add_box(&mut self, rect: Option<Rect>) -> Result<(), AllocError>
         ensures { OnOk result (HoldsMore (box_shapes (option_map rectangle_of rect)) self.old self.new) }
     {
         match rect {

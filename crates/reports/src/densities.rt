@@ -2,9 +2,11 @@
 
 ghost use Rattle.std.specs.Prelude.{◌≡◌, ◌<◌, ◌≤◌, [], IfOk, OnOk, flat_map, map};
 ghost use Rattle.std.specs.List.{All, filter_map};
+ghost use Rattle.std.specs.Option.{option_map};
+ghost use Rattle.design_model.specs.Views.{rectangle_of};
 ghost use Rattle.design_model.specs.Ranges.{IsWithin};
 ghost use Rattle.design_rules.specs.Boxes.{box_of, boxes, scale};
-ghost use Rattle.def_reader.specs.StatementViews.{records_view};
+ghost use Rattle.def_reader.specs.StatementViews.{record_view, records_view};
 ghost use Rattle.measure_rules.specs.GridCells.{columns, lines_along_x, lines_along_y, rows};
 ghost use Rattle.reports.specs.Densities.{HoldsDensities, HoldsMore, box_shape};
 
@@ -12,6 +14,7 @@ use crate::cell_densities::CellDensities;
 use cell_library::library::Library;
 use def_reader::statement::Statement;
 use design_grid::{columns_of, rows_of};
+use design_model::geometry::Rect;
 use design_names::names::Names;
 use place_checks::boxes::box_of;
 use place_checks::last_macros::LastMacros;
@@ -32,6 +35,18 @@ pub(crate) fn no_densities<A: Allocator + Copy>(
     Ok(CellDensities::new(alloc, names.hash_builder(), columns, rows))
 }
 
+/// The box of a statement that is a component that takes part.
+fn rect_of<'t, A: Allocator + Copy>(
+    macros: &mut LastMacros<'t, '_, A>,
+    statement: &Statement<'t>,
+) -> Option<Rect>
+    ensures value { option_map rectangle_of result ≡ option_map (λ b. b.box) (box_of macros.old.library macros.old.scale (record_view statement.now)) }
+    ensures same { macros.new ≡ macros.old }
+{
+    let placed = box_of(macros, statement)?;
+    Some(placed.rect)
+}
+
 /// Adds the boxes of the components among statements that take part to the densities of cells, all on layer 0.
 fn add_boxes<'t, A: Allocator + Copy>(
     densities: &mut CellDensities<A>,
@@ -45,9 +60,8 @@ fn add_boxes<'t, A: Allocator + Copy>(
 {
     let mut macros = LastMacros::new(library, scale);
     for statement in records {
-        if let Some(placed) = box_of(&mut macros, statement) {
-            densities.add(0, placed.rect)?;
-        }
+        let rect = rect_of(&mut macros, statement);
+        densities.add_box(rect)?;
     }
     Ok(())
 }
