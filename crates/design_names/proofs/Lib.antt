@@ -1,2 +1,3 @@
+pub mod ApartLemmas
 pub mod NameLemmas
 mod TableLemmas

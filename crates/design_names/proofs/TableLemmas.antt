@@ -17,7 +17,7 @@ use Rattle.design_names.specs.Tables.{Adds, HasFirsts, found, is_key}
 pub same_bytes : (a b : List ℕ) → bytes_eq a b ≡ true → a ≡ b
 same_bytes a b t = grind (arith, bytes_eq-Decides)
 
-bytes_eq_sym : (a b : List ℕ) → bytes_eq a b ≡ bytes_eq b a
+pub bytes_eq_sym : (a b : List ℕ) → bytes_eq a b ≡ bytes_eq b a
 bytes_eq_sym a b = grind (arith, bytes_eq-Decides)
 
 or_none : {A : Type 0} (o : Option A) → option_or o None ≡ o

@@ -1,7 +1,9 @@
 //! The entries of a design by their names (LEF/DEF 5.8 Language Reference, "DEF Syntax").
 
 ghost use Rattle.std.specs.Prelude.{◌≡◌, IfOk, IfSome, OnOk, Some, is_some};
+ghost use Rattle.std.specs.List.{filter_map};
 ghost use Rattle.std.specs.Option.{option_map};
+ghost use Rattle.def_grammar.specs.Records.{entry_of};
 ghost use Rattle.design_model.specs.declared.mode.Section.TheVariants.{Components};
 ghost use Rattle.def_reader.specs.EntryViews.{entry_view};
 ghost use Rattle.entry_rules.specs.EntryNames.{entry_named};
@@ -9,6 +11,7 @@ ghost use Rattle.entry_rules.specs.Unknown.{component_named, stands_in};
 ghost use Rattle.entry_rules.specs.ViaLayers.{def_rule_named, def_via_named, rule_of_entry, via_of_entry};
 ghost use Rattle.def_reader.specs.StatementViews.{records_view};
 ghost use Rattle.design_names.specs.NameViews.{component_of_entry, lent_component, lent_entry, lent_rule, lent_via};
+ghost use Rattle.design_names.specs.Apart.{are_apart, is_known};
 ghost use Rattle.design_names.specs.Tables.{Adds};
 
 use crate::noted_places::NotedPlaces;
@@ -32,6 +35,8 @@ type Table<'r, 't, A> = IndexMap<EntryName<'t>, &'r Entry<'t>, RandomState, A>;
 pub struct Names<'r, 't, A: Allocator = Global> {
     records: &'r [Statement<'t>],
     table: Table<'r, 't, A>,
+    /// Whether no entry has the section and the name of an earlier one.
+    are_apart: bool,
 }
 
 impl<'r, 't, A: Allocator> Model for Names<'r, 't, A> {
@@ -39,32 +44,34 @@ impl<'r, 't, A: Allocator> Model for Names<'r, 't, A> {
     ghost use Rattle.def_grammar.specs.Records.{Record};
     ghost use Rattle.def_reader.specs.StatementViews.{records_view};
     ghost use Rattle.design_names.specs.NameViews.{lent_entry};
-    ghost use Rattle.design_names.specs.Tables.{HasFirsts};
+    ghost use Rattle.design_names.specs.Apart.{IsIndex};
 
     ghost Value = { List Record };
 
     ghost view = { λ n. records_view n.records.now };
 
-    ghost invariant = { λ n. HasFirsts lent_entry n.table.entries (records_view n.records.now) };
+    ghost invariant = { λ n. IsIndex lent_entry n.table.entries n.are_apart (records_view n.records.now) };
 }
 
-/// Adds an entry to a table, unless it has no name or its name is taken.
+/// Adds an entry to a table, unless it has no name or its name is taken. Says whether it is taken.
 fn add<'r, 't, A: Allocator + Copy>(
     table: &mut Table<'r, 't, A>,
     entry: &'r Entry<'t>,
-) -> Result<(), AllocError>
-    ensures { OnOk result (Adds lent_entry table.old.entries table.new.entries (entry_view entry.entry.now)) }
+) -> Result<bool, AllocError>
+    ensures added { OnOk result (Adds lent_entry table.old.entries table.new.entries (entry_view entry.entry.now)) }
+    ensures is_taken { IfOk result (λ is_taken. is_taken ≡ is_known lent_entry table.old.entries (entry_view entry.entry.now)) }
 {
     let Some(name) = entry.name() else {
-        return Ok(());
+        return Ok(false);
     };
     let word = entry.section().word();
     let key = EntryName { word, name };
     // A name is nearly always new: one look-up puts it there, and a second one puts back the entry that came first.
     if let Some(first) = table.insert(key, entry)? {
         table.insert(key, first)?;
+        return Ok(true);
     }
-    Ok(())
+    Ok(false)
 }
 
 /// The component that an entry is.
@@ -110,12 +117,18 @@ pub fn names_of<'r, 't, A: Allocator + Copy>(
         records.len(),
         hash_builder,
     )?;
+    let mut are_apart = true;
     for statement in records {
         if let Statement::Entry(entry) = statement {
-            add(&mut table, entry)?;
+            let is_taken = add(&mut table, entry)?;
+            are_apart &= !is_taken;
         }
     }
-    Ok(Names { records, table })
+    Ok(Names {
+        records,
+        table,
+        are_apart,
+    })
 }
 
 impl<'r, 't, A: Allocator + Copy> Names<'r, 't, A> {
@@ -129,6 +142,13 @@ impl<'r, 't, A: Allocator + Copy> Names<'r, 't, A> {
         ensures { records_view result.now ≡ self.now }
     {
         self.records
+    }
+
+    /// Whether no two entries of one section have one name. It takes no pass over them.
+    pub fn are_apart(&self) -> bool
+        ensures { result ≡ are_apart (filter_map entry_of self.now) }
+    {
+        self.are_apart
     }
 
     /// The first entry of this section with this name.

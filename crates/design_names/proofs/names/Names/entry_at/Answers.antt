@@ -16,7 +16,7 @@ returns-then-eq-2 g c =
     let name : key.name.now ≡ c.args.name.now = same_bytes key.name.now c.args.name.now (sym c.eq.ensures ∙ c.if-eq.true) in
     let word : key.word.now ≡ section_word c.args.section = same_bytes key.word.now c.word.result.now (sym c.eq-then-eq.ensures ∙ c.if-eq-2.true) ∙ c.word.ensures in
     sym (ap (λ (design : List Record). entry_named design c.args.section c.args.name.now) c.self.view_is)
-    ∙ sym (c.self.invariant.first c.args.section c.args.name.now)
+    ∙ sym (c.self.invariant.firsts.first c.args.section c.args.name.now)
     ∙ ap (λ (w : List ℕ). option_map lent_entry (lookup (is_key w c.args.name.now) table)) (sym word)
     ∙ ap (λ (n : List ℕ). option_map lent_entry (lookup (is_key key.word.now n) table)) (sym name)
     ∙ ap (option_map lent_entry) c.in_ok-key.ensures.value

@@ -11,5 +11,5 @@ pub returns : goal.returns
 returns g c =
     ap (option_map lent_entry) c.in_ok-place.ensures.value
     ∙ ap (λ (word : List ℕ). option_map lent_entry (lookup (is_key word c.args.name.now) c.self.inside.table.entries)) c.word-word.ensures
-    ∙ c.self.invariant.first c.args.section c.args.name.now
+    ∙ c.self.invariant.firsts.first c.args.section c.args.name.now
     ∙ ap (λ (design : List Record). entry_named design c.args.section c.args.name.now) c.self.view_is
