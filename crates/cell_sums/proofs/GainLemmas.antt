@@ -1,7 +1,7 @@
 -- What cells gain, block by block.
-use Rattle.std.proofs.Common.{◌≡◌, ◌+◌, ◌*◌, ◌/◌, ◌%◌, ◌-◌, ◌^◌, ◌<◌, ◌≤◌, max, ℕ, Bool, true, false, if◌then◌else◌, ◌==◌, ◌&&◌, List, get_or, Option, Some, None, Result, Ok, Err, OnOk, OnErr, refl, sym, ap, ap₂, ◌∙◌, arith}
+use Rattle.std.proofs.Common.{◌≡◌, ◌+◌, ◌*◌, ◌/◌, ◌%◌, ◌-◌, ◌^◌, ◌<◌, ◌≤◌, max, ℕ, Bool, true, false, if◌then◌else◌, ◌==◌, ◌&&◌, List, get_or, length, Option, Some, None, Result, Ok, Err, OnOk, OnErr, refl, sym, ap, ap₂, subst, ◌∙◌, arith}
 use Rattle.std.proofs.lemmas.Bool.Decides.{nat_tests}
-use Rattle.cell_sums.specs.Blocks.{BlockSums, Gains, HasGained, HasGainedAtMost, Key, block_at, one_of_two, run_gains, sum_at, sum_in}
+use Rattle.cell_sums.specs.Blocks.{AreInBlocks, BlockSums, Gains, HasGained, HasGainedAtMost, HasRoom, Key, block_at, one_of_two, run_gains, sum_at, sum_in}
 use Rattle.cell_sums.specs.Lines.{is_from}
 use Rattle.cell_sums.specs.declared.runs.Run.{Run}
 use Rattle.cell_sums.proofs.BlockLemmas.{one_key}
@@ -37,6 +37,16 @@ some_same m b e = cc
 not_same : (m b : ℕ) → (m == b) ≡ false → m ≡ b → ⊥
 not_same m b h e = grind (arith, nat_tests)
 
+some_or_none : (t : Bool) (a bound : ℕ) → a ≤ bound → (if t then a else 0) ≤ bound
+some_or_none true a bound h = h
+some_or_none false a bound h = omega arith
+
+from_low : (low high n : ℕ) → is_from low high n ≡ true → low ≤ n
+from_low low high n h = grind (arith, nat_tests)
+
+below_high : (low high n : ℕ) → is_from low high n ≡ true → n < high
+below_high low high n h = grind (arith, nat_tests)
+
 module _ (b : ℕ) where
   block_places : (q first i end : ℕ) → first / 64 ≡ q → q ≡ i / 64 → first < end
       → is_from (b * 64 + first % 64) (b * 64 + first % 64 + (end - first)) (b * 64 + i % 64) ≡ is_from first end i
@@ -55,18 +65,19 @@ module _ (b : ℕ) where
       omega arith
 
 -- where sums of one block have room, so have those at their places
-pub fits_at : (b : BlockSums) (layer row first end m : ℕ) → block_at b.keys (layer, row, first / 64) ≡ Some m → end ≤ first / 64 * 64 + 64
+fits_at : (b : BlockSums) (layer row first end m : ℕ) → block_at b.keys (layer, row, first / 64) ≡ Some m → end ≤ first / 64 * 64 + 64
     → ((i : ℕ) → first ≤ i → i < end → sum_at b layer i row + 2 ^ 64 ≤ 2 ^ 128)
-    → (n : ℕ) → m * 64 + first % 64 ≤ n → n < m * 64 + first % 64 + (end - first) → get_or b.sums n 0 + 2 ^ 64 ≤ 2 ^ 128
+    → (n : ℕ) → m * 64 + first % 64 ≤ n → n < m * 64 + first % 64 + (end - first) → get_or b.sums n 0 + get_or b.spilled n 0 + 2 ^ 64 ≤ 2 ^ 128
 fits_at b layer row first end m found together fits n low high =
     let i : ℕ = first + (n - (m * 64 + first % 64)) in
     let quotient : i / 64 ≡ first / 64 = omega arith in
     let place : m * 64 + i % 64 ≡ n = omega arith in
-    let is : sum_at b layer i row ≡ get_or b.sums n 0 = ap (λ q. sum_in b.sums (i % 64) (block_at b.keys (layer, row, q))) quotient ∙ ap (λ (o : Option ℕ). sum_in b.sums (i % 64) o) found ∙ ap (λ k. get_or b.sums k 0) place in
+    let is : sum_at b layer i row ≡ get_or b.sums n 0 + get_or b.spilled n 0 =
+    ap (λ q. sum_in b.sums b.spilled (i % 64) (block_at b.keys (layer, row, q))) quotient ∙ ap (λ (o : Option ℕ). sum_in b.sums b.spilled (i % 64) o) found ∙ ap (λ k. get_or b.sums k 0 + get_or b.spilled k 0) place in
     let room = fits i (omega arith) (omega (arith, low, high)) in
     omega (arith, is, room)
 
-module _ (cells : Run) (area : ℕ → ℕ) (keys : List Key) (old new : List ℕ) (b : ℕ) where
+module _ (cells : Run) (area : ℕ → ℕ) (keys : List Key) (old new spilled : List ℕ) (most b : ℕ) where
   module _ (found : block_at keys (cells.layer, cells.major, cells.first / 64) ≡ Some b) (some : cells.first < cells.end) (together : cells.end ≤ cells.first / 64 * 64 + 64)
       (added : (n : ℕ) → get_or new n 0 ≡ get_or old n 0 + (if is_from (b * 64 + cells.first % 64) (b * 64 + cells.first % 64 + (cells.end - cells.first)) n then area (cells.first + (n - (b * 64 + cells.first % 64))) else 0)) where
     -- the key of a cell among them
@@ -92,27 +103,75 @@ module _ (cells : Run) (area : ℕ → ℕ) (keys : List Key) (old new : List �
         (block_places b (cells.first / 64) cells.first i cells.end refl quotient some ∙ sym (same_row cells.layer cells.major l j (is_from cells.first cells.end i) layer row))
         (λ h. ap area (place_is b (cells.first / 64) cells.first i cells.end refl quotient (on_row cells.layer cells.major l j _ true h refl).2))
 
-    gained_at : (l i j : ℕ) (o : Option ℕ) → block_at keys (l, j, i / 64) ≡ o → sum_in new (i % 64) o ≡ sum_in old (i % 64) o + run_gains cells area l i j
-    gained_at l i j None e = let none : run_gains cells area l i j ≡ 0 = no_gain l i j _ refl (λ own. absurd (none_some b (sym e ∙ own))) in omega (arith, none)
-    gained_at l i j (Some m) e = by (m == b) refl
-      where
-        by : (t : Bool) → (m == b) ≡ t → get_or new (m * 64 + i % 64) 0 ≡ get_or old (m * 64 + i % 64) 0 + run_gains cells area l i j
-        by true h =
-            let same : m ≡ b = grind (arith, nat_tests) in
-            let own : block_at keys (l, j, i / 64) ≡ Some b = e ∙ ap (λ n. Some n) same in
-            let step = added (m * 64 + i % 64) in
-            step ∙ ap (λ n. get_or old (m * 64 + i % 64) 0 + n) (ap (λ k. if is_from (b * 64 + cells.first % 64) (b * 64 + cells.first % 64 + (cells.end - cells.first)) (k * 64 + i % 64) then area (cells.first + ((k * 64 + i % 64) - (b * 64 + cells.first % 64))) else 0) same ∙ gains_same l i j own)
-        by false h =
-            let step = added (m * 64 + i % 64) in
-            let out = other_block b m (cells.first % 64) (i % 64) (cells.end - cells.first) h (omega (arith, some, together)) (omega arith) in
-            let none : run_gains cells area l i j ≡ 0 = no_gain l i j _ refl (λ own. let other : m ≡ b = some_same m b (sym e ∙ own) in absurd (not_same m b h other)) in
-            step ∙ ap (λ n. get_or old (m * 64 + i % 64) 0 + n) (ap (λ t. if t then area (cells.first + ((m * 64 + i % 64) - (b * 64 + cells.first % 64))) else 0) out ∙ sym none)
+    gained_here : (l i j m : ℕ) → block_at keys (l, j, i / 64) ≡ Some m → (t : Bool) → (m == b) ≡ t → get_or new (m * 64 + i % 64) 0 ≡ get_or old (m * 64 + i % 64) 0 + run_gains cells area l i j
+    gained_here l i j m e true h =
+        let same : m ≡ b = grind (arith, nat_tests) in
+        let own : block_at keys (l, j, i / 64) ≡ Some b = e ∙ ap (λ n. Some n) same in
+        let step = added (m * 64 + i % 64) in
+        step ∙ ap (λ n. get_or old (m * 64 + i % 64) 0 + n) (ap (λ k. if is_from (b * 64 + cells.first % 64) (b * 64 + cells.first % 64 + (cells.end - cells.first)) (k * 64 + i % 64) then area (cells.first + ((k * 64 + i % 64) - (b * 64 + cells.first % 64))) else 0) same ∙ gains_same l i j own)
+    gained_here l i j m e false h =
+        let step = added (m * 64 + i % 64) in
+        let out = other_block b m (cells.first % 64) (i % 64) (cells.end - cells.first) h (omega (arith, some, together)) (omega arith) in
+        let none : run_gains cells area l i j ≡ 0 = no_gain l i j _ refl (λ own. let other : m ≡ b = some_same m b (sym e ∙ own) in absurd (not_same m b h other)) in
+        step ∙ ap (λ n. get_or old (m * 64 + i % 64) 0 + n) (ap (λ t. if t then area (cells.first + ((m * 64 + i % 64) - (b * 64 + cells.first % 64))) else 0) out ∙ sym none)
 
-    gained : (l i j : ℕ) → sum_at (record { keys = keys; sums = new }) l i j ≡ sum_at (record { keys = keys; sums = old }) l i j + run_gains cells area l i j
+    gained_at : (l i j : ℕ) (o : Option ℕ) → block_at keys (l, j, i / 64) ≡ o → sum_in new spilled (i % 64) o ≡ sum_in old spilled (i % 64) o + run_gains cells area l i j
+    gained_at l i j None e = let none : run_gains cells area l i j ≡ 0 = no_gain l i j _ refl (λ own. absurd (none_some b (sym e ∙ own))) in omega (arith, none)
+    gained_at l i j (Some m) e = let here = gained_here l i j m e (m == b) refl in omega (arith, here)
+
+    gained : (l i j : ℕ) → sum_at (record { keys = keys; sums = new; spilled = spilled; most = most }) l i j ≡ sum_at (record { keys = keys; sums = old; spilled = spilled; most = most }) l i j + run_gains cells area l i j
     gained l i j = gained_at l i j (block_at keys (l, j, i / 64)) refl
 
-    pub block_gained : HasGained (record { keys = keys; sums = old }) (record { keys = keys; sums = new }) (run_gains cells area)
-    block_gained = record { sums = gained }
+    -- where there was room for it, none is more than the most, and each fits
+    still_in_blocks : (bound : ℕ) → ((i : ℕ) → area i ≤ bound) → HasRoom (record { keys = keys; sums = old; spilled = spilled; most = most }) bound
+        → ((n : ℕ) → b * 64 + cells.first % 64 ≤ n → n < b * 64 + cells.first % 64 + (cells.end - cells.first) → get_or old n 0 + get_or spilled n 0 + 2 ^ 64 ≤ 2 ^ 128)
+        → length new ≡ length old → AreInBlocks keys old spilled most → AreInBlocks keys new spilled most
+    still_in_blocks bound small room fits same was = record {
+      stand = omega (arith, same, was.stand);
+      within = omega (arith, same, was.within);
+      bounded = λ n. let step = added n in let no_more = some_or_none (is_from (b * 64 + cells.first % 64) (b * 64 + cells.first % 64 + (cells.end - cells.first)) n) (area (cells.first + (n - (b * 64 + cells.first % 64)))) bound (small (cells.first + (n - (b * 64 + cells.first % 64)))) in let less = room.sums n in omega (arith, step, no_more, less);
+      fit = λ n. let step = added n in by n (is_from (b * 64 + cells.first % 64) (b * 64 + cells.first % 64 + (cells.end - cells.first)) n) refl step;
+    }
+      where
+        by : (n : ℕ) (t : Bool) → is_from (b * 64 + cells.first % 64) (b * 64 + cells.first % 64 + (cells.end - cells.first)) n ≡ t
+            → get_or new n 0 ≡ get_or old n 0 + (if t then area (cells.first + (n - (b * 64 + cells.first % 64))) else 0) → get_or new n 0 + get_or spilled n 0 < 2 ^ 128
+        by n false e step = let before = was.fit n in omega (arith, step, before)
+        by n true e step =
+            let free = fits n (from_low _ _ n e) (below_high _ _ n e) in
+            let gain = small (cells.first + (n - (b * 64 + cells.first % 64))) in
+            let less = room.sums n in
+            omega (arith, step, free, gain, less, room.most)
+
+-- a block as a call gave it, and its sums as they are lent
+module _ (cells : Run) (area : ℕ → ℕ) (bound : ℕ) (small : (i : ℕ) → area i ≤ bound) (some : cells.first < cells.end) (together : cells.end ≤ cells.first / 64 * 64 + 64)
+    (before now : BlockSums) (b : ℕ) (place : block_at now.keys (cells.layer, cells.major, cells.first / 64) ≡ Some b) (room : HasRoom now bound)
+    (same : (l i j : ℕ) → sum_at now l i j ≡ sum_at before l i j) (fits : (i : ℕ) → cells.first ≤ i → i < cells.end → sum_at before cells.layer i cells.major + 2 ^ 64 ≤ 2 ^ 128)
+    (keys : List Key) (old new spilled : List ℕ) (most : ℕ) (is : record { keys = keys; sums = old; spilled = spilled; most = most } ≡ now) (long : length new ≡ length old)
+    (added : (n : ℕ) → get_or new n 0 ≡ get_or old n 0 + (if is_from (b * 64 + cells.first % 64) (b * 64 + cells.first % 64 + (cells.end - cells.first)) n then area (cells.first + (n - (b * 64 + cells.first % 64))) else 0)) where
+  abbrev lent : BlockSums
+  lent = record { keys = keys; sums = old; spilled = spilled; most = most }
+
+  found : block_at keys (cells.layer, cells.major, cells.first / 64) ≡ Some b
+  found = ap (λ (s : BlockSums). block_at s.keys (cells.layer, cells.major, cells.first / 64)) is ∙ place
+
+  sum_is : (l i j : ℕ) → sum_at lent l i j ≡ sum_at before l i j
+  sum_is l i j = ap (λ (s : BlockSums). sum_at s l i j) is ∙ same l i j
+
+  lent_fits : (i : ℕ) → cells.first ≤ i → i < cells.end → sum_at lent cells.layer i cells.major + 2 ^ 64 ≤ 2 ^ 128
+  lent_fits i low high = let stays = sum_is cells.layer i cells.major in let free = fits i low high in omega (arith, stays, free)
+
+  pub kept_in_blocks : AreInBlocks keys old spilled most → AreInBlocks keys new spilled most
+  kept_in_blocks was =
+      still_in_blocks cells area keys old new spilled most b found some together added bound small (subst (λ (s : BlockSums). HasRoom s bound) (sym is) room)
+      (fits_at lent cells.layer cells.major cells.first cells.end b found together lent_fits) long was
+
+  pub gained_in_blocks : HasGained before (record { keys = keys; sums = new; spilled = spilled; most = most }) (run_gains cells area)
+  gained_in_blocks = record {
+    sums = λ l i j.
+        let step = gained cells area keys old new spilled most b found some together added l i j in
+        let stays = sum_is l i j in
+        omega (arith, step, stays);
+  }
 
 -- the cells of a run up to a number
 abbrev pub cells_to : Run → ℕ → Run
@@ -213,3 +272,11 @@ pair_added old new place first end area next_area two step n =
     step n
     ∙ ap (λ k. get_or old n 0 + (if is_from place (place + k) n then one_of_two area next_area (n - place) else 0)) count
     ∙ ap (λ k. get_or old n 0 + (if is_from place (place + (end - first)) n then one_of_two area next_area k else 0)) offset
+
+-- neither of two areas is more than the greater
+pub one_at_most : (area next_area n most : ℕ) → most ≡ max area next_area → one_of_two area next_area n ≤ most
+one_at_most area next_area n most is = by (n == 0)
+  where
+    by : (t : Bool) → (if t then area else next_area) ≤ most
+    by true = omega (arith, is)
+    by false = omega (arith, is)

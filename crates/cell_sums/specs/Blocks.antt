@@ -1,6 +1,6 @@
 -- Sums that are kept in blocks of 64, each for neighbours along one axis of a layer. A cell has a minor number, which counts along that
 -- axis, and a major number, which counts along the other: those of its column and its row, or of its row and its column.
-use Rattle.std.specs.Prelude.{◌≡◌, ◌≤◌, ℕ, ℤ, ◌+◌, ◌-◌, ◌*◌, ◌/◌, ◌%◌, Bool, ◌&&◌, ◌==◌, List, [], Option, Some, None, if◌then◌else◌, slice_index}
+use Rattle.std.specs.Prelude.{◌≡◌, ◌≤◌, ◌<◌, ◌^◌, length, ℕ, ℤ, ◌+◌, ◌-◌, ◌*◌, ◌/◌, ◌%◌, Bool, ◌&&◌, ◌==◌, List, [], Option, Some, None, if◌then◌else◌, slice_index}
 use Rattle.std.specs.List.{position}
 use Rattle.cell_sums.specs.Lines.{common_length, is_from}
 use Rattle.cell_sums.specs.declared.runs.Run.{Run}
@@ -10,29 +10,50 @@ use Rattle.cell_sums.specs.declared.runs.Strip.{Strip}
 abbrev pub Key : Type 0
 Key = ℕ × ℕ × ℕ
 
--- blocks by their keys, and the sums of one block after the other
+-- blocks by their keys, and the sums of one block after the other, in two parts: what was added since the last spill, which is no more
+-- than the most, and what was added before
 pub record BlockSums : Type 0 where
   pub keys : List Key
   pub sums : List ℕ
+  pub spilled : List ℕ
+  pub most : ℕ
 
 abbrev pub is_key : Key → Key → Bool
 is_key a b = ((a.0 == b.0) && (a.1 == b.1)) && (a.2 == b.2)
 
 abbrev pub no_sums : BlockSums
-no_sums = record { keys = []; sums = [] }
+no_sums = record { keys = []; sums = []; spilled = []; most = 0 }
 
 -- the place of a block among others
 abbrev pub block_at : List Key → Key → Option ℕ
 block_at keys k = position (is_key k) keys
 
--- a sum of the block at a place
-abbrev pub sum_in : List ℕ → ℕ → Option ℕ → ℕ
-sum_in sums offset (Some n) = slice_index sums (n * 64 + offset)
-sum_in sums offset None = 0
+-- a sum of the block at a place, of its two parts
+abbrev pub sum_in : List ℕ → List ℕ → ℕ → Option ℕ → ℕ
+sum_in sums spilled offset (Some n) = slice_index sums (n * 64 + offset) + slice_index spilled (n * 64 + offset)
+sum_in sums spilled offset None = 0
 
 -- the sum of the cell on a layer with a minor and a major number: 0 where it has no block
 abbrev pub sum_at : BlockSums → ℕ → ℕ → ℕ → ℕ
-sum_at b layer minor major = sum_in b.sums (minor % 64) (block_at b.keys (layer, major, minor / 64))
+sum_at b layer minor major = sum_in b.sums b.spilled (minor % 64) (block_at b.keys (layer, major, minor / 64))
+
+-- 64 sums stand for each key; none is more than the most, and with what was spilled of it each fits 128 bits
+pub record AreInBlocks (keys : List Key) (sums spilled : List ℕ) (most : ℕ) : Type 0 where
+  pub stand : length keys * 64 ≤ length sums
+  pub within : length spilled ≤ length sums
+  pub bounded : (n : ℕ) → slice_index sums n ≤ most
+  pub fit : (n : ℕ) → slice_index sums n + slice_index spilled n < 2 ^ 128
+
+-- the same blocks have the same sums, in parts that may be others
+pub record AreSame (old new : BlockSums) : Type 0 where
+  pub keys : new.keys ≡ old.keys
+  pub length : length new.sums ≡ length old.sums
+  pub sums : (n : ℕ) → slice_index new.sums n + slice_index new.spilled n ≡ slice_index old.sums n + slice_index old.spilled n
+
+-- what is added next may be so much
+pub record HasRoom (b : BlockSums) (area : ℕ) : Type 0 where
+  pub sums : (n : ℕ) → slice_index b.sums n + area ≤ b.most
+  pub most : b.most < 2 ^ 64
 
 -- what each cell of a layer, with a minor and a major number, has or gains
 abbrev pub Gains : Type 0

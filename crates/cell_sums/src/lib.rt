@@ -7,7 +7,10 @@
 //! `measure_rules/specs/Density`.
 //!
 //! Only cells that some rectangle covered take memory, in blocks of 64 sums, with a slot or two a block by which it is found again. A
-//! rectangle is added strip by strip, row by row. Cells of a row are 16 and 16 a chunk. Where a strip covers cells on both sides of a
+//! sum takes 8 bytes. Before one could pass 64 bits, all sums are moved to others of 16 bytes beside them, which takes a time that grows
+//! with all blocks; it comes where the areas of strips, each counted for every block that it is added to, come to 2^64 since the last time.
+//!
+//! A rectangle is added strip by strip, row by row. Cells of a row are 16 and 16 a chunk. Where a strip covers cells on both sides of a
 //! chunk, its height is added once for the chunk, in other blocks; the sum of a cell is the areas that were added to it, and its width
 //! by the heights that were added to its chunk. A tall rectangle, one that covers more than eight times as many rows as columns, is kept
 //! by columns instead: its strips are columns, and it needs no block for each of its rows. What is kept by rows and by columns stands

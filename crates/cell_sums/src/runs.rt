@@ -24,3 +24,17 @@ pub(crate) struct Strip {
     pub(crate) height: u64,
     ghost small: { height < 2 ^ 32 },
 }
+
+impl Strip {
+    ghost use Rattle.std.specs.Prelude.{◌≤◌, ℕ, List, ℤ};
+    ghost use Rattle.cell_sums.specs.Blocks.{strip_area};
+    ghost use Rattle.cell_sums.specs.Lines.{AreLines};
+
+    /// An area that is no less than what the strip has in common with any cell.
+    #[inline(always)]
+    pub(crate) fn most_of_cell(&self) -> u64
+        ensures { (ls : List ℤ) → AreLines ls → (i : ℕ) → strip_area ls self.now i ≤ result }
+    {
+        self.high.abs_diff(self.low).min(u32::MAX as u64) * self.height
+    }
+}

@@ -1,44 +1,30 @@
-use Rattle.std.proofs.Common.{◌≡◌, ◌+◌, ◌/◌, ◌^◌, ◌≤◌, ◌<◌, ℕ, List, Some, arith, ap, ◌∙◌, length, get_or}
+use Rattle.std.proofs.Common.{ap, sym, subst, ◌∙◌}
 use Rattle.std.proofs.lemmas.List.{with_items_is}
-use Rattle.cell_sums.specs.Blocks.{BlockSums, block_at, strip_area, strip_gains, sum_at}
-use Rattle.cell_sums.proofs.GainLemmas.{block_gained, fits_at}
+use Rattle.cell_sums.specs.Blocks.{AreInBlocks, HasGained, run_gains, strip_area}
+use Rattle.cell_sums.proofs.GainLemmas.{gained_in_blocks, kept_in_blocks}
 use Rattle.cell_sums.proofs.blocks.Blocks.add_to_block.Goals as goal
 
-pub overflow_mul-place : goal.overflow_mul-place
-overflow_mul-place g c =
-    let same = ap (λ (b : BlockSums). length b.sums) c.self.view_is in
-    omega (arith, c.in_ok-block.ensures.stands, same, c.as_mut_slice-sums.ensures.len, c.as_mut_slice-sums.type_inv.0)
-
-pub overflow_add-place : goal.overflow_add-place
-overflow_add-place g c =
-    let same = ap (λ (b : BlockSums). length b.sums) c.self.view_is in
-    omega (arith, c.in_ok-block.ensures.stands, same, c.as_mut_slice-sums.ensures.len, c.as_mut_slice-sums.type_inv.0)
-
-pub add_areas-requires-clause-fits : goal.add_areas-requires-clause-fits
-add_areas-requires-clause-fits g c n low high =
+pub invariant_of-self : goal.invariant_of-self
+invariant_of-self g c =
     let cells = c.args.cells.now in
-    let now = c.block.new.self in
-    let items = c.as_mut_slice-sums.ensures.value ∙ ap (λ (b : BlockSums). b.sums) c.self.view_is in
-    let fits : (i : ℕ) → cells.first ≤ i → i < cells.end → sum_at now cells.layer i cells.major + 2 ^ 64 ≤ 2 ^ 128 = λ i behind below. let same = c.in_ok-block.ensures.same cells.layer i cells.major in let room = c.requires.fits i behind below in omega (arith, same, room) in
-    let room = fits_at now cells.layer cells.major cells.first cells.end c.in_ok-block.block c.in_ok-block.ensures.place c.requires.together fits n low high in
-    let is = ap (λ xs. get_or xs n 0) items in
-    omega (arith, room, is)
+    let inside = c.self.inside in
+    let area = strip_area c.args.lines.now c.args.strip.now in
+    let got = c.as_mut_slice-sums.result.now in
+    let is = ap (λ xs. record { keys = inside.keys.keys; sums = xs; spilled = inside.spilled.items; most = inside.most }) c.as_mut_slice-sums.ensures.value ∙ c.self.view_is in
+    let added = c.add_areas.ensures in
+    let put = with_items_is inside.sums c.add_areas.new.sums (c.add_areas.auto.sums ∙ c.as_mut_slice-sums.ensures.len) in
+    subst (λ xs. AreInBlocks inside.keys.keys xs inside.spilled.items inside.most) (sym put)
+    (kept_in_blocks cells area c.most_of_cell.result (c.most_of_cell.ensures c.args.lines.now c.requires.lines) c.requires.some c.requires.together c.args.self.now c.block_with_room.new.self c.in_ok-block.block c.in_ok-block.ensures.place c.in_ok-block.ensures.room c.in_ok-block.ensures.same c.requires.fits inside.keys.keys got c.add_areas.new.sums inside.spilled.items inside.most is c.add_areas.auto.sums added
+    (subst (λ xs. AreInBlocks inside.keys.keys xs inside.spilled.items inside.most) (sym c.as_mut_slice-sums.ensures.value) c.self.invariant))
 
 pub returns-clause-added : goal.returns-clause-added
 returns-clause-added g c =
     let cells = c.args.cells.now in
-    let gains = strip_gains c.args.lines.now cells c.args.strip.now in
-    let found : block_at c.self.inside.keys.keys (cells.layer, cells.major, cells.first / 64) ≡ Some c.in_ok-block.block =
-    ap (λ (b : BlockSums). block_at b.keys (cells.layer, cells.major, cells.first / 64)) c.self.view_is ∙ c.in_ok-block.ensures.place in
+    let inside = c.self.inside in
+    let area = strip_area c.args.lines.now c.args.strip.now in
     let got = c.as_mut_slice-sums.result.now in
-    let keys = c.self.inside.keys.keys in
-    let step = block_gained cells (strip_area c.args.lines.now c.args.strip.now) keys got c.add_areas.new.sums c.in_ok-block.block found c.requires.some c.requires.together c.add_areas.ensures in
-    let put = with_items_is c.self.inside.sums c.add_areas.new.sums (c.add_areas.auto.sums ∙ c.as_mut_slice-sums.ensures.len) in
-    record {
-      sums = λ l i j.
-          ap (λ (xs : List ℕ). sum_at (record { keys = keys; sums = xs }) l i j) put
-          ∙ step.sums l i j
-          ∙ ap (λ (xs : List ℕ). sum_at (record { keys = keys; sums = xs }) l i j + gains l i j) c.as_mut_slice-sums.ensures.value
-          ∙ ap (λ (b : BlockSums). sum_at b l i j + gains l i j) c.self.view_is
-          ∙ ap (λ n. n + gains l i j) (c.in_ok-block.ensures.same l i j);
-    }
+    let is = ap (λ xs. record { keys = inside.keys.keys; sums = xs; spilled = inside.spilled.items; most = inside.most }) c.as_mut_slice-sums.ensures.value ∙ c.self.view_is in
+    let added = c.add_areas.ensures in
+    let put = with_items_is inside.sums c.add_areas.new.sums (c.add_areas.auto.sums ∙ c.as_mut_slice-sums.ensures.len) in
+    subst (λ xs. HasGained c.args.self.now (record { keys = inside.keys.keys; sums = xs; spilled = inside.spilled.items; most = inside.most }) (run_gains cells area)) (sym put)
+    (gained_in_blocks cells area c.most_of_cell.result (c.most_of_cell.ensures c.args.lines.now c.requires.lines) c.requires.some c.requires.together c.args.self.now c.block_with_room.new.self c.in_ok-block.block c.in_ok-block.ensures.place c.in_ok-block.ensures.room c.in_ok-block.ensures.same c.requires.fits inside.keys.keys got c.add_areas.new.sums inside.spilled.items inside.most is c.add_areas.auto.sums added)

@@ -1,7 +1,25 @@
-use Rattle.std.proofs.Common.{◌≡◌, ◌*◌, ℕ, List, Some, [], ◌∷◌, ◌++◌, sym, ap, ap₂, rules, ◌∙◌, length, take, replicate}
+use Rattle.std.proofs.Common.{◌≡◌, ◌+◌, ◌*◌, List, Some, [], ◌∷◌, ◌++◌, sym, ap, rules, ◌∙◌, length, take, replicate, arith}
 use Rattle.cell_sums.specs.Blocks.{BlockSums, Key, block_at, sum_at}
-use Rattle.cell_sums.proofs.BlockLemmas.{new_place, pushed_same, zeros_behind, zeros_front}
+use Rattle.cell_sums.proofs.BlockLemmas.{block_made, new_place, none_changed}
 use Rattle.cell_sums.proofs.blocks.Blocks.hashed_block.Goals as goal
+
+pub invariant_of-self-in_err-insert : goal.invariant_of-self-in_err-insert
+invariant_of-self-in_err-insert g c =
+    let old = c.self.inside.keys.keys in
+    let keys : c.insert.new.self.keys ≡ old = search rules in
+    let items : c.extend_from_slice.new.self.items ≡ take (length old * 64) c.self.inside.sums.items ++ replicate 64 0 = search rules in
+    let spilled : c.truncate-2.new.self.items ≡ take (length old * 64) c.self.inside.spilled.items = search rules in
+    let count = ap (λ (ks : List Key). length ks) keys in
+    block_made old c.self.inside.sums.items c.self.inside.spilled.items _ _ c.self.inside.most c.self.invariant items spilled c.insert.new.self.keys (omega (arith, count))
+
+pub invariant_of-self-2 : goal.invariant_of-self-2
+invariant_of-self-2 g c =
+    let old = c.self.inside.keys.keys in
+    let keys : c.insert.new.self.keys ≡ old ++ c.args.key ∷ [] = search rules in
+    let items : c.extend_from_slice.new.self.items ≡ take (length old * 64) c.self.inside.sums.items ++ replicate 64 0 = search rules in
+    let spilled : c.truncate-2.new.self.items ≡ take (length old * 64) c.self.inside.spilled.items = search rules in
+    let count : length c.insert.new.self.keys ≡ length old + 1 = search rules in
+    block_made old c.self.inside.sums.items c.self.inside.spilled.items _ _ c.self.inside.most c.self.invariant items spilled c.insert.new.self.keys (omega (arith, count))
 
 pub returns-clause-place : goal.returns-clause-place
 returns-clause-place g c =
@@ -12,9 +30,8 @@ returns-clause-place g c =
 pub returns-clause-same : goal.returns-clause-same
 returns-clause-same g c l i j =
     let old = c.self.inside.keys.keys in
-    let sums = c.self.inside.sums.items in
     let keys : c.insert.new.self.keys ≡ old ++ c.args.key ∷ [] = search rules in
-    let items : c.extend_from_slice.new.self.items ≡ take (length old * 64) sums ++ replicate 64 0 = search rules in
-    ap₂ (λ (ks : List Key) (xs : List ℕ). sum_at (record { keys = ks; sums = xs }) l i j) keys items
-    ∙ pushed_same old sums (take (length old * 64) sums ++ replicate 64 0) (zeros_front (length old * 64) sums c.self.invariant) c.args.key (zeros_behind (length old * 64) sums c.self.invariant) l i j
+    let items : c.extend_from_slice.new.self.items ≡ take (length old * 64) c.self.inside.sums.items ++ replicate 64 0 = search rules in
+    let spilled : c.truncate-2.new.self.items ≡ take (length old * 64) c.self.inside.spilled.items = search rules in
+    none_changed old c.self.inside.sums.items c.self.inside.spilled.items _ _ c.self.inside.most c.self.invariant items spilled c.args.key c.self.inside.most c.insert.new.self.keys keys l i j
     ∙ ap (λ (b : BlockSums). sum_at b l i j) c.self.view_is
