@@ -13,6 +13,7 @@ use Rattle.design_wires.specs.Scales.{units_of}
 use Rattle.net_pins.specs.CellPlaces.{origin}
 use Rattle.net_pins.specs.FoundPins.{IsFound}
 use Rattle.net_pins.specs.declared.found_pin.FoundPin.{FoundPin}
+use Rattle.net_pins.proofs.UnseenLemmas.{named}
 
 module _ (library : Library) where
   the_macro : (o : Option Macro) (v : LibraryMacro) → Some v ≡ option_map (in_library library) o → o ≡ Some v.cell
@@ -36,3 +37,17 @@ module _ (library : Library) where
 
   pub at_own_scale : {A : Type 0} (cell name : List ℕ) (u : ℕ) (p : FoundPin A) → IsFound library cell name u p → IsFound library cell name (units_of p.frame.scale) p
   at_own_scale cell name u p k = record { of = k.of; is = k.is; framed = k.framed; scaled = refl }
+
+  -- what was found has the name that was looked for
+  pub found_name : {A : Type 0} (cell name : List ℕ) (u : ℕ) (p : FoundPin A) → IsFound library cell name u p → p.name.now ≡ name
+  found_name cell name u p k = of_macro (macro_named library cell) k.is
+    where
+      of_pin : (m : Macro) (o : Option Pin) → pin_named m name ≡ o → option_map {U = Macro × Pin} (λ (q : Pin). (m, q)) o ≡ Some (k.of, pin_view (p.name.now, p.pin.now)) → p.name.now ≡ name
+      of_pin m None is found = cc
+      of_pin m (Some q) is found =
+          let pair : ◌≡◌ {A = Macro × Pin} (m, q) (k.of, pin_view (p.name.now, p.pin.now)) = cc in
+          sym (ap (λ (t : Macro × Pin). t.1.name) pair) ∙ named (λ (d : Pin). d.name) m.pins name q is
+
+      of_macro : (o : Option Macro) → pin_in name o ≡ Some (k.of, pin_view (p.name.now, p.pin.now)) → p.name.now ≡ name
+      of_macro None found = cc
+      of_macro (Some m) found = of_pin m (pin_named m name) refl found

@@ -10,3 +10,4 @@ pub mod PortLemmas
 pub mod PutLemmas
 pub mod SeenLemmas
 pub mod ShapeLemmas
+pub mod UnseenLemmas

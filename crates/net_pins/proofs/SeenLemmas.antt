@@ -1,12 +1,12 @@
 -- Pins that were seen, by their words.
-use Rattle.std.proofs.Common.{◌≡◌, ℕ, Bool, true, false, ◌&&◌, ◌||◌, List, [], ◌∷◌, ◌++◌, map, refl, sym, ap, ap₂, ◌∙◌, append_assoc, Bor, Option, Some, None, if◌then◌else◌}
+use Rattle.std.proofs.Common.{◌≡◌, ℕ, ◌<◌, Bool, true, false, not, ◌==◌, length, subst, ◌&&◌, ◌||◌, List, [], ◌∷◌, ◌++◌, map, refl, sym, ap, ap₂, ◌∙◌, append_assoc, Bor, Option, Some, None, if◌then◌else◌}
 use Rattle.std.specs.Option.{option_eq}
 use Rattle.std.specs.List.{list_any}
 use Rattle.std.specs.Str.{bytes_eq}
 use Rattle.std.proofs.lemmas.List.{append-nil, map-append}
 use Rattle.statement_model.specs.Grammar.{Key}
 use Rattle.statement_model.specs.Reading.{is_among, same_words}
-use Rattle.net_pins.specs.SeenViews.{is_same_lent, is_same_pin, same_pins, words_in, words_of}
+use Rattle.net_pins.specs.SeenViews.{AreNew, AreNoted, is_same_lent, is_same_pin, same_pins, words_in, words_of}
 use Rattle.net_pins.specs.declared.seen_pins.PinWords.{PinWords}
 
 with_true : (a : Bool) → a ≡ (a && true)
@@ -84,3 +84,72 @@ module _ (k : PinWords) (first further : List PinWords) (b : Bool) (is : b ≡ l
 
   pub with_further : b ≡ false → map words_of (first ++ (if list_any (is_same_pin k) further then further else further ++ k ∷ [])) ≡ (if is_among keys (words_of k) then keys else with_key keys)
   with_further f = put_behind (list_any (is_same_pin k) further) ∙ ap (λ (c : Bool). if c then keys else with_key keys) (sym (is_behind f))
+
+  -- the same, where all but the first were put into the table before
+  pub with_listed : b ≡ false → (table more unlisted : List PinWords) → table ≡ further → more ≡ (if list_any (is_same_pin k) table then table else table ++ k ∷ []) → unlisted ≡ []
+      → map words_of (first ++ (more ++ unlisted)) ≡ (if is_among keys (words_of k) then keys else with_key keys)
+  with_listed f table more unlisted same put none =
+      ap (λ (ks : List PinWords). map words_of (first ++ (more ++ ks))) none
+      ∙ ap (λ (ks : List PinWords). map words_of (first ++ ks)) (append-nil more ∙ put)
+      ∙ ap (λ (t : List PinWords). map words_of (first ++ (if list_any (is_same_pin k) t then t else t ++ k ∷ []))) same
+      ∙ with_further f
+
+-- pins that are put into a table behind those that stand there
+pub record ArePut (all : List PinWords) (table left : List PinWords) : Type 0 where
+  pub same : table ++ left ≡ all
+  pub new : AreNew table left
+
+put_one : (c : Bool) (table more : List PinWords) (k : PinWords) → c ≡ false → more ≡ (if c then table else table ++ k ∷ []) → more ≡ table ++ k ∷ []
+put_one true table more k f is = cc
+put_one false table more k f is = is
+
+pub one_put : (all table left rest more : List PinWords) (k : PinWords) → left ≡ k ∷ rest → ArePut all table left
+    → more ≡ (if list_any (is_same_pin k) table then table else table ++ k ∷ []) → ArePut all more rest
+one_put all table left rest more k is p put =
+    let news : AreNew table (k ∷ rest) = subst (AreNew table) is p.new in
+    let behind = put_one (list_any (is_same_pin k) table) table more k news.0 put in
+    record {
+      same = ap (λ (t : List PinWords). t ++ rest) behind ∙ append_assoc table (k ∷ []) rest ∙ ap (λ (l : List PinWords). table ++ l) (sym is) ∙ p.same;
+      new = subst (λ (t : List PinWords). AreNew t rest) (sym behind) news.1;
+    }
+
+pub all_put : (all table left : List PinWords) → left ≡ [] → ArePut all table left → table ≡ all
+all_put all table left none p = sym (append-nil table) ∙ ap (λ (l : List PinWords). table ++ l) (sym none) ∙ p.same
+
+-- one more pin that isn't in the table yet
+new_behind : (further unlisted : List PinWords) (k : PinWords) → AreNew further unlisted → list_any (is_same_pin k) (further ++ unlisted) ≡ false → AreNew further (unlisted ++ k ∷ [])
+new_behind further [] k are none = (sym (ap (list_any (is_same_pin k)) (append-nil further)) ∙ none, tt)
+new_behind further (u ∷ us) k are none = (are.0, new_behind (further ++ u ∷ []) us k are.1 (ap (list_any (is_same_pin k)) (append_assoc further (u ∷ []) us) ∙ none))
+
+or_right : (a b : Bool) → (a || b) ≡ false → b ≡ false
+or_right true b h = cc
+or_right false b h = h
+
+-- what isn't among all is none of those behind the first
+new_than_further : (k : PinWords) (first further : List PinWords) → is_among (map words_of (first ++ further)) (words_of k) ≡ false → list_any (is_same_pin k) further ≡ false
+new_than_further k first further none =
+    seen_among k further ∙ or_right (is_among (map words_of first) (words_of k)) (is_among (map words_of further) (words_of k)) (sym (among_both (words_of k) first further) ∙ none)
+
+pub noted_none : AreNoted [] [] []
+noted_none = record { few = λ h. refl; new = tt }
+
+pub noted_listed : (first further : List PinWords) → (length first < 8 → ⊥) → AreNoted first further []
+noted_listed first further many = record { few = λ h. absurd (many h); new = tt }
+
+pub noted_first : (first first_now further unlisted : List PinWords) → length first < 8 → AreNoted first further unlisted → AreNoted first_now further unlisted
+noted_first first first_now further unlisted h p = record { few = λ _. p.few h; new = p.new }
+
+pub noted_unlisted : (first further unlisted more : List PinWords) (k : PinWords) → (length first < 8 → ⊥) → AreNoted first further unlisted → is_among (map words_of (first ++ (further ++ unlisted))) (words_of k) ≡ false
+    → more ≡ unlisted ++ k ∷ [] → AreNoted first further more
+noted_unlisted first further unlisted more k many p none is = record {
+  few = λ h. absurd (many h);
+  new = subst (AreNew further) (sym is) (new_behind further unlisted k p.new (new_than_further k first (further ++ unlisted) none));
+}
+
+-- where nothing is noted there is no first one
+no_first : (first rest : List PinWords) → map words_of (first ++ rest) ≡ [] → first ≡ []
+no_first [] rest none = refl
+no_first (k ∷ ks) rest none = let not_so : ⊥ = cc in absurd not_so
+
+pub empty_first : (first rest : List PinWords) → map words_of (first ++ rest) ≡ [] → (length first == 0) ≡ true
+empty_first first rest none = rw (no_first first rest none) refl

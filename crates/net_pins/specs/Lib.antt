@@ -7,4 +7,5 @@ pub mod PortViews
 pub mod PortsLeft
 pub mod Putting
 pub mod SeenViews
+pub mod Unseen
 pub mod Walking

@@ -1,5 +1,6 @@
 -- The words of pins in the program as those of the definitions, and as keys of a table.
-use Rattle.std.specs.Prelude.{◌≡◌, ℕ, Bool, ◌-◌, ◌&&◌, List, [], ◌∷◌, length, slice_index, Option, Some, None, IsTrue}
+use Rattle.std.specs.Prelude.{◌≡◌, ℕ, Bool, false, ◌<◌, ◌-◌, ◌&&◌, List, [], ◌∷◌, ◌++◌, length, slice_index, Option, Some, None, IsTrue}
+use Rattle.std.specs.List.{list_any}
 use Rattle.std.specs.Cmp.{IsEquivalence, and_equiv, first_so, on_equiv, second_so}
 use Rattle.std.specs.Cmp.Lexicographic.{bytes_decides, nat_list_eq_equiv, options_equiv}
 use Rattle.std.specs.Option.{option_eq}
@@ -45,3 +46,13 @@ pub same_words_of : (a b : PinWords) → IsTrue (is_same_pin a b) → words_of a
 same_words_of a b same =
     same_in a.component b.component a.pin.now b.pin.now (first_so (option_eq is_same_lent a.component b.component) (bytes_eq a.pin.now b.pin.now) same)
     ((bytes_decides a.pin.now b.pin.now).0 (second_so (option_eq is_same_lent a.component b.component) (bytes_eq a.pin.now b.pin.now) same))
+
+-- each of some pins is new behind those that were seen and the ones before it
+abbrev pub AreNew : List PinWords → List PinWords → Type 0
+AreNew seen [] = Unit {0}
+AreNew seen (k ∷ ks) = (list_any (is_same_pin k) seen ≡ false) × AreNew (seen ++ k ∷ []) ks
+
+-- pins that were noted: the first of them, those in the table, and those that don't stand there yet
+pub record AreNoted (first further unlisted : List PinWords) : Type 0 where
+  pub few : length first < 8 → further ++ unlisted ≡ []
+  pub new : AreNew further unlisted

@@ -1,11 +1,11 @@
 //! The pins that the terminals of entries stand for (LEF/DEF 5.8 Language Reference, "Nets" and "Special Nets").
 
-ghost use Rattle.std.specs.Prelude.{◌≡◌, ◌<◌, ◌∷◌, [], ℕ, OnOk, flat_map, length};
+ghost use Rattle.std.specs.Prelude.{◌≡◌, ◌<◌, ◌∷◌, [], ℕ, OnOk, false, flat_map, length, true};
 ghost use Rattle.std.specs.List.{filter_map};
 ghost use Rattle.std.specs.Option.{option_map, option_to_list};
 ghost use Rattle.form_meanings.specs.Firsts.{find_named};
 ghost use Rattle.def_grammar.specs.Pins.{Pin};
-ghost use Rattle.def_grammar.specs.Records.{component_of};
+ghost use Rattle.def_grammar.specs.Records.{component_of, entry_of};
 ghost use Rattle.lef_grammar.specs.Library.{Library as TheLibrary, Macro as TheMacro};
 ghost use Rattle.connection_rules.specs.Terminals.{component_pin, design_pin, design_pins, pin_of_component, pins_of};
 ghost use Rattle.cell_library.specs.PinViews.{pin_view as macro_pin_view};
@@ -15,9 +15,12 @@ ghost use Rattle.wire_parts.specs.TerminalViews.{terminal_view, terminals_of};
 ghost use Rattle.def_reader.specs.EntryViews.{entry_view};
 ghost use Rattle.def_reader.specs.StatementViews.{record_view, records_view};
 ghost use Rattle.design_wires.specs.Scales.{units_of};
+ghost use Rattle.statement_model.specs.Reading.{is_among};
+ghost use Rattle.design_names.specs.Apart.{are_apart};
 ghost use Rattle.net_pins.specs.Counting.{with_pins};
 ghost use Rattle.net_pins.specs.EntryPins.{borrowed_pin, listed, pin_of_entry, pin_of_record, pins_in};
 ghost use Rattle.net_pins.specs.FoundPins.{IsFrameOf};
+ghost use Rattle.net_pins.specs.Unseen.{AreUnseen};
 ghost use Rattle.net_pins.specs.Walking.{IsReady};
 
 use crate::component_pins::put_component_pin;
@@ -38,15 +41,17 @@ use std::alloc::{AllocError, Allocator};
 use wire_parts::nets::NetEntry;
 use wire_parts::terminals::Terminal;
 
-/// Puts a pin of a component that its macro has, where it counts, unless it was seen.
+/// Puts a pin of a component that its macro has, where it counts, unless it was seen. One that is known to be new isn't looked for.
 #[inline(always)]
 fn put_found<'t, A: Allocator + Copy>(
     pin: FoundPin<'_, '_, 't, A>,
     component: &ComponentParts<'t>,
+    is_new: bool,
     walk: &mut PinWalk<'_, '_, 't, A>,
     nets: &mut NetList<'_, A>,
 ) -> Result<(), AllocError>
-    requires { 0 < length nets.old }
+    requires net { 0 < length nets.old }
+    requires new { is_new ≡ true → is_among walk.old.seen (component.now.name.bytes.now ∷ pin.name.now ∷ []) ≡ false }
     ensures ok { (m : TheMacro) → IsFrameOf m pin.entry.frame → OnOk result ((walk.new.seen, nets.new) ≡ with_pins (component_pin walk.old.layers (units_of pin.entry.frame.scale) (component_view component.now) m (macro_pin_view (pin.entry.name.now, pin.entry.pin.now)) ∷ []) (walk.old.seen, nets.old)) }
     ensures net { OnOk result (0 < length nets.new) }
     ensures same { walk.new.layers ≡ walk.old.layers }
@@ -55,27 +60,32 @@ fn put_found<'t, A: Allocator + Copy>(
         component: Some(component.name.bytes),
         pin: pin.name,
     };
-    if !walk.seen.note(words)? {
+    if is_new {
+        walk.seen.note_new(words)?;
+    } else if !walk.seen.note(words)? {
         return Ok(());
     }
     put_component_pin(pin, component, &mut walk.layers, &mut walk.rects, nets)
 }
 
-/// Puts the pin of this name of a component, where it has that and it counts, unless it was seen.
+/// Puts the pin of this name of a component, where it has that and it counts, unless it was seen. One that is known to be new isn't
+/// looked for.
 #[inline(always)]
 fn put_pin_of<'a, 'l: 'a, 'r: 'a, 't: 'a, A: Allocator + Copy>(
     of: &Sources<'_, 'a, 'l, 'r, 't, A>,
     component: &ComponentParts<'t>,
     pin: &'t [u8],
+    is_new: bool,
     walk: &mut PinWalk<'_, '_, 't, A>,
     nets: &mut NetList<'_, A>,
 ) -> Result<(), AllocError>
-    requires { IsReady of.now.library.now walk.old nets.old }
+    requires ready { IsReady of.now.library.now walk.old nets.old }
+    requires new { is_new ≡ true → is_among walk.old.seen (component.now.name.bytes.now ∷ pin.now ∷ []) ≡ false }
     ensures ok { OnOk result ((walk.new.seen, nets.new) ≡ with_pins (option_to_list (pin_of_component of.now.library.now (units_of of.now.scale) pin.entry.now (component_view component.now))) (walk.old.seen, nets.old)) }
     ensures ready { OnOk result (IsReady of.now.library.now walk.new nets.new) }
 {
     match walk.pins.pin_of(of.scale, component.cell.bytes, pin)? {
-        Some(found) => put_found(found, component, walk, nets),
+        Some(found) => put_found(found, component, is_new, walk, nets),
         None => Ok(()),
     }
 }
@@ -102,43 +112,64 @@ pub(crate) fn put_pin<'a, 'l: 'a, 'r: 'a, 't: 'a, A: Allocator + Copy>(
     }
 }
 
-/// Puts the pin of this name of the component that a statement is.
+/// Puts the pin of this name of the component that a statement is. One that is known to be new isn't looked for.
 fn put_pin_of_statement<'a, 'l: 'a, 'r: 'a, 't: 'a, A: Allocator + Copy>(
     of: &Sources<'_, 'a, 'l, 'r, 't, A>,
     statement: &Statement<'t>,
     pin: &'t [u8],
+    is_new: bool,
     walk: &mut PinWalk<'_, '_, 't, A>,
     nets: &mut NetList<'_, A>,
 ) -> Result<(), AllocError>
-    requires { IsReady of.now.library.now walk.old nets.old }
+    requires ready { IsReady of.now.library.now walk.old nets.old }
+    requires new { is_new ≡ true → AreUnseen pin.now walk.old.seen (record_view statement.now ∷ []) }
     ensures ok { OnOk result ((walk.new.seen, nets.new) ≡ with_pins (option_to_list (pin_of_record of.now.library.now (units_of of.now.scale) pin.entry.now (record_view statement.now))) (walk.old.seen, nets.old)) }
     ensures ready { OnOk result (IsReady of.now.library.now walk.new nets.new) }
 {
     match statement {
         Statement::Entry(Entry::Component(component)) => {
-            put_pin_of(of, component, pin, walk, nets)
+            put_pin_of(of, component, pin, is_new, walk, nets)
         }
         _ => Ok(()),
     }
 }
 
-/// Puts the pin of this name of each component that has it.
+/// Puts the pin of this name of each component that has it. Those that are known to be new aren't looked for.
 #[inline(never)]
-fn put_pins_of_all<'a, 'l: 'a, 'r: 'a, 't: 'a, A: Allocator + Copy>(
+fn put_pins_in<'a, 'l: 'a, 'r: 'a, 't: 'a, A: Allocator + Copy>(
     of: &Sources<'_, 'a, 'l, 'r, 't, A>,
     records: &[Statement<'t>],
+    pin: &'t [u8],
+    are_new: bool,
+    walk: &mut PinWalk<'_, '_, 't, A>,
+    nets: &mut NetList<'_, A>,
+) -> Result<(), AllocError>
+    requires ready { IsReady of.now.library.now walk.old nets.old }
+    requires new { are_new ≡ true → AreUnseen pin.now walk.old.seen (records_view records.now) }
+    requires apart { are_new ≡ true → are_apart (filter_map entry_of (records_view records.now)) ≡ true }
+    ensures ok { OnOk result ((walk.new.seen, nets.new) ≡ with_pins (filter_map (pin_of_component of.now.library.now (units_of of.now.scale) pin.entry.now) (filter_map component_of (records_view records.now))) (walk.old.seen, nets.old)) }
+    ensures ready { OnOk result (IsReady of.now.library.now walk.new nets.new) }
+{
+    for statement in records {
+        put_pin_of_statement(of, statement, pin, are_new, walk, nets)?;
+    }
+    Ok(())
+}
+
+/// Puts the pin of this name of each component that has it. Components of different names have different pins, so none of the pins is
+/// looked for where no name comes twice, and no pin was seen.
+fn put_pins_of_all<'a, 'l: 'a, 'r: 'a, 't: 'a, A: Allocator + Copy>(
+    of: &Sources<'_, 'a, 'l, 'r, 't, A>,
     pin: &'t [u8],
     walk: &mut PinWalk<'_, '_, 't, A>,
     nets: &mut NetList<'_, A>,
 ) -> Result<(), AllocError>
     requires { IsReady of.now.library.now walk.old nets.old }
-    ensures ok { OnOk result ((walk.new.seen, nets.new) ≡ with_pins (filter_map (pin_of_component of.now.library.now (units_of of.now.scale) pin.entry.now) (filter_map component_of (records_view records.now))) (walk.old.seen, nets.old)) }
+    ensures ok { OnOk result ((walk.new.seen, nets.new) ≡ with_pins ((pins_in of.now).of_all pin.entry.now) (walk.old.seen, nets.old)) }
     ensures ready { OnOk result (IsReady of.now.library.now walk.new nets.new) }
 {
-    for statement in records {
-        put_pin_of_statement(of, statement, pin, walk, nets)?;
-    }
-    Ok(())
+    let are_new = walk.seen.is_empty() && of.names.are_apart();
+    put_pins_in(of, of.names.records(), pin, are_new, walk, nets)
 }
 
 /// The pin of the design that an entry is.
@@ -194,7 +225,7 @@ fn put_pin_of_named<'a, 'l: 'a, 'r: 'a, 't: 'a, A: Allocator + Copy>(
     ensures ready { OnOk result (IsReady of.now.library.now walk.new nets.new) }
 {
     match of.names.component_near(component, &mut walk.noted) {
-        Some(parts) => put_pin_of(of, parts, pin, walk, nets),
+        Some(parts) => put_pin_of(of, parts, pin, false, walk, nets),
         None => Ok(()),
     }
 }
@@ -215,7 +246,7 @@ fn put_terminal<'a, 'l: 'a, 'r: 'a, 't: 'a, A: Allocator + Copy>(
     if terminal.is_virtual() {
         Ok(())
     } else if terminal.is_of_all() {
-        put_pins_of_all(of, of.names.records(), pin, walk, nets)
+        put_pins_of_all(of, pin, walk, nets)
     } else if terminal.is_of_design() {
         put_pin_named(of, pin, walk, nets)
     } else {

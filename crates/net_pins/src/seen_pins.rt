@@ -1,9 +1,9 @@
 //! The pins of a net that were seen.
 
-ghost use Rattle.std.specs.Prelude.{◌≡◌, ◌++◌, ◌∷◌, [], IfOk, OnOk, not, if◌then◌else◌};
+ghost use Rattle.std.specs.Prelude.{◌≡◌, ◌++◌, ◌∷◌, [], IfOk, OnOk, false, not, true, if◌then◌else◌};
 ghost use Rattle.statement_model.specs.Reading.{is_among};
 ghost use Rattle.std.specs.Cmp.{partial_equiv_from_equiv};
-ghost use Rattle.net_pins.specs.SeenViews.{end_of, is_same_pin, last_byte, same_pins, same_words_of, words_of};
+ghost use Rattle.net_pins.specs.SeenViews.{AreNew, end_of, is_same_pin, last_byte, same_pins, same_words_of, words_of};
 
 use indexmap::IndexSet;
 use std::alloc::{AllocError, Allocator, Global};
@@ -72,23 +72,38 @@ impl<'t> Hash for PinWords<'t> {
 }
 
 /// Pins by their words, in the order in which they were noted: the first of them, and those behind them, which are looked up by a
-/// hash.
+/// hash. Those that were known to be new come into the table only when another one is looked up.
 #[derive(Drop)]
 pub(crate) struct SeenPins<'t, A: Allocator = Global> {
     first: Vec<PinWords<'t>, A>,
     further: IndexSet<PinWords<'t>, RandomState, A>,
+    unlisted: Vec<PinWords<'t>, A>,
+}
+
+/// Puts pins into a table, each behind the others.
+fn put_into<'t, A: Allocator + Copy>(
+    table: &mut IndexSet<PinWords<'t>, RandomState, A>,
+    pins: &[PinWords<'t>],
+) -> Result<(), AllocError>
+    requires { AreNew table.old.keys pins.now }
+    ensures { OnOk result (table.new.keys ≡ table.old.keys ++ pins.now) }
+{
+    for pin in pins {
+        table.insert(*pin)?;
+    }
+    Ok(())
 }
 
 impl<'t, A: Allocator> Model for SeenPins<'t, A> {
-    ghost use Rattle.std.specs.Prelude.{◌≡◌, ◌<◌, ◌++◌, [], List, length, map};
+    ghost use Rattle.std.specs.Prelude.{◌++◌, List, map};
     ghost use Rattle.statement_model.specs.Grammar.{Key};
-    ghost use Rattle.net_pins.specs.SeenViews.{words_of};
+    ghost use Rattle.net_pins.specs.SeenViews.{AreNoted, words_of};
 
     ghost Value = { List Key };
 
-    ghost view = { λ s. map words_of (s.first.items ++ s.further.keys) };
+    ghost view = { λ s. map words_of (s.first.items ++ (s.further.keys ++ s.unlisted.items)) };
 
-    ghost invariant = { λ s. length s.first.items < 8 → s.further.keys ≡ [] };
+    ghost invariant = { λ s. AreNoted s.first.items s.further.keys s.unlisted.items };
 }
 
 impl<'t, A: Allocator + Copy> SeenPins<'t, A> {
@@ -99,16 +114,26 @@ impl<'t, A: Allocator + Copy> SeenPins<'t, A> {
         SeenPins {
             first: Vec::new(alloc),
             further: IndexSet::with_hasher(alloc, hash_builder),
+            unlisted: Vec::new(alloc),
         }
     }
 
-    /// Forgets all pins. The room for the first of them stays, unless there were others: emptying a large table costs as much as
-    /// filling it.
+    /// Whether there are none.
+    pub(crate) fn is_empty(&self) -> bool
+        ensures none { result ≡ true → self.now ≡ [] }
+        ensures only_then { self.now ≡ [] → result ≡ true }
+    {
+        self.first.as_slice().is_empty()
+    }
+
+    /// Forgets all pins. The room for those outside the table stays, unless there were others: emptying a large table costs as much
+    /// as filling it.
     pub(crate) fn clear(&mut self)
         ensures { self.new ≡ [] }
     {
         if self.further.is_empty() {
             self.first.clear();
+            self.unlisted.clear();
         } else {
             let alloc = *self.further.allocator();
             let hash_builder = *self.further.hasher();
@@ -128,7 +153,23 @@ impl<'t, A: Allocator + Copy> SeenPins<'t, A> {
             self.first.push(pin)?;
             return Ok(true);
         }
+        let listed = put_into(&mut self.further, &self.unlisted);
+        self.unlisted.clear();
+        listed?;
         let is_new = self.further.insert(pin)?;
         Ok(is_new)
+    }
+
+    /// Notes a pin that is new.
+    pub(crate) fn note_new(&mut self, pin: PinWords<'t>) -> Result<(), AllocError>
+        requires { is_among self.old (words_of pin) ≡ false }
+        ensures { OnOk result (self.new ≡ self.old ++ words_of pin.entry ∷ []) }
+    {
+        if self.first.len() < FEW {
+            self.first.push(pin)?;
+        } else {
+            self.unlisted.push(pin)?;
+        }
+        Ok(())
     }
 }
