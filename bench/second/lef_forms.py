@@ -1,0 +1,232 @@
+"""The forms of the statements of LEF that mean something, by the block in which they stand."""
+from second.library import LefRectangle
+from second.matcher import NoForm
+from second.tokens import can_be_number, distance, is_name, is_word, whole_number
+
+MOST_ROWS = 1000000
+
+
+class Words:
+    """The tokens of a statement between its first word and its ; and the offsets of those of its numbers that are invalid."""
+
+    def __init__(self, tokens):
+        self.tokens = tokens
+        self.invalid = []
+
+    def require(self, is_so):
+        if not is_so:
+            raise NoForm
+
+    def text(self, at):
+        return self.tokens[at].text
+
+    def count(self):
+        return len(self.tokens)
+
+    def value(self, token, read, is_valid):
+        """Returns the number that a token is. One that is invalid counts as 0."""
+        self.require(can_be_number(token.text))
+        found = read(token.text)
+        if found is None or not is_valid(found):
+            self.invalid.append(token.begin)
+            return 0
+        return found
+
+    def distance(self, token):
+        return self.value(token, distance, lambda it: True)
+
+    def length(self, token):
+        """Returns a distance that isn't below 0."""
+        return self.value(token, distance, lambda it: it >= 0)
+
+    def distances(self, count):
+        self.require(self.count() == count)
+        return [self.distance(it) for it in self.tokens]
+
+    def lengths(self, count):
+        self.require(self.count() == count)
+        return [self.length(it) for it in self.tokens]
+
+    def size(self):
+        """Matches `length BY length`."""
+        self.require(self.count() == 3 and self.text(1) == b"BY")
+        return (self.length(self.tokens[0]), self.length(self.tokens[2]))
+
+    def points(self, begin, count):
+        """Matches so many points from a token on and nothing else: each is two distances, with or without ( and )."""
+        points, at = [], begin
+        for _ in range(count):
+            is_bracketed = at < self.count() and self.text(at) == b"("
+            self.require(at + 1 + 2 * is_bracketed < self.count())
+            self.require(not is_bracketed or self.text(at + 3) == b")")
+            points.append((self.distance(self.tokens[at + is_bracketed]), self.distance(self.tokens[at + is_bracketed + 1])))
+            at += 4 if is_bracketed else 2
+        self.require(at == self.count())
+        return points
+
+    def first_name(self):
+        """Returns a name that other tokens may follow."""
+        self.require(self.tokens and is_name(self.text(0)))
+        return self.text(0)
+
+    def first_word(self):
+        """Returns a word that other tokens may follow."""
+        self.require(self.tokens and is_word(self.text(0)))
+        return self.text(0)
+
+    def names(self, count):
+        self.require(self.count() == count and all(is_name(it.text) for it in self.tokens))
+        return [it.text for it in self.tokens]
+
+
+def best(words, forms):
+    """Returns what the forms that fit give: the first without an invalid number, or else the first."""
+    fitting = []
+    for form in forms:
+        trial = Words(words.tokens)
+        try:
+            fitting.append((form(trial), trial.invalid))
+        except NoForm:
+            pass
+    words.require(fitting)
+    value, words.invalid = next((it for it in fitting if not it[1]), fitting[0])
+    return value
+
+
+def masked_points(words):
+    words.require(words.count() >= 2 and words.text(0) == b"MASK" and is_word(words.text(1)))
+    return words.points(2, 2)
+
+
+def iterated(words):
+    """Matches an array of rectangles, which isn't looked at: None."""
+    texts = [it.text for it in words.tokens[:3]]
+    is_masked = len(texts) == 3 and texts[0] == b"MASK" and is_word(texts[1]) and texts[2] == b"ITERATE"
+    words.require(texts[:1] == [b"ITERATE"] or is_masked)
+
+
+def corners(words, may_iterate):
+    """Matches RECT. Returns its corners, or None for an array of rectangles."""
+    return best(words, [lambda it: it.points(0, 2), masked_points, *[iterated] * may_iterate])
+
+
+# ---- The statements, by their blocks. Each takes the block's own definition and the words of the statement.
+
+def layer_type(layer, words):
+    words.require(words.count() == 1)
+    word = words.first_word()
+    if layer.type is None:
+        layer.type = word
+
+
+def layer_width(layer, words):
+    words.require(words.tokens)
+    width = words.length(words.tokens[0])
+    if layer.width is None:
+        layer.width = width
+
+
+def layer_spacing(layer, words):
+    words.require(words.tokens)
+    words.distance(words.tokens[0])
+
+
+def size(block, words):
+    """Matches SIZE of a site or a macro."""
+    found = words.size()
+    if block.size is None:
+        block.size = found
+
+
+def via_layer(via, words):
+    via.layers.append(words.first_name())
+
+
+def via_rectangle(via, words):
+    words.require(via.layers)
+    via.rectangles.append(LefRectangle(via.layers[-1], corners(words, False)))
+
+
+def via_polygon(via, words):
+    via.polygons += 1
+
+
+def via_rows(words):
+    """Matches ROWCOL: two whole numbers."""
+    words.require(words.count() == 2)
+    found = [words.value(it, whole_number, lambda value: 1 <= value <= MOST_ROWS) for it in words.tokens]
+    return [max(it, 1) for it in found]
+
+
+def via_value(word, read):
+    def form(via, words):
+        via.values.setdefault(word, read(words))
+
+    return form
+
+
+def rule_width(rule, words):
+    width = words.lengths(1)[0]
+    if rule.width is None:
+        rule.width = width
+
+
+def macro_class(macro, words):
+    word = words.first_word()
+    if macro.macro_class is None:
+        macro.macro_class = word
+
+
+def macro_origin(macro, words):
+    origin = words.points(0, 1)[0]
+    if macro.origin is None:
+        macro.origin = origin
+
+
+def macro_site(macro, words):
+    macro.sites.append(words.first_name())
+
+
+def port_layer(port, words):
+    port.layer = words.first_name()
+
+
+def port_rectangle(port, words):
+    words.require(port.layer is not None)
+    found = corners(words, True)
+    if found is None:
+        port.pin.unchecked += 1
+    else:
+        port.pin.rectangles.append(LefRectangle(port.layer, found))
+
+
+def port_unchecked(port, words):
+    port.pin.unchecked += 1
+
+
+FORMS = {
+    "LAYER": {b"TYPE": layer_type, b"WIDTH": layer_width, b"SPACING": layer_spacing},
+    "SITE": {b"SIZE": size},
+    "VIA": {
+        b"LAYER": via_layer,
+        b"RECT": via_rectangle,
+        b"POLYGON": via_polygon,
+        b"VIARULE": via_value(b"VIARULE", lambda it: it.names(1)[0]),
+        b"CUTSIZE": via_value(b"CUTSIZE", lambda it: it.lengths(2)),
+        b"CUTSPACING": via_value(b"CUTSPACING", lambda it: it.lengths(2)),
+        b"LAYERS": via_value(b"LAYERS", lambda it: it.names(3)),
+        b"ENCLOSURE": via_value(b"ENCLOSURE", lambda it: it.distances(4)),
+        b"OFFSET": via_value(b"OFFSET", lambda it: it.distances(4)),
+        b"ORIGIN": via_value(b"ORIGIN", lambda it: it.distances(2)),
+        b"ROWCOL": via_value(b"ROWCOL", via_rows),
+    },
+    "RULE LAYER": {b"WIDTH": rule_width},
+    "MACRO": {b"CLASS": macro_class, b"ORIGIN": macro_origin, b"SIZE": size, b"SITE": macro_site},
+    "PORT": {
+        b"LAYER": port_layer,
+        b"RECT": port_rectangle,
+        b"POLYGON": port_unchecked,
+        b"PATH": port_unchecked,
+        b"VIA": port_unchecked,
+    },
+}
