@@ -6,7 +6,7 @@ from dataclasses import dataclass, field
 
 from second.comparing import bytes_of, differences
 from second.design import Design
-from second.lef import read_lef
+from second.lef_reader import read_lef
 from second.library import Library
 from second.script import Outcome, run
 from second.tokens import Fault

@@ -1,4 +1,5 @@
-"""The clauses of the entries of DEF: which words have a form in which section, and which form."""
+"""The clauses of the entries of DEF: which words have a form in which section, and which form (LEF/DEF 5.8 Language Reference, "Components",
+"Pins", "Vias", "Nets", "Special Nets", "Regions", "Groups" and "Nondefault Rules")."""
 import enum
 from dataclasses import dataclass
 
@@ -19,13 +20,15 @@ MOST_ROWS = 1000000
 
 
 class Kind(enum.Enum):
+    """How a clause stands to the forms of its section."""
+
     # the clause has the form of its word
     FORM = enum.auto()
     # its word has no form in this section
     OTHER = enum.auto()
     # its word has a form, and the clause has it not
     FORMLESS = enum.auto()
-    # SUBNET, which goes on to the end of its entry
+    # SUBNET of a net, which goes on to the end of its entry
     SUBNET = enum.auto()
 
 
@@ -180,6 +183,8 @@ FORMS = {
 
 @dataclass
 class Matched:
+    """What a form that fits holds, which may be nothing."""
+
     value: object
 
 

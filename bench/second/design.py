@@ -3,7 +3,7 @@ from dataclasses import dataclass, field
 
 from second import entries
 from second.clauses import SECTIONS
-from second.definitions import read_statements
+from second.def_reader import read_statements
 from second.geometry import SIDEWAYS, Point, Rectangle, box, moved, turned
 from second.tokens import in_units
 

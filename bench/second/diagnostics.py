@@ -1,7 +1,7 @@
 """The answer of `check`: all lines on a design, in the order of their bytes."""
 from second.net_lines import NetLines
-from second.places import PlaceLines
-from second.references import References
+from second.place_lines import PlaceLines
+from second.name_lines import NameLines
 
 
 class Lines:
@@ -17,6 +17,6 @@ class Lines:
 def diagnostics(design):
     """Returns the lines of `check`, without their number."""
     lines = Lines()
-    for part in (PlaceLines, NetLines, References):
+    for part in (PlaceLines, NetLines, NameLines):
         part(design, lines).collect()
     return sorted(lines.told)

@@ -22,6 +22,10 @@ class Splice:
     end: int
     put: bytes
 
+    def made(self, text):
+        """Returns the text with nothing but this done."""
+        return text[: self.begin] + self.put + text[self.end :]
+
 
 def refuse_if(is_so, reason):
     if is_so:

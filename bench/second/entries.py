@@ -1,4 +1,5 @@
-"""The statements of DEF: entries of sections, and what stands outside of them."""
+"""The statements of DEF: entries of sections, and what stands outside of them (LEF/DEF 5.8 Language Reference, "Components", "Regions",
+"Groups", "Nets", "Blockages", "Units", "Die Area", "Rows", "Tracks" and "GCell Grid"; the limits are own)."""
 from dataclasses import dataclass, field
 
 from second.clauses import KEPT_SECTIONS, SECTIONS, Clause, Placing, clauses
@@ -27,11 +28,15 @@ class Statement:
 
 @dataclass
 class Units(Statement):
+    """How many database units a micron has."""
+
     per_micron: int
 
 
 @dataclass
 class DieArea(Statement):
+    """The die area: two corners, or the points of a polygon."""
+
     points: list
 
 
@@ -67,6 +72,8 @@ class Header(Statement):
 
 @dataclass
 class SectionEnd(Statement):
+    """The END of a section."""
+
     section: bytes
 
 
@@ -77,7 +84,7 @@ class Properties(Statement):
 
 @dataclass
 class DesignEnd(Statement):
-    pass
+    """END DESIGN, behind which nothing may stand."""
 
 
 @dataclass
@@ -193,6 +200,8 @@ def terminal(it):
 
 
 def net(section):
+    """Returns the form of entries of a section of nets, up to their clauses."""
+
     def matched(it):
         entry = NetEntry(section, it.name())
         entry.name_token = it.last()
@@ -204,6 +213,7 @@ def net(section):
 
 
 def plain(section):
+    """Returns the form of entries that have a name and clauses alone."""
     return lambda it: Entry(section, it.name())
 
 

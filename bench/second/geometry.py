@@ -1,4 +1,4 @@
-"""Points, rectangles, and what the orientations of LEF and DEF do to them."""
+"""Points, rectangles, and what the orientations of DEF do to them (LEF/DEF 5.8 Language Reference, "Specifying Orientation")."""
 from typing import NamedTuple
 
 ORIENTS = (b"N", b"S", b"E", b"W", b"FN", b"FS", b"FE", b"FW")
@@ -31,6 +31,7 @@ def box(a, b):
 
 
 def turned_point(orient, x, y):
+    """Returns a point that is turned about the origin, and for the orientations with F mirrored first."""
     return {
         b"N": (x, y),
         b"W": (-y, x),

@@ -1,4 +1,6 @@
-"""The forms of the statements of LEF that mean something, by the block in which they stand."""
+"""The forms of the statements of LEF that mean something, by the block in which they stand (LEF/DEF 5.8 Language Reference, "Layer", "Site",
+"Via", "Nondefault Rule", "Macro" and "Macro Pin Statement"; the limits are own)."""
+from second.geometry import Point
 from second.library import LefRectangle
 from second.matcher import NoForm
 from second.tokens import can_be_number, distance, is_name, is_word, whole_number
@@ -6,7 +8,7 @@ from second.tokens import can_be_number, distance, is_name, is_word, whole_numbe
 MOST_ROWS = 1000000
 
 
-class Words:
+class Arguments:
     """The tokens of a statement between its first word and its ; and the offsets of those of its numbers that are invalid."""
 
     def __init__(self, tokens):
@@ -50,7 +52,7 @@ class Words:
     def size(self):
         """Matches `length BY length`."""
         self.require(self.count() == 3 and self.text(1) == b"BY")
-        return (self.length(self.tokens[0]), self.length(self.tokens[2]))
+        return Point(self.length(self.tokens[0]), self.length(self.tokens[2]))
 
     def points(self, begin, count):
         """Matches so many points from a token on and nothing else: each is two distances, with or without ( and )."""
@@ -59,7 +61,7 @@ class Words:
             is_bracketed = at < self.count() and self.text(at) == b"("
             self.require(at + 1 + 2 * is_bracketed < self.count())
             self.require(not is_bracketed or self.text(at + 3) == b")")
-            points.append((self.distance(self.tokens[at + is_bracketed]), self.distance(self.tokens[at + is_bracketed + 1])))
+            points.append(Point(*(self.distance(it) for it in self.tokens[at + is_bracketed :][:2])))
             at += 4 if is_bracketed else 2
         self.require(at == self.count())
         return points
@@ -79,128 +81,128 @@ class Words:
         return [it.text for it in self.tokens]
 
 
-def best(words, forms):
+def best(given, forms):
     """Returns what the forms that fit give: the first without an invalid number, or else the first."""
     fitting = []
     for form in forms:
-        trial = Words(words.tokens)
+        trial = Arguments(given.tokens)
         try:
             fitting.append((form(trial), trial.invalid))
         except NoForm:
             pass
-    words.require(fitting)
-    value, words.invalid = next((it for it in fitting if not it[1]), fitting[0])
+    given.require(fitting)
+    value, given.invalid = next((it for it in fitting if not it[1]), fitting[0])
     return value
 
 
-def masked_points(words):
-    words.require(words.count() >= 2 and words.text(0) == b"MASK" and is_word(words.text(1)))
-    return words.points(2, 2)
+def masked_points(given):
+    given.require(given.count() >= 2 and given.text(0) == b"MASK" and is_word(given.text(1)))
+    return given.points(2, 2)
 
 
-def iterated(words):
+def iterated(given):
     """Matches an array of rectangles, which isn't looked at: None."""
-    texts = [it.text for it in words.tokens[:3]]
+    texts = [it.text for it in given.tokens[:3]]
     is_masked = len(texts) == 3 and texts[0] == b"MASK" and is_word(texts[1]) and texts[2] == b"ITERATE"
-    words.require(texts[:1] == [b"ITERATE"] or is_masked)
+    given.require(texts[:1] == [b"ITERATE"] or is_masked)
 
 
-def corners(words, may_iterate):
+def corners(given, may_iterate):
     """Matches RECT. Returns its corners, or None for an array of rectangles."""
-    return best(words, [lambda it: it.points(0, 2), masked_points, *[iterated] * may_iterate])
+    return best(given, [lambda it: it.points(0, 2), masked_points, *[iterated] * may_iterate])
 
 
-# ---- The statements, by their blocks. Each takes the block's own definition and the words of the statement.
+# ---- The statements, by their blocks. Each takes the definition of the block, and what the statement is given.
 
-def layer_type(layer, words):
-    words.require(words.count() == 1)
-    word = words.first_word()
+def layer_type(layer, given):
+    given.require(given.count() == 1)
+    word = given.first_word()
     if layer.type is None:
         layer.type = word
 
 
-def layer_width(layer, words):
-    words.require(words.tokens)
-    width = words.length(words.tokens[0])
+def layer_width(layer, given):
+    given.require(given.tokens)
+    width = given.length(given.tokens[0])
     if layer.width is None:
         layer.width = width
 
 
-def layer_spacing(layer, words):
-    words.require(words.tokens)
-    words.distance(words.tokens[0])
+def layer_spacing(layer, given):
+    given.require(given.tokens)
+    given.distance(given.tokens[0])
 
 
-def size(block, words):
+def size(block, given):
     """Matches SIZE of a site or a macro."""
-    found = words.size()
+    found = given.size()
     if block.size is None:
         block.size = found
 
 
-def via_layer(via, words):
-    via.layers.append(words.first_name())
+def via_layer(via, given):
+    via.layers.append(given.first_name())
 
 
-def via_rectangle(via, words):
-    words.require(via.layers)
-    via.rectangles.append(LefRectangle(via.layers[-1], corners(words, False)))
+def via_rectangle(via, given):
+    given.require(via.layers)
+    via.rectangles.append(LefRectangle(via.layers[-1], corners(given, False)))
 
 
-def via_polygon(via, words):
+def via_polygon(via, given):
     via.polygons += 1
 
 
-def via_rows(words):
+def via_rows(given):
     """Matches ROWCOL: two whole numbers."""
-    words.require(words.count() == 2)
-    found = [words.value(it, whole_number, lambda value: 1 <= value <= MOST_ROWS) for it in words.tokens]
+    given.require(given.count() == 2)
+    found = [given.value(it, whole_number, lambda value: 1 <= value <= MOST_ROWS) for it in given.tokens]
     return [max(it, 1) for it in found]
 
 
 def via_value(word, read):
-    def form(via, words):
-        via.values.setdefault(word, read(words))
+    def form(via, given):
+        via.values.setdefault(word, read(given))
 
     return form
 
 
-def rule_width(rule, words):
-    width = words.lengths(1)[0]
+def rule_width(rule, given):
+    width = given.lengths(1)[0]
     if rule.width is None:
         rule.width = width
 
 
-def macro_class(macro, words):
-    word = words.first_word()
+def macro_class(macro, given):
+    word = given.first_word()
     if macro.macro_class is None:
         macro.macro_class = word
 
 
-def macro_origin(macro, words):
-    origin = words.points(0, 1)[0]
+def macro_origin(macro, given):
+    origin = given.points(0, 1)[0]
     if macro.origin is None:
         macro.origin = origin
 
 
-def macro_site(macro, words):
-    macro.sites.append(words.first_name())
+def macro_site(macro, given):
+    macro.sites.append(given.first_name())
 
 
-def port_layer(port, words):
-    port.layer = words.first_name()
+def port_layer(port, given):
+    port.layer = given.first_name()
 
 
-def port_rectangle(port, words):
-    words.require(port.layer is not None)
-    found = corners(words, True)
+def port_rectangle(port, given):
+    given.require(port.layer is not None)
+    found = corners(given, True)
     if found is None:
         port.pin.unchecked += 1
     else:
         port.pin.rectangles.append(LefRectangle(port.layer, found))
 
 
-def port_unchecked(port, words):
+def port_unchecked(port, given):
     port.pin.unchecked += 1
 
 

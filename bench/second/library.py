@@ -1,6 +1,8 @@
 """What LEF texts define: layers, sites, vias, nondefault rules and macros. Distances are as `tokens.distance` gives them."""
 from dataclasses import dataclass, field
 
+from second.geometry import Point
+
 
 @dataclass
 class Layer:
@@ -12,7 +14,7 @@ class Layer:
 class Site:
     """A site. The size is a width and a height."""
 
-    size: tuple | None = None
+    size: Point | None = None
 
 
 @dataclass
@@ -52,8 +54,8 @@ class Port:
 @dataclass
 class Macro:
     macro_class: bytes | None = None
-    origin: tuple | None = None
-    size: tuple | None = None
+    origin: Point | None = None
+    size: Point | None = None
     sites: list = field(default_factory=list)
     pins: dict = field(default_factory=dict)
 

@@ -1,4 +1,4 @@
-"""How the forms of DEF are matched: a statement's tokens, one after the other."""
+"""How the forms of DEF are matched: the tokens of a statement, one after the other."""
 from second.geometry import ORIENTS, Point, box
 from second.tokens import GREATEST, can_be_number, is_name, is_word, whole_number
 

@@ -4,7 +4,7 @@ from itertools import combinations
 
 from second.geometry import common, meets, overlaps
 from second.nets import nets_of
-from second.places import is_weak
+from second.place_lines import is_weak
 
 
 @dataclass

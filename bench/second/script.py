@@ -8,7 +8,7 @@ from second.design import Design
 from second.diagnostics import diagnostics
 from second.edits import Refused, refuse_if
 from second.geometry import ORIENTS
-from second.lef import read_lef
+from second.lef_reader import read_lef
 from second.library import Library
 from second.nets import nets_of
 from second.tokens import Fault, whole_number
@@ -180,7 +180,7 @@ class Session:
         refuse_if(begin is None or end is None, "E5")
         text = self.design.text
         refuse_if(not 0 <= begin <= end <= len(text), "E9")
-        text = text[:begin] + put + text[end:]
+        text = edits.Splice(begin, end, put).made(text)
         refuse_if(len(text) > edits.LONGEST_TEXT, "E11")
         try:
             Design(self.library, text)

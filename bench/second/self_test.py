@@ -68,7 +68,8 @@ def tries_of_cases():
     files = {"lef1.lef": given.lefs[0], "design.def": given.design, "script.txt": given.script, "out.def": answer.text}
     files |= {"stdout": answer.answers, "status": b"%d\n" % answer.status}
     yield "a right case", not wrong_with(Case("right", files))
-    for name, text in {"status": b"3\n", "stdout": b"total 1\n", "stderr": b"DEF: F4 at 0\n", "out.def": b"", "prefixes": b"0 0 reads\n"}.items():
+    wrong = {"status": b"3\n", "stdout": b"total 1\n", "stderr": b"DEF: F4 at 0\n", "out.def": b"", "prefixes": b"0 0 reads\n"}
+    for name, text in wrong.items():
         yield f"a case with another {name}", bool(wrong_with(Case("wrong", {**files, name: text})))
 
 

@@ -1,4 +1,5 @@
-"""Tokens of LEF and DEF texts, the bytes that no text may have, and which tokens are words, names and numbers."""
+"""Tokens of LEF and DEF texts, the bytes that no text may have, and which tokens are words, names and numbers (LEF/DEF 5.8 Language Reference, "DEF
+Syntax" and "LEF Syntax"; the limits are own)."""
 import re
 from typing import NamedTuple
 

@@ -1,8 +1,9 @@
-"""What wires draw: the pieces of their paths, each on the layer to which the vias before it lead."""
+"""What wires draw: the pieces of their paths, each on the layer to which the vias before it lead (LEF/DEF 5.8 Language Reference, "Regular
+Wiring Statement", "Special Wiring Statement" and "Nondefault Rules")."""
 from dataclasses import dataclass, field
 
 from second import wiring
-from second.geometry import Rectangle, Shape, moved, moved_shapes, turned_shapes
+from second.geometry import Point, Rectangle, Shape, moved, moved_shapes, turned_shapes
 from second.vias import joined_layers, via_named
 
 
@@ -62,9 +63,9 @@ def segment(a, b, width, extensions):
     the line, or right of it."""
     below = width // 2
     (low, before), (high, after) = sorted(zip((a, b), extensions), key=lambda it: it[0])
-    if a[1] == b[1]:
-        return Rectangle(low[0] - before, low[1] - below, high[0] + after, low[1] + width - below)
-    return Rectangle(low[0] - below, low[1] - before, low[0] + width - below, high[1] + after)
+    if a.y == b.y:
+        return Rectangle(low.x - before, low.y - below, high.x + after, low.y + width - below)
+    return Rectangle(low.x - below, low.y - before, low.x + width - below, high.y + after)
 
 
 class Walk:
@@ -88,9 +89,8 @@ class Walk:
         return self.drawn
 
     def place_of(self, it):
-        x = self.place[0] if it.x is None else it.x
-        y = self.place[1] if it.y is None else it.y
-        return (x, y)
+        """Returns the place of a point, of which each coordinate may be that of the point before."""
+        return Point(self.place.x if it.x is None else it.x, self.place.y if it.y is None else it.y)
 
     def point(self, it):
         place = self.place_of(it)
@@ -100,13 +100,13 @@ class Walk:
 
     def draw_segment(self, place, extension):
         """Draws a segment to a point. Where no extension is given it goes half a width further in NETS, and in SPECIALNETS not."""
-        if self.place[0] != place[0] and self.place[1] != place[1]:
+        if self.place.x != place.x and self.place.y != place.y:
             self.drawn.diagonals += 1
             return
         width = wire_width(self.design, self.entry, self.wire, self.layer)
         usual = 0 if self.entry.is_special else width // 2
         extensions = [usual if it is None else it for it in (self.extension, extension)]
-        self.drawn.length += abs(self.place[0] - place[0]) + abs(self.place[1] - place[1])
+        self.drawn.length += abs(self.place.x - place.x) + abs(self.place.y - place.y)
         self.drawn.parts.append([Shape(self.layer, segment(self.place, place, width, extensions))])
 
     def virtual_point(self, it):

@@ -13,7 +13,8 @@ OTHER_OF_PIN = ["+ DIRECTION INPUT", "+ USE SIGNAL", "+ SPECIAL", '+ NETEXPR "a 
 PATTERNS = ["u*", "*", "u1", "u?", "*1", "a/*", "u*0", "**", "x\\[*", "nothing", "c*", "*/*", "u1*1", "(", "-"]
 GROUP_REGIONS = ["F", "Gd", "H", "noreg", "( 0 0 ) ( 5 5 )", "", "F Gd", "*"]
 ODD_BLOCKAGES = [
-    "- ;", "- LAYER m1 ;", "- PLACEMENT ;", "- x y ;", "- PLACEMENT RECT ( 0 0 ) ;", "- LAYER m1 RECT ( 0 0 ) ( 9 9 ) + SLOTS ;", '- + + "x" ;',
+    "- ;", "- LAYER m1 ;", "- PLACEMENT ;", "- x y ;", "- PLACEMENT RECT ( 0 0 ) ;", "- LAYER m1 RECT ( 0 0 ) ( 9 9 ) + SLOTS ;",
+    '- + + "x" ;',
 ]
 BLOCKAGE_WORDS = [
     "SOFT", "PARTIAL 50", "SLOTS", "FILLS", "COMPONENT u1", "PUSHDOWN", "EXCEPTPGNET", "SPACING 10", "DESIGNRULEWIDTH 5", "MASK 1",
@@ -50,7 +51,8 @@ class DefTexts(NetTexts):
         return f"DIEAREA {self.corners()} {' '.join(further)} ;"
 
     def row(self):
-        text = f"ROW {self.one('r0', 'r1', 'r2')} {self.one('core', 'core', 'tall', 'nosize', 'io', 'nosite')} {self.coordinates(2)} {self.orient()}"
+        site = self.one("core", "core", "tall", "nosize", "io", "nosite")
+        text = f"ROW {self.one('r0', 'r1', 'r2')} {site} {self.coordinates(2)} {self.orient()}"
         if self.chance(0.85):
             text += f" DO {self.number(self.one(0, 1, 1, 2, 5, 20))} BY {self.number(self.one(0, 1, 1, 1, 2, 3))}"
             if self.chance(0.7):

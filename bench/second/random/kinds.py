@@ -1,9 +1,10 @@
 """The kinds of random runs: texts and a script, by a seed."""
 from dataclasses import dataclass
 
-from second.definitions import read_statements
+from second.def_reader import read_statements
+from second.edits import Splice
 from second.library import Library
-from second.lef import read_lef
+from second.lef_reader import read_lef
 from second.random.script_lines import ScriptLines, text_line
 from second.random.small_designs import CrowdDesigns, FenceDesigns, RowDesigns, WireDesigns
 from second.random.spoiling import LEF_POOL, POOL, Spoiler
@@ -94,13 +95,13 @@ def text_edited(seed):
     lefs, design = texts_of(made)
     lines, text, spoiler = [], design, Spoiler(made.rng)
     for count in range(made.between(5, 30)):
-        begin, end, put = spoiler.edit_of_text(text, encoded(made.net(f"nX{count}", made.chance(0.5))) + b"\n")
-        new = text[:begin] + put + text[end:]
+        splice = spoiler.edit_of_text(text, encoded(made.net(f"nX{count}", made.chance(0.5))) + b"\n")
+        new = splice.made(text)
         if not is_faulty(new):
             text = new
         elif made.chance(0.6):
             continue
-        lines.append(text_line(begin, end, put))
+        lines.append(text_line(splice))
         lines += [b"check"] * made.chance(0.7)
         lines += asked(made) if made.chance(0.1) else []
     return Run(lefs, design, script_of([*lines, b"check"]))
@@ -113,7 +114,7 @@ def replaced(seed):
     lines, size = asked(made), len(design)
     for _ in range(made.between(1, 25)):
         new = encoded(made.design())
-        lines += [text_line(0, size, new), *asked(made)]
+        lines += [text_line(Splice(0, size, new)), *asked(made)]
         size = size if is_faulty(new) else len(new)
     return Run(lefs, design, script_of(lines))
 
@@ -133,7 +134,7 @@ def followed(made, rounds, edits):
         run_script(session, script_of(encoded(it) for it in changing if it.split()[0] not in ASKING))
         if turn < rounds - 1:
             text = encoded(made.design())
-            lines.append(text_line(0, len(session.design.text), text))
+            lines.append(text_line(Splice(0, len(session.design.text), text)))
     return Run([lef], design, script_of([*lines, *map(encoded, made.asked())]))
 
 
@@ -154,7 +155,7 @@ def wires(seed):
 
 def crowds(seed):
     """A design of forty components on thirty nets."""
-    return followed(CrowdDesigns(seed), 1, (10, 25))
+    return followed(CrowdDesigns(seed), 1, (5, 12))
 
 
 KINDS = {

@@ -21,8 +21,9 @@ def escaped(text):
     return text.replace(b"\\", b"\\\\").replace(b"\n", b"\\n").replace(b"\r", b"\\r").replace(b"\t", b"\\t")
 
 
-def text_line(begin, end, put):
-    return b"text %d %d %s" % (begin, end, escaped(put))
+def text_line(splice):
+    """Returns the text line that makes a splice."""
+    return b"text %d %d %s" % (splice.begin, splice.end, escaped(splice.put))
 
 
 class ScriptLines(DefTexts, LefTexts):
@@ -35,11 +36,27 @@ class ScriptLines(DefTexts, LefTexts):
 
     def any_line(self):
         kinds = {
-            self.place_line: 20, self.unplace_line: 4, self.add_line: 4, self.remove_line: 5, self.remaster_line: 4, self.connect_line: 7, self.disconnect_line: 6,
-            self.route_line: 10, self.unroute_line: 3, self.block_line: 7, self.show_line: 5, self.length_line: 5, self.box_line: 5, self.cell_line: 8, self.pcell_line: 5,
-            lambda: self.one(*ODD_LINES): 2,
+            self.place_line: 20,
+            self.unplace_line: 4,
+            self.add_line: 4,
+            self.remove_line: 5,
+            self.remaster_line: 4,
+            self.connect_line: 7,
+            self.disconnect_line: 6,
+            self.route_line: 10,
+            self.unroute_line: 3,
+            self.block_line: 7,
+            self.show_line: 5,
+            self.length_line: 5,
+            self.box_line: 5,
+            self.cell_line: 8,
+            self.pcell_line: 5,
+            self.odd_line: 2,
         }
         return self.weighted(kinds)()
+
+    def odd_line(self):
+        return self.one(*ODD_LINES)
 
     def place_line(self):
         return self.words("place", self.component(), self.coordinate(), self.coordinate(), self.orient())

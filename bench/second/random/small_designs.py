@@ -12,12 +12,13 @@ class SmallDesigns(ScriptLines):
     """Makes plain texts at one database unit per micron."""
 
     is_odd = False
-    far = 0.0
+    # whether many coordinates are one of a few
+    is_close = True
     macros = ["M", "N", "O", "P", "Q"]
 
     def __init__(self, seed):
         super().__init__(seed)
-        self.far, self.is_dense, self.units = 0.0, True, 1
+        self.far, self.units, self.is_dense = 0.0, 1, self.is_close
 
     def numbers(self, count, least, most):
         return " ".join(str(self.between(least, most)) for _ in range(count))
@@ -210,6 +211,7 @@ class CrowdDesigns(WireDesigns):
     components = [f"u{k}" for k in range(40)]
     nets = [f"n{k}" for k in range(30)]
     reach = (-10, 150)
+    is_close = False
 
     def near_net(self, name, section):
         parts = ["-", name]

@@ -1,6 +1,8 @@
 """Random changes of texts that mostly make them faulty."""
 import re
 
+from second.edits import Splice
+
 POOL = (
     b'; ( ) + - * N FS MASK RECT NEW DO BY STEP VIRTUAL TAPER TAPERRULE STYLE SHAPE ROUTED FIXED COVER NOSHIELD SHIELD PLACED UNPLACED '
     b'END DESIGN COMPONENTS NETS SPECIALNETS PINS UNITS DIEAREA ROW GCELLGRID TRACKS X Y PORT LAYER VIA POLYGON NET USE POWER SUBNET '
@@ -58,28 +60,28 @@ class Spoiler:
             (at, at + 1, b""): 2,
             (low, high if high - low < 200 else low, b""): 2,
         }
-        begin, end, put = self.rng.choices([*ways], [*ways.values()])[0]
-        return text[:begin] + put + text[end:]
+        return Splice(*self.rng.choices([*ways], [*ways.values()])[0]).made(text)
 
     def edit_of_text(self, text, entry):
-        """Returns a range of a text, and what is put in its place: words, lines, marks, or an entry."""
+        """Returns a change of a text: of words, lines, marks, or an entry that is put."""
         words = words_of(text)
         begin, end = self.rng.choice(words)
         other_begin, other_end = self.rng.choice(words)
         kind = self.rng.random()
         if kind < 0.35:
-            return begin, end, text[other_begin:other_end] if self.rng.random() < 0.6 else self.rng.choice(POOL)
+            return Splice(begin, end, text[other_begin:other_end] if self.rng.random() < 0.6 else self.rng.choice(POOL))
         if kind < 0.5:
-            return begin, begin, self.rng.choice(POOL) + b" "
+            return Splice(begin, begin, self.rng.choice(POOL) + b" ")
         if kind < 0.6:
-            return begin, end, b""
+            return Splice(begin, end, b"")
         if kind < 0.75:
-            return *line_round(text, begin, end), b""
+            return Splice(*line_round(text, begin, end), b"")
         if kind < 0.85:
             low, high = line_round(text, begin, end)
             to, _ = line_round(text, other_begin, other_end)
-            return to, to, text[low:high]
+            return Splice(to, to, text[low:high])
         if kind < 0.93:
             low, high = sorted(self.rng.choices(range(len(text) + 1), k=2))
-            return low, min(high, low + self.rng.choice([0, 1, 2, 5, 20, 200])), self.rng.choice(BLANKS_AND_MARKS)
-        return begin, begin, entry
+            end = min(high, low + self.rng.choice([0, 1, 2, 5, 20, 200]))
+            return Splice(low, end, self.rng.choice(BLANKS_AND_MARKS))
+        return Splice(begin, begin, entry)

@@ -97,7 +97,7 @@ class Words:
     def coordinate(self):
         if self.chance(self.far):
             return self.number(self.one(*FAR))
-        if self.is_dense and self.is_odd and self.chance(0.6):
+        if self.is_dense and self.chance(0.6):
             return self.number(self.one(0, 0, 2, 4, 8, 12))
         return self.number(self.between(*self.reach))
 

@@ -4,7 +4,7 @@ from second.wires import drawn_of_entry
 from second.wiring import LayerPolygon, LayerRectangle, ViaAt, Wires
 
 
-class References:
+class NameLines:
     """Collects the lines on names and counts."""
 
     def __init__(self, design, lines):

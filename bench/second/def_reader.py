@@ -1,4 +1,4 @@
-"""Reads a DEF text: cuts it into statements, and tells the first fault that it has."""
+"""Reads a DEF text: cuts it into statements, and tells the first fault that it has (LEF/DEF 5.8 Language Reference, "DEF Syntax")."""
 from dataclasses import dataclass, field
 
 from second import entries

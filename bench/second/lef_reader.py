@@ -1,8 +1,8 @@
-"""Reads a LEF text: its blocks and their statements, and the first fault that it has."""
+"""Reads a LEF text: its blocks and their statements, and the first fault that it has (LEF/DEF 5.8 Language Reference, "LEF Syntax")."""
 from dataclasses import dataclass
 
 from second import library
-from second.lef_forms import FORMS, Words
+from second.lef_forms import FORMS, Arguments
 from second.matcher import NoForm
 from second.tokens import LONGEST_TEXT, Fault, is_name, is_word, next_token, refuse_bytes
 
@@ -139,10 +139,10 @@ class LefReader:
         elif not is_word(word) or word == b";":
             raise NoForm
         else:
-            form, words = FORMS.get(self.kind, {}).get(word), Words(tokens[1:-1])
+            form, given = FORMS.get(self.kind, {}).get(word), Arguments(tokens[1:-1])
             if form:
-                form(self.blocks[-1].definition, words)
-            return words.invalid
+                form(self.blocks[-1].definition, given)
+            return given.invalid
         return []
 
     def open(self, word, name):
