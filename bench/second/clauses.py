@@ -1,5 +1,7 @@
-"""The clauses of the entries of DEF: which words have a form in which section, and which form (LEF/DEF 5.8 Language Reference, "Components",
-"Pins", "Vias", "Nets", "Special Nets", "Regions", "Groups" and "Nondefault Rules")."""
+"""The clauses of the entries of DEF: which words have a form in which section, and which form.
+
+LEF/DEF 5.8 Language Reference, "Components", "Pins", "Vias", "Nets", "Special Nets", "Regions", "Groups" and "Nondefault Rules".
+"""
 import enum
 from dataclasses import dataclass
 

@@ -1,20 +1,14 @@
-"""Reads a DEF text: cuts it into statements, and tells the first fault that it has (LEF/DEF 5.8 Language Reference, "DEF Syntax")."""
+"""Reads a DEF text: cuts it into statements, and tells the first fault that it has.
+
+LEF/DEF 5.8 Language Reference, "DEF Syntax".
+"""
 from dataclasses import dataclass, field
 
 from second import entries
 from second.matcher import Matcher, NoForm
-from second.tokens import LONGEST_TEXT, Fault, next_token, refuse_bytes
+from second.tokens import LONGEST_TEXT, Cut, Fault, next_token
 
 TOP, PROPERTIES, AFTER = "outside of sections", "within PROPERTYDEFINITIONS", "after the end of the design"
-
-
-@dataclass
-class Cut:
-    """The tokens of a statement, whether they go up to its end, and the fault that they end with."""
-
-    tokens: list = field(default_factory=list)
-    is_ended: bool = False
-    fault: Fault | None = None
 
 
 def tokens_up_to(text, cut, is_last):
@@ -122,11 +116,7 @@ def read_statements(text):
     reader, statements, at = Reader(), [], 0
     while True:
         cut = cut_statement(text, at)
-        refuse_bytes(text, at, cut.tokens[-1].end if cut.is_ended else len(text))
-        if cut.fault:
-            raise cut.fault
-        if not cut.is_ended and cut.tokens:
-            raise Fault(5, cut.tokens[0].begin)
+        cut.refuse(text, at)
         if not cut.tokens:
             break
         statements.append(reader.statement(cut.tokens))

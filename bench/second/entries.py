@@ -1,5 +1,8 @@
-"""The statements of DEF: entries of sections, and what stands outside of them (LEF/DEF 5.8 Language Reference, "Components", "Regions",
-"Groups", "Nets", "Blockages", "Units", "Die Area", "Rows", "Tracks" and "GCell Grid"; the limits are own)."""
+"""The statements of DEF: entries of sections, and what stands outside of them.
+
+LEF/DEF 5.8 Language Reference, "Components", "Regions", "Groups", "Nets", "Blockages", "Units",
+"Die Area", "Rows", "Tracks" and "GCell Grid"; the limits are own.
+"""
 from dataclasses import dataclass, field
 
 from second.clauses import KEPT_SECTIONS, SECTIONS, Clause, Placing, clauses

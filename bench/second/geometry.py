@@ -1,4 +1,7 @@
-"""Points, rectangles, and what the orientations of DEF do to them (LEF/DEF 5.8 Language Reference, "Specifying Orientation")."""
+"""Points, rectangles, and what the orientations of DEF do to them.
+
+LEF/DEF 5.8 Language Reference, "Specifying Orientation".
+"""
 from typing import NamedTuple
 
 ORIENTS = (b"N", b"S", b"E", b"W", b"FN", b"FS", b"FE", b"FW")

@@ -1,5 +1,7 @@
-"""The forms of the statements of LEF that mean something, by the block in which they stand (LEF/DEF 5.8 Language Reference, "Layer", "Site",
-"Via", "Nondefault Rule", "Macro" and "Macro Pin Statement"; the limits are own)."""
+"""The forms of the statements of LEF that mean something, by the block in which they stand.
+
+LEF/DEF 5.8 Language Reference, "Layer", "Site", "Via", "Nondefault Rule", "Macro" and "Macro Pin Statement"; the limits are own.
+"""
 from second.geometry import Point
 from second.library import LefRectangle
 from second.matcher import NoForm
@@ -54,15 +56,22 @@ class Arguments:
         self.require(self.count() == 3 and self.text(1) == b"BY")
         return Point(self.length(self.tokens[0]), self.length(self.tokens[2]))
 
+    def point(self, at):
+        """Matches a point from a token on: two distances, with or without ( and ). Returns it, and where it ends."""
+        is_bracketed = at < self.count() and self.text(at) == b"("
+        at += is_bracketed
+        self.require(at + 1 < self.count())
+        found = Point(self.distance(self.tokens[at]), self.distance(self.tokens[at + 1]))
+        at += 2
+        self.require(not is_bracketed or at < self.count() and self.text(at) == b")")
+        return found, at + is_bracketed
+
     def points(self, begin, count):
-        """Matches so many points from a token on and nothing else: each is two distances, with or without ( and )."""
+        """Matches so many points from a token on, and nothing behind them."""
         points, at = [], begin
         for _ in range(count):
-            is_bracketed = at < self.count() and self.text(at) == b"("
-            self.require(at + 1 + 2 * is_bracketed < self.count())
-            self.require(not is_bracketed or self.text(at + 3) == b")")
-            points.append(Point(*(self.distance(it) for it in self.tokens[at + is_bracketed :][:2])))
-            at += 4 if is_bracketed else 2
+            point, at = self.point(at)
+            points.append(point)
         self.require(at == self.count())
         return points
 
@@ -114,30 +123,30 @@ def corners(given, may_iterate):
 
 # ---- The statements, by their blocks. Each takes the definition of the block, and what the statement is given.
 
-def layer_type(layer, given):
+def first(name, read):
+    """Returns the form of a statement of which the first in a block counts: its value is the field of this name."""
+
+    def form(block, given):
+        value = read(given)
+        if getattr(block, name) is None:
+            setattr(block, name, value)
+
+    return form
+
+
+def one_word(given):
     given.require(given.count() == 1)
-    word = given.first_word()
-    if layer.type is None:
-        layer.type = word
+    return given.first_word()
 
 
-def layer_width(layer, given):
+def first_length(given):
     given.require(given.tokens)
-    width = given.length(given.tokens[0])
-    if layer.width is None:
-        layer.width = width
+    return given.length(given.tokens[0])
 
 
 def layer_spacing(layer, given):
     given.require(given.tokens)
     given.distance(given.tokens[0])
-
-
-def size(block, given):
-    """Matches SIZE of a site or a macro."""
-    found = given.size()
-    if block.size is None:
-        block.size = found
 
 
 def via_layer(via, given):
@@ -161,28 +170,12 @@ def via_rows(given):
 
 
 def via_value(word, read):
+    """Returns the form of a statement of a via of which the first counts."""
+
     def form(via, given):
         via.values.setdefault(word, read(given))
 
     return form
-
-
-def rule_width(rule, given):
-    width = given.lengths(1)[0]
-    if rule.width is None:
-        rule.width = width
-
-
-def macro_class(macro, given):
-    word = given.first_word()
-    if macro.macro_class is None:
-        macro.macro_class = word
-
-
-def macro_origin(macro, given):
-    origin = given.points(0, 1)[0]
-    if macro.origin is None:
-        macro.origin = origin
 
 
 def macro_site(macro, given):
@@ -207,8 +200,8 @@ def port_unchecked(port, given):
 
 
 FORMS = {
-    "LAYER": {b"TYPE": layer_type, b"WIDTH": layer_width, b"SPACING": layer_spacing},
-    "SITE": {b"SIZE": size},
+    "LAYER": {b"TYPE": first("type", one_word), b"WIDTH": first("width", first_length), b"SPACING": layer_spacing},
+    "SITE": {b"SIZE": first("size", Arguments.size)},
     "VIA": {
         b"LAYER": via_layer,
         b"RECT": via_rectangle,
@@ -222,8 +215,13 @@ FORMS = {
         b"ORIGIN": via_value(b"ORIGIN", lambda it: it.distances(2)),
         b"ROWCOL": via_value(b"ROWCOL", via_rows),
     },
-    "RULE LAYER": {b"WIDTH": rule_width},
-    "MACRO": {b"CLASS": macro_class, b"ORIGIN": macro_origin, b"SIZE": size, b"SITE": macro_site},
+    "RULE LAYER": {b"WIDTH": first("width", lambda it: it.lengths(1)[0])},
+    "MACRO": {
+        b"CLASS": first("macro_class", Arguments.first_word),
+        b"ORIGIN": first("origin", lambda it: it.points(0, 1)[0]),
+        b"SIZE": first("size", Arguments.size),
+        b"SITE": macro_site,
+    },
     "PORT": {
         b"LAYER": port_layer,
         b"RECT": port_rectangle,

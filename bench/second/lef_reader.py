@@ -1,10 +1,13 @@
-"""Reads a LEF text: its blocks and their statements, and the first fault that it has (LEF/DEF 5.8 Language Reference, "LEF Syntax")."""
+"""Reads a LEF text: its blocks and their statements, and the first fault that it has.
+
+LEF/DEF 5.8 Language Reference, "LEF Syntax".
+"""
 from dataclasses import dataclass
 
 from second import library
 from second.lef_forms import FORMS, Arguments
 from second.matcher import NoForm
-from second.tokens import LONGEST_TEXT, Fault, is_name, is_word, next_token, refuse_bytes
+from second.tokens import LONGEST_TEXT, Cut, Fault, is_name, is_word, next_token, refuse_bytes
 
 TOP = "outside of blocks"
 # How many tokens the header of a block has, by where it stands and its word. A second token is the name of the block, and a block
@@ -70,21 +73,16 @@ class LefReader:
         self.at = token.end
 
     def statement(self, first):
-        """Reads a statement. Refused bytes are told first, then a string or text without end, the form, and the numbers."""
-        tokens, fault = [first], None
+        """Reads the statement of this first token: what stands in it, then its form, then its numbers."""
+        cut = Cut([first])
         try:
-            is_ended = self.add_tokens(tokens)
-        except Fault as found:
-            # (it may stand behind a header, where a further word of it is looked for)
-            fault, is_ended = found, len(tokens) >= (self.size_of(first.text) or len(self.text))
-        refuse_bytes(self.text, self.at, tokens[-1].end if is_ended else len(self.text))
-        if fault:
-            raise fault
-        if not is_ended:
-            raise Fault(5, first.begin)
-        self.at = tokens[-1].end
+            self.add_tokens(cut)
+        except Fault as fault:
+            cut.fault = fault
+        cut.refuse(self.text, self.at)
+        self.at = cut.tokens[-1].end
         try:
-            invalid = self.take(first.text, tokens)
+            invalid = self.take(first.text, cut.tokens)
         except NoForm:
             raise Fault(4, first.begin) from None
         if invalid:
@@ -99,25 +97,27 @@ class LefReader:
             return 1 if self.kind in WITHOUT_NAME else 2
         return 1 if word == b";" else HEADERS.get(self.kind, {}).get(word)
 
-    def add_tokens(self, tokens):
-        """Adds the further tokens of a statement to its first, and returns whether they go up to its end."""
-        word = tokens[0].text
+    def add_tokens(self, cut):
+        """Adds the further tokens of a statement to its first, as far as there are some."""
+        word = cut.tokens[0].text
         size = self.size_of(word)
-        while len(tokens) < size if size else tokens[-1].text != b";":
-            token = next_token(self.text, tokens[-1].end)
+        while len(cut.tokens) < size if size else cut.tokens[-1].text != b";":
+            token = next_token(self.text, cut.tokens[-1].end)
             if token is None:
-                return False
-            tokens.append(token)
-        if word == b"VIA" and self.is_header(word):
-            self.add_words_of_via(tokens)
-        if word == b"VIARULE" and self.is_header(word):
+                return
+            cut.tokens.append(token)
+        cut.is_ended = True
+        if self.is_header(word):
+            self.add_words(word, cut.tokens)
+
+    def add_words(self, word, tokens):
+        """Adds the words that may follow the name of a via or a via rule. The header ends without them."""
+        if word == b"VIA":
+            while self.add_word(tokens, *WORDS_OF_VIA):
+                pass
+        elif word == b"VIARULE":
             self.add_word(tokens, b"GENERATE")
             self.add_word(tokens, b"DEFAULT")
-        return True
-
-    def add_words_of_via(self, tokens):
-        while self.add_word(tokens, *WORDS_OF_VIA):
-            pass
 
     def add_word(self, tokens, *words):
         """Adds the next token to a header where it is one of these words, and returns whether it is."""
@@ -163,14 +163,17 @@ class LefReader:
         self.blocks.append(Block(kind, name, made.get(kind, lambda: None)()))
 
     def close(self, tokens):
-        """Closes the innermost block, whose name must follow END, and keeps its definition where its name has none yet."""
+        """Closes the innermost block, whose name must follow END. Outside of blocks END LIBRARY may stand."""
         if not self.blocks:
             if tokens[1].text != b"LIBRARY":
                 raise NoForm
             return
         if self.kind not in WITHOUT_NAME and tokens[1].text != self.blocks[-1].name:
             raise NoForm
-        block = self.blocks.pop()
+        self.keep(self.blocks.pop())
+
+    def keep(self, block):
+        """Keeps what a closed block defines, in the library or the block around it, where its name has no definition yet."""
         outer = self.blocks[-1].definition if self.blocks else None
         if block.kind == "RULE LAYER":
             outer.widths.setdefault(block.name, block.definition.width)

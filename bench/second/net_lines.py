@@ -32,9 +32,10 @@ def joined_groups(groups):
     """Returns the groups in classes: two that touch are in one, and so are those that others join."""
     classes = []
     for group in groups:
-        touching = [it for it in classes if any(touches(group, other) for other in it)]
-        joined = [group, *(other for it in touching for other in it)]
-        classes = [it for it in classes if not any(it is other for other in touching)] + [joined]
+        touching, apart = [], []
+        for it in classes:
+            (touching if any(touches(group, other) for other in it) else apart).append(it)
+        classes = [*apart, [group, *(other for it in touching for other in it)]]
     return classes
 
 

@@ -1,4 +1,7 @@
-"""Nets: the pins and the drawn parts of all entries of a name (LEF/DEF 5.8 Language Reference, "Nets", "Special Nets" and "Pins")."""
+"""Nets: the pins and the drawn parts of all entries of a name.
+
+LEF/DEF 5.8 Language Reference, "Nets", "Special Nets" and "Pins".
+"""
 from dataclasses import dataclass, field
 from functools import lru_cache
 from typing import NamedTuple

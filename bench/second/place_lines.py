@@ -1,5 +1,7 @@
-"""The lines of `check` on components: overlaps, rows, the die area, blockages of placement, and fences (LEF/DEF 5.8 Language Reference,
-"Rows", "Die Area", "Regions", "Groups" and "Blockages")."""
+"""The lines of `check` on components: overlaps, rows, the die area, blockages of placement, and fences.
+
+LEF/DEF 5.8 Language Reference, "Rows", "Die Area", "Regions", "Groups" and "Blockages".
+"""
 import re
 from dataclasses import dataclass
 from itertools import combinations

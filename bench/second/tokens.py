@@ -1,6 +1,9 @@
-"""Tokens of LEF and DEF texts, the bytes that no text may have, and which tokens are words, names and numbers (LEF/DEF 5.8 Language Reference, "DEF
-Syntax" and "LEF Syntax"; the limits are own)."""
+"""Tokens of LEF and DEF texts, the bytes that no text may have, and which tokens are words, names and numbers.
+
+LEF/DEF 5.8 Language Reference, "DEF Syntax" and "LEF Syntax"; the limits are own.
+"""
 import re
+from dataclasses import dataclass, field
 from typing import NamedTuple
 
 BLANKS = b" \t\r\n"
@@ -72,6 +75,24 @@ def refuse_bytes(text, begin, end):
     at = refused_byte(text, begin, end)
     if at is not None:
         raise Fault(1, at)
+
+
+@dataclass
+class Cut:
+    """The tokens of a statement that is cut off a text, whether they go up to its end, and the fault that stands behind them."""
+
+    tokens: list = field(default_factory=list)
+    is_ended: bool = False
+    fault: Fault | None = None
+
+    def refuse(self, text, at):
+        """Raises the first fault of a statement that begins from an offset on, before its form is looked at: refused bytes, then a
+        string without end, then the end of the text."""
+        refuse_bytes(text, at, self.tokens[-1].end if self.is_ended else len(text))
+        if self.fault:
+            raise self.fault
+        if self.tokens and not self.is_ended:
+            raise Fault(5, self.tokens[0].begin)
 
 
 def is_word(text):

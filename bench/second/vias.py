@@ -1,4 +1,7 @@
-"""The shapes of vias: those that a via lists, and those of a via that a VIARULE generates (LEF/DEF 5.8 Language Reference, "Vias" and "Via")."""
+"""The shapes of vias: those that a via lists, and those of a via that a VIARULE generates.
+
+LEF/DEF 5.8 Language Reference, "Vias" and "Via".
+"""
 from dataclasses import dataclass
 
 from second.geometry import Shape, box, moved

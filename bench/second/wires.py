@@ -1,5 +1,7 @@
-"""What wires draw: the pieces of their paths, each on the layer to which the vias before it lead (LEF/DEF 5.8 Language Reference, "Regular
-Wiring Statement", "Special Wiring Statement" and "Nondefault Rules")."""
+"""What wires draw: the pieces of their paths, each on the layer to which the vias before it lead.
+
+LEF/DEF 5.8 Language Reference, "Regular Wiring Statement", "Special Wiring Statement" and "Nondefault Rules".
+"""
 from dataclasses import dataclass, field
 
 from second import wiring

@@ -1,5 +1,7 @@
-"""The forms of wiring in NETS and SPECIALNETS: wires with their paths, vias, rectangles and polygons (LEF/DEF 5.8 Language Reference,
-"Regular Wiring Statement" and "Special Wiring Statement")."""
+"""The forms of wiring in NETS and SPECIALNETS: wires with their paths, vias, rectangles and polygons.
+
+LEF/DEF 5.8 Language Reference, "Regular Wiring Statement" and "Special Wiring Statement".
+"""
 from dataclasses import dataclass, field
 
 from second.geometry import Point, Rectangle, box
