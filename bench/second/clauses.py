@@ -236,6 +236,7 @@ def clauses(it, section):
     return found
 
 
-def region_of_group(clause):
-    """Returns the one name that REGION of a group has, or None where it has something else."""
-    return clause.value[0] if len(clause.value) == 1 and is_name(clause.value[0]) else None
+def region_of_group(entry):
+    """Returns the region of a group, or None: the first of its REGIONs that have one name and nothing else."""
+    values = [it.value for it in entry.clauses if it.has_form(b"REGION")]
+    return next((it[0] for it in values if len(it) == 1 and is_name(it[0])), None)

@@ -100,9 +100,8 @@ def contains(outer, inner):
 
 
 def is_covered(it, rectangles):
-    """Returns whether rectangles together cover one: each piece between two edges in a row must lie in one of them."""
-    if area(it) == 0:
-        return True
+    """Returns whether rectangles together cover one: each piece between two edges in a row must lie in one of them. A rectangle
+    without an area has no such piece."""
     across = sorted({it.left, it.right, *(edge for by in rectangles for edge in (by.left, by.right) if it.left < edge < it.right)})
     upward = sorted({it.bottom, it.top, *(edge for by in rectangles for edge in (by.bottom, by.top) if it.bottom < edge < it.top)})
     for left, right in zip(across, across[1:]):

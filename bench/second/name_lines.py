@@ -1,14 +1,27 @@
 """The other lines of `check`: counts in headers, names that aren't defined, vias off their layer, and what isn't looked at."""
+from typing import NamedTuple
+
 from second.clauses import Kind, region_of_group
 from second.wires import drawn_of_entry
 from second.wiring import LayerPolygon, LayerRectangle, ViaAt, Wires
+
+
+class Owner(NamedTuple):
+    """Where a name stands: the section, and the name of the entry in it."""
+
+    section: bytes
+    name: bytes
+
+
+def owner_of(entry):
+    return Owner(entry.section, entry.name)
 
 
 class NameLines:
     """Collects the lines on names and counts."""
 
     def __init__(self, design, lines):
-        self.design, self.lines = design, lines
+        self.design, self.library, self.lines = design, design.library, lines
 
     def collect(self):
         self.headers()
@@ -22,36 +35,37 @@ class NameLines:
         for entry in self.design.net_entries():
             self.terminals(entry)
             self.wiring(entry)
-        self.library()
+        self.definitions()
 
-    # ---- What is said of a name that isn't defined, by the section and the name where it stands
+    # ---- Each of these tells a name that isn't defined
 
-    def unknown(self, kind, name, section, owner):
-        self.lines.say(b"unknown", kind, name, section, owner)
+    def unknown(self, kind, name, owner):
+        self.lines.say(b"unknown", kind, name, *owner)
 
-    def layer(self, name, section, owner):
-        if name not in self.design.library.layers:
-            self.unknown(b"LAYER", name, section, owner)
+    def layer(self, name, owner):
+        if name not in self.library.layers:
+            self.unknown(b"LAYER", name, owner)
 
-    def via(self, name, section, owner):
-        if self.design.entry(b"VIAS", name) is None and name not in self.design.library.vias:
-            self.unknown(b"VIA", name, section, owner)
+    def via(self, name, owner):
+        if self.design.entry(b"VIAS", name) is None and name not in self.library.vias:
+            self.unknown(b"VIA", name, owner)
 
-    def rule(self, name, section, owner):
-        if self.design.entry(b"NONDEFAULTRULES", name) is None and name not in self.design.library.rules:
-            self.unknown(b"RULE", name, section, owner)
+    def rule(self, name, owner):
+        if self.design.entry(b"NONDEFAULTRULES", name) is None and name not in self.library.rules:
+            self.unknown(b"RULE", name, owner)
 
-    def net(self, name, section, owner):
+    def net(self, name, owner):
         if self.design.net_entry(name) is None:
-            self.unknown(b"NET", name, section, owner)
+            self.unknown(b"NET", name, owner)
 
-    def region(self, name, section, owner):
+    def region(self, name, owner):
         if self.design.entry(b"REGIONS", name) is None:
-            self.unknown(b"REGION", name, section, owner)
+            self.unknown(b"REGION", name, owner)
 
-    def unchecked(self, section, owner, count):
+    def unchecked(self, owner, count):
+        """Tells how many parts of an entry aren't looked at."""
         if count:
-            self.lines.say(b"unchecked", section, owner, count)
+            self.lines.say(b"unchecked", *owner, count)
 
     # ---- The statements
 
@@ -62,32 +76,31 @@ class NameLines:
                 self.lines.say(b"count", section, header.said, count)
 
     def floor(self):
-        self.unchecked(b"DIEAREA", b"-", self.design.die is not None and len(self.design.die) > 2)
+        if self.design.die is not None and len(self.design.die) > 2:
+            self.unchecked(Owner(b"DIEAREA", b"-"), 1)
         for row in self.design.rows:
-            if row.site not in self.design.library.sites:
-                self.unknown(b"SITE", row.site, b"ROWS", row.name)
+            if row.site not in self.library.sites:
+                self.unknown(b"SITE", row.site, Owner(b"ROWS", row.name))
 
     def components(self):
         for it in self.design.components():
             if self.design.macro(it) is None:
-                self.unknown(b"MACRO", it.macro, b"COMPONENTS", it.name)
+                self.unknown(b"MACRO", it.macro, owner_of(it))
             region = it.first(b"REGION")
             if region is not None:
-                self.region(region.value, b"COMPONENTS", it.name)
+                self.region(region.value, owner_of(it))
 
     def groups(self):
-        """Tells the region of a group: the first of its REGIONs that is one name."""
         for it in self.design.entries(b"GROUPS"):
-            regions = [region_of_group(clause) for clause in it.clauses if clause.has_form(b"REGION")]
-            name = next((region for region in regions if region is not None), None)
+            name = region_of_group(it)
             if name is not None:
-                self.region(name, b"GROUPS", it.name)
+                self.region(name, owner_of(it))
 
     def pins(self):
         for it in self.design.entries(b"PINS"):
             net = it.first(b"NET")
             if net is not None:
-                self.net(net.value, b"PINS", it.name)
+                self.net(net.value, owner_of(it))
             self.shapes(it)
 
     def shapes(self, entry):
@@ -95,28 +108,32 @@ class NameLines:
         values = [clause.value for clause in entry.clauses]
         for value in values:
             if isinstance(value, (LayerRectangle, LayerPolygon)):
-                self.layer(value.layer, entry.section, entry.name)
+                self.layer(value.layer, owner_of(entry))
             elif isinstance(value, ViaAt):
-                self.via(value.via, entry.section, entry.name)
-        self.unchecked(entry.section, entry.name, sum(isinstance(it, LayerPolygon) for it in values))
+                self.via(value.via, owner_of(entry))
+        self.unchecked(owner_of(entry), sum(isinstance(it, LayerPolygon) for it in values))
 
     def blockages(self):
+        """Tells the layers of blockages, and counts their polygons. One without the form counts once."""
+        owner = Owner(b"BLOCKAGES", b"-")
         for it in self.design.entries(b"BLOCKAGES"):
             if it.layer is not None:
-                self.layer(it.layer, b"BLOCKAGES", b"-")
-            self.unchecked(b"BLOCKAGES", b"-", it.polygons if it.has_form else 1)
+                self.layer(it.layer, owner)
+            self.unchecked(owner, it.polygons if it.has_form else 1)
 
     def vias(self):
+        """Tells the layers of the shapes of vias, and those of the first LAYERS of each."""
         for it in self.design.entries(b"VIAS"):
             self.shapes(it)
             layers = it.first(b"LAYERS")
             for layer in layers.value if layers else []:
-                self.layer(layer, b"VIAS", it.name)
+                self.layer(layer, owner_of(it))
 
     def rules(self):
+        """Tells the layers of nondefault rules, each once for a rule."""
         for it in self.design.entries(b"NONDEFAULTRULES"):
             for layer in {clause.value.layer for clause in it.clauses if clause.has_form(b"LAYER")}:
-                self.layer(layer, b"NONDEFAULTRULES", it.name)
+                self.layer(layer, owner_of(it))
 
     def terminals(self, entry):
         """Tells each terminal whose component or pin isn't there. One of a component without a defined macro isn't looked at."""
@@ -127,45 +144,47 @@ class NameLines:
             if it.component == b"PIN":
                 is_known = self.design.entry(b"PINS", it.pin) is not None
             elif component is None:
-                self.unknown(b"COMPONENT", it.component, entry.section, entry.name)
+                self.unknown(b"COMPONENT", it.component, owner_of(entry))
                 continue
             else:
                 macro = self.design.macro(component)
                 is_known = macro is None or it.pin in macro.pins
             if not is_known:
-                self.lines.say(b"unknown", b"PIN", it.component, it.pin, entry.section, entry.name)
+                self.lines.say(b"unknown", b"PIN", it.component, it.pin, *owner_of(entry))
 
     def wiring(self, entry):
-        """Tells what the wiring of an entry names, and counts what of it isn't looked at."""
+        """Tells what the wiring of an entry names, and counts what of it isn't looked at: clauses without their form, SUBNET,
+        polygons, wires with a STYLE, and segments that are neither level nor upright."""
         rule = entry.first(b"NONDEFAULTRULE")
         if rule is not None:
-            self.rule(rule.value, entry.section, entry.name)
+            self.rule(rule.value, owner_of(entry))
         drawn = drawn_of_entry(self.design, entry)
         count = drawn.diagonals
         for clause in entry.clauses:
             count += clause.kind in (Kind.SUBNET, Kind.FORMLESS) or isinstance(clause.value, LayerPolygon)
             if isinstance(clause.value, Wires):
-                count += self.wires(clause.value, entry)
+                count += self.wires(clause.value, owner_of(entry))
             elif isinstance(clause.value, (LayerRectangle, LayerPolygon)):
-                self.layer(clause.value.layer, entry.section, entry.name)
+                self.layer(clause.value.layer, owner_of(entry))
         for name in drawn.vias:
-            self.via(name, entry.section, entry.name)
+            self.via(name, owner_of(entry))
         for name in drawn.off_layer:
-            self.lines.say(b"vialayer", name, entry.section, entry.name)
-        self.unchecked(entry.section, entry.name, count)
+            self.lines.say(b"vialayer", name, *owner_of(entry))
+        self.unchecked(owner_of(entry), count)
 
-    def wires(self, clause, entry):
+    def wires(self, clause, owner):
         """Tells the layers, the rules and the net that a clause of wires names. Returns how many wires have a STYLE."""
         if clause.shielded is not None:
-            self.net(clause.shielded, entry.section, entry.name)
+            self.net(clause.shielded, owner)
         for wire in clause.wires:
-            self.layer(wire.layer, entry.section, entry.name)
+            self.layer(wire.layer, owner)
             if wire.rule is not None:
-                self.rule(wire.rule, entry.section, entry.name)
+                self.rule(wire.rule, owner)
         return sum(wire.has_style for wire in clause.wires)
 
-    def library(self):
-        for name, macro in self.design.library.macros.items():
-            self.unchecked(b"MACRO", name, sum(it.unchecked for it in macro.pins.values()))
-        for name, via in self.design.library.vias.items():
-            self.unchecked(b"VIA", name, via.polygons)
+    def definitions(self):
+        """Counts the parts of macros and vias of the LEF texts that aren't looked at."""
+        for name, macro in self.library.macros.items():
+            self.unchecked(Owner(b"MACRO", name), sum(it.unchecked for it in macro.pins.values()))
+        for name, via in self.library.vias.items():
+            self.unchecked(Owner(b"VIA", name), via.polygons)

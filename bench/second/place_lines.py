@@ -32,7 +32,7 @@ class Placed:
 class GroupRegion:
     """A region, and the patterns of the names of components that belong to it."""
 
-    region: bytes
+    region: bytes | None
     patterns: list
 
 
@@ -68,14 +68,9 @@ def fences_of(design):
 
 
 def group_regions(design):
-    """Returns the region of each group that has one: the first of its REGIONs that is one name."""
-    found = []
-    for it in design.entries(b"GROUPS"):
-        regions = [region_of_group(clause) for clause in it.clauses if clause.has_form(b"REGION")]
-        regions = [name for name in regions if name is not None]
-        if regions:
-            found.append(GroupRegion(regions[0], it.patterns))
-    return found
+    """Returns the region of each group that has one."""
+    found = [GroupRegion(region_of_group(it), it.patterns) for it in design.entries(b"GROUPS")]
+    return [it for it in found if it.region is not None]
 
 
 class PlaceLines:

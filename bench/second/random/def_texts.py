@@ -24,6 +24,10 @@ LAYERS_OF_VIA = ["m1 v1 m2", "m1 v1 m2", "m2 v2 m3", "m1 m2 m3", "m1 v1 zz", "m1
 OTHER_OF_RULE = ["+ VIA A", "+ VIARULE vr", "+ HARDSPACING", "+ MINCUTS v1 2"]
 KEPT_ENTRIES = ["- ;", "- a + PART ;", "- a ;", '- ( "s" ;']
 PROPERTIES = 'PROPERTYDEFINITIONS\nCOMPONENTPIN x STRING ;\n- ; END ;\n"a";\nEND PROPERTYDEFINITIONS'
+LIMITS_OF_LINES = [
+    "2147483646 DO 2 STEP 1", "2147483646 DO 2 STEP 2", "0 DO 100000 STEP 21475", "0 DO 100001 STEP 1", "0 DO 100000 STEP 1",
+    "0 DO 2 STEP -1",
+]
 TRACKS_OF = ["", "LAYER m1", "MASK 1 SAMEMASK LAYER m1", '"x"']
 
 
@@ -42,8 +46,8 @@ class DefTexts(NetTexts):
         parts = [it for it in [*floor, *self.sections()] if it]
         if self.chance(0.5):
             self.rng.shuffle(parts)
-        units = self.spaced(f"UNITS DISTANCE MICRONS {self.number(self.units)} ;")
-        parts.insert(0 if self.chance(0.8) else self.between(0, len(parts)), units)
+        units = self.number(self.one(0, 100000, 100001) if self.is_limit() else self.units)
+        parts.insert(0 if self.chance(0.8) else self.between(0, len(parts)), self.spaced(f"UNITS DISTANCE MICRONS {units} ;"))
         return "\n".join([*parts, self.spaced("END DESIGN")]) + self.one("\n", "", "\n# tail", "  \n\n")
 
     def die_area(self):
@@ -64,7 +68,10 @@ class DefTexts(NetTexts):
         for axis in "XY":
             for _ in range(self.one(1, 1, 2, 3) if self.is_dense else self.one(0, 1, 1, 2)):
                 count, step = self.number(self.one(1, 2, 3, 5, 9)), self.number(self.one(0, 1, 2, 3, 5, 7, 300))
-                found.append(self.spaced(f"GCELLGRID {axis} {self.number(self.between(-5, 12))} DO {count} STEP {step} ;"))
+                lines = f"{self.number(self.between(-5, 12))} DO {count} STEP {step}"
+                if self.is_limit():
+                    lines = self.one(*LIMITS_OF_LINES)
+                found.append(self.spaced(f"GCELLGRID {axis} {lines} ;"))
         return found
 
     def tracks(self):
@@ -155,7 +162,8 @@ class DefTexts(NetTexts):
     def region_entries(self):
         found = []
         for name in self.some(self.regions):
-            points = [self.point(), *(self.further_point() for _ in range(2 * self.between(1, 3) - 1))]
+            count = 2 * self.between(1, 3) - self.is_limit()
+            points = [self.point(), *(self.further_point() for _ in range(count - 1))]
             clauses = [
                 self.often(0.85, f"+ TYPE {self.one('FENCE', 'FENCE', 'FENCE', 'GUIDE')}"),
                 self.often(0.1, f"+ TYPE {self.one('FENCE', 'GUIDE')}"),

@@ -3,7 +3,7 @@ from second.random.words import Words
 
 FORMLESS = [
     "+ ROUTED", "+ ROUTED m1 x", "+ USE", "+ NONDEFAULTRULE", "+ FIXED m1", "+ ROUTED m1 ( 0 0 ) A DO 1 BY 1",
-    "+ SHIELD n1 m1 ( 0 0 )", '+ ROUTED m1 10 ( 0 0 ) ( 5 5 "s" )', "+ RECT m1", "+ VIA A",
+    "+ SHIELD n1 m1 ( 0 0 )", '+ ROUTED m1 10 ( 0 0 ) ( 5 5 "s" )', "+ RECT m1", "+ VIA A", "+ POLYGON m1 ( 0 0 ) ( 5 5 )",
 ]
 OTHER_CLAUSES = [
     "+ WEIGHT 2", "+ SOURCE DIST", "+ FIXEDBUMP", "+ SHIELDNET VDD", '+ PROPERTY k "v ;"', "+ VOLTAGE 1", "+ VPIN v ( 0 0 )",
@@ -74,7 +74,10 @@ class NetTexts(Words):
         return f"( {text} {self.extension()} )", x, y
 
     def path_via(self, is_special):
-        array = f"DO {self.number(self.between(1, 3))} BY {self.number(self.between(1, 3))} STEP {self.coordinates(2)}"
+        count = f"DO {self.number(self.between(1, 3))} BY {self.number(self.between(1, 3))}"
+        if self.is_limit():
+            count = self.one("DO 1001 BY 1000", "DO 1 BY 1000001", "DO 0 BY 1")
+        array = f"{count} STEP {self.coordinates(2)}"
         return f"{self.via()} {self.may_orient()} {array if is_special and self.chance(0.25) else ''}"
 
     # ---- Wiring

@@ -26,7 +26,7 @@ class SmallDesigns(ScriptLines):
     def rectangle(self, least, most):
         return f"( {self.numbers(2, least, most)} ) ( {self.numbers(2, least, most)} )"
 
-    def whole(self, name, entries):
+    def whole_section(self, name, entries):
         return "\n".join([f"{name} {len(entries)} ;", *entries, f"END {name}"])
 
     def placed(self, name, words, least, most):
@@ -57,7 +57,7 @@ class RowDesigns(SmallDesigns):
     def design(self):
         parts = [UNIT, self.often(0.5, f"DIEAREA {self.rectangle(-2, 12)} ;")]
         parts += [f"ROW r{k} {self.row()} ;" for k in range(self.between(1, 4))]
-        parts.append(self.whole("COMPONENTS", [f"{self.placed(f'c{k}', PLACED, -2, 9)} ;" for k in range(self.between(1, 8))]))
+        parts.append(self.whole_section("COMPONENTS", [f"{self.placed(f'c{k}', PLACED, -2, 9)} ;" for k in range(self.between(1, 8))]))
         return "\n".join([*filter(None, parts), "END DESIGN", ""])
 
     def asked(self):
@@ -90,10 +90,10 @@ class FenceDesigns(RowDesigns):
         parts = [
             UNIT,
             self.often(0.7, f"DIEAREA {self.rectangle(-3, 14)} ;"),
-            self.whole("REGIONS", [f"- {it} {self.region()} ;" for it in self.some("FGH", 1)]),
-            self.whole("COMPONENTS", components),
-            self.whole("GROUPS", [self.group("g1"), self.group("g2")]),
-            self.whole("BLOCKAGES", blockages),
+            self.whole_section("REGIONS", [f"- {it} {self.region()} ;" for it in self.some("FGH", 1)]),
+            self.whole_section("COMPONENTS", components),
+            self.whole_section("GROUPS", [self.group("g1"), self.group("g2")]),
+            self.whole_section("BLOCKAGES", blockages),
         ]
         return "\n".join([*filter(None, parts), "END DESIGN", ""])
 
@@ -155,7 +155,7 @@ class WireDesigns(SmallDesigns):
         component = f"( {self.one(*self.components)} {pin} )"
         return self.one(component, component, f"( PIN {self.one(*self.pins)} )", f"( * {pin} )")
 
-    def near_net(self, name, section):
+    def wired_net(self, name, section):
         parts = ["-", name, *(self.terminal() for _ in range(self.between(0, 3)))]
         parts += [self.wiring(section == "SPECIALNETS") for _ in range(self.between(0, 3))]
         parts.append(self.often(0.3, f"+ USE {self.one('POWER', 'GROUND', 'SIGNAL')}"))
@@ -163,7 +163,7 @@ class WireDesigns(SmallDesigns):
             parts.append(self.often(0.3, f"+ NONDEFAULTRULE {self.one('r1', 'r3')}"))
         return self.spaced(" ".join([*parts, ";"]))
 
-    def near_blockage(self):
+    def layer_blockage(self):
         shapes = [f"RECT {self.rectangle(-2, 12)}" for _ in range(self.between(1, 2))]
         return f"- LAYER {self.layer()} {self.one(*BLOCKING_LAYER)} {' '.join(shapes)} ;"
 
@@ -174,13 +174,13 @@ class WireDesigns(SmallDesigns):
         parts = [
             UNIT,
             "GCELLGRID X 0 DO 4 STEP 5 ;\nGCELLGRID Y -2 DO 5 STEP 4 ;",
-            self.whole("NONDEFAULTRULES", [rule]),
-            self.whole("VIAS", [" ".join(["- E", *via, ";"])]),
-            self.whole("COMPONENTS", [f"{self.placed(it, words, -2, 12)} ;" for it in self.components]),
+            self.whole_section("NONDEFAULTRULES", [rule]),
+            self.whole_section("VIAS", [" ".join(["- E", *via, ";"])]),
+            self.whole_section("COMPONENTS", [f"{self.placed(it, words, -2, 12)} ;" for it in self.components]),
             self.section("PINS", self.pin_entries()),
-            self.whole("BLOCKAGES", [self.near_blockage() for _ in range(self.between(0, 2))]),
+            self.whole_section("BLOCKAGES", [self.layer_blockage() for _ in range(self.between(0, 2))]),
         ]
-        parts += [self.whole(it, [self.near_net(name, it) for name in self.some(self.nets, 0, 2)]) for it in ("NETS", "SPECIALNETS")]
+        parts += [self.whole_section(it, [self.wired_net(name, it) for name in self.some(self.nets, 0, 2)]) for it in ("NETS", "SPECIALNETS")]
         return "\n".join([*parts, "END DESIGN", ""])
 
     def asked(self):
@@ -213,7 +213,7 @@ class CrowdDesigns(WireDesigns):
     reach = (-10, 150)
     is_close = False
 
-    def near_net(self, name, section):
+    def wired_net(self, name, section):
         parts = ["-", name]
         parts += [f"( {self.one(*self.components)} {self.one(*'AYZ')} )" for _ in range(self.one(0, 1, 2, 3, 12))]
         parts.append(self.often(0.6, f"( * {self.one(*'AYZ')} )"))
@@ -225,10 +225,10 @@ class CrowdDesigns(WireDesigns):
         parts = [
             UNIT,
             "GCELLGRID X 0 DO 8 STEP 20 ;\nGCELLGRID Y 0 DO 8 STEP 20 ;",
-            self.whole("COMPONENTS", [f"{self.placed(it, words, 0, 150)} ;" for it in self.components]),
-            self.whole("BLOCKAGES", ["- LAYER m1 RECT ( 0 0 ) ( 50 50 ) ;"]),
+            self.whole_section("COMPONENTS", [f"{self.placed(it, words, 0, 150)} ;" for it in self.components]),
+            self.whole_section("BLOCKAGES", ["- LAYER m1 RECT ( 0 0 ) ( 50 50 ) ;"]),
         ]
-        parts += [self.whole(it, [self.near_net(name, it) for name in self.some(self.nets, 22, 22)]) for it in ("NETS", "SPECIALNETS")]
+        parts += [self.whole_section(it, [self.wired_net(name, it) for name in self.some(self.nets, 22, 22)]) for it in ("NETS", "SPECIALNETS")]
         return "\n".join([*parts, "END DESIGN", ""])
 
     def asked(self):

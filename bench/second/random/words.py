@@ -64,6 +64,10 @@ class Words:
         """Returns a text or, in the other cases, none."""
         return text if self.chance(share) else ""
 
+    def is_limit(self):
+        """Returns whether something is to be beyond a limit. That it is so is seldom, and only where numbers are made invalid."""
+        return self.chance(10 * self.invalid)
+
     # ---- White space
 
     def gap(self, after):
