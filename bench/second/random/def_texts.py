@@ -7,14 +7,14 @@ HEADS = [
 ]
 OTHER_OF_COMPONENT = [
     "+ SOURCE DIST", "+ WEIGHT 2", '+ PROPERTY k "a ; b + c"', "+ HALO 1 1 1 1", "+ X", "+ ORIGINAL x", '+ PROPERTY s "\\"" t 1',
-    "+ EEQMASTER z",
+    "+ EEQMASTER z", '+ PROPERTY k "v"', '+ PROPERTY k ""',
 ]
 OTHER_OF_PIN = ["+ DIRECTION INPUT", "+ USE SIGNAL", "+ SPECIAL", '+ NETEXPR "a b"', "+ ANTENNAPINGATEAREA 1 LAYER m1"]
 PATTERNS = ["u*", "*", "u1", "u?", "*1", "a/*", "u*0", "**", "x\\[*", "nothing", "c*", "*/*", "u1*1", "(", "-"]
 GROUP_REGIONS = ["F", "Gd", "H", "noreg", "( 0 0 ) ( 5 5 )", "", "F Gd", "*"]
 ODD_BLOCKAGES = [
     "- ;", "- LAYER m1 ;", "- PLACEMENT ;", "- x y ;", "- PLACEMENT RECT ( 0 0 ) ;", "- LAYER m1 RECT ( 0 0 ) ( 9 9 ) + SLOTS ;",
-    '- + + "x" ;',
+    '- + + "x" ;', "- PLACEMENT + RECT ( 0 0 ) ( 9 9 ) ;", "- LAYER m1 + POLYGON ( 0 0 ) ( 9 9 ) ( 0 9 ) RECT ( 0 0 ) ( 9 9 ) ;",
 ]
 BLOCKAGE_WORDS = [
     "SOFT", "PARTIAL 50", "SLOTS", "FILLS", "COMPONENT u1", "PUSHDOWN", "EXCEPTPGNET", "SPACING 10", "DESIGNRULEWIDTH 5", "MASK 1",
@@ -188,7 +188,7 @@ class DefTexts(NetTexts):
         return [self.blockage() for _ in range(self.between(0, 4))]
 
     def blockage(self):
-        if self.chance(0.06):
+        if self.chance(0.08):
             return self.one(*ODD_BLOCKAGES)
         parts = ["-", "PLACEMENT" if self.chance(0.5) else f"LAYER {self.layer()}"]
         parts += [f"+ {self.one(*BLOCKAGE_WORDS)}" for _ in range(self.one(0, 0, 0, 1, 1, 2))]

@@ -12,7 +12,7 @@ from second.script import Session, run_script
 from second.tokens import Fault
 
 ASKING = ("check", "length", "box", "cell", "pcell")
-INVALID = 0.002
+INVALID = 0.004
 
 
 @dataclass
@@ -42,16 +42,23 @@ def asked(made):
     return [encoded(it) for it in made.questions()]
 
 
-def opened(seed, invalid=0.0):
+def opened(seed):
     """A design that is asked for all that it answers."""
-    made = ScriptLines(seed, invalid)
+    made = ScriptLines(seed)
     lefs, design = texts_of(made)
     return Run(lefs, design, script_of(asked(made)))
 
 
 def invalid(seed):
-    """A design in which some numbers are none, or too large, and some names stand twice."""
-    return opened(seed, INVALID)
+    """A design in whose LEF or DEF some numbers are none, or beyond a limit, and some names stand twice."""
+    made = ScriptLines(seed)
+    which = made.one("lef", "def", "def")
+    made.invalid = INVALID if which == "lef" else 0.0
+    lefs = [encoded(made.lef())]
+    made.invalid = INVALID if which == "def" else 0.0
+    design = encoded(made.design())
+    made.invalid = 0.0
+    return Run(lefs, design, script_of(asked(made)))
 
 
 def spoilt_def(seed):

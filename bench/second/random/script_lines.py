@@ -85,7 +85,7 @@ class ScriptLines(DefTexts, LefTexts):
     def route_line(self):
         is_special = self.chance(0.5)
         wiring = " ".join(" ".join(self.wiring(is_special).split()) for _ in range(self.one(1, 1, 1, 2, 3)))
-        return self.words("route", self.net_name(), self.one(*ODD_WIRING) if self.chance(0.1) else wiring) + self.one("", "", " ", "\t ")
+        return self.words("route", self.net_name(), self.one(*ODD_WIRING) if self.chance(0.25) else wiring) + self.one("", "", " ", "\t ")
 
     def unroute_line(self):
         return self.words("unroute", self.net_name())

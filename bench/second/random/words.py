@@ -31,10 +31,11 @@ class Words:
     # whether numbers have signs and zeros before them, and tokens more than a blank between them
     is_odd = True
 
-    def __init__(self, seed, invalid=0.0):
-        """The second is how often a number is made invalid."""
+    # how often a number is made invalid
+    invalid = 0.0
+
+    def __init__(self, seed):
         self.rng = random.Random(seed)
-        self.invalid = invalid
         self.far = 0.03 if self.chance(0.3) else 0.0
         self.is_dense = self.chance(0.7)
         self.units = self.one(1, 2, 10, 10, 10, 100, 1000, 7, 3, 2000, 100000)
@@ -71,8 +72,8 @@ class Words:
     # ---- White space
 
     def gap(self, after):
-        if after.startswith('"') and self.chance(0.4):
-            return self.one("", "", "#g\n")
+        if after.startswith('"') and self.chance(0.5):
+            return self.one("", "#g\n")
         return " " if self.chance(0.93) else self.one(*GAPS)
 
     def spaced(self, text):
