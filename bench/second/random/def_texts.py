@@ -123,7 +123,7 @@ class DefTexts(NetTexts):
         found = []
         # (a component may have the name that stands for the design in terminals, and then none names it)
         names = self.some(self.components, 4 if self.is_dense else 0, 9 if self.is_dense else 7)
-        for name in [*names, *["PIN"] * self.chance(0.1), *["VPIN"] * self.chance(0.05)]:
+        for name in [*names, *["PIN"] * self.chance(0.2), *["VPIN"] * self.chance(0.05)]:
             macro = self.one(*self.macros) if self.chance(0.97) else "nomac"
             clauses = [
                 self.often(0.9, self.placing()),

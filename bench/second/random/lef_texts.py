@@ -74,7 +74,7 @@ class LefTexts(Words):
 
     def lef_via_rule(self):
         """Returns a via rule. Words that can't follow its name begin a statement, which may be the one that ends it."""
-        if self.is_limit():
+        if self.invalid and self.chance(0.3):
             return f"VIARULE vr {self.one('DEFAULT DEFAULT', 'DEFAULT GENERATE', 'GENERATE GENERATE')}\nEND vr"
         header = self.spaced("VIARULE vr " + self.one("", "GENERATE", "DEFAULT", "GENERATE DEFAULT"))
         return f"{header}\nLAYER m1 ;\n RECT 0 0 1 1 ;\n VIA x ;\n SIZE z ;\nEND vr"

@@ -3,7 +3,7 @@ from second.random.words import Words
 
 FORMLESS = [
     "+ ROUTED", "+ ROUTED m1 x", "+ USE", "+ NONDEFAULTRULE", "+ FIXED m1", "+ ROUTED m1 ( 0 0 ) A DO 1 BY 1",
-    "+ SHIELD n1 m1 ( 0 0 )", '+ ROUTED m1 10 ( 0 0 ) ( 5 5 "s" )', "+ RECT m1", "+ VIA A", "+ POLYGON m1 ( 0 0 ) ( 5 5 )",
+    "+ SHIELD n1 m1 ( 0 0 )", '+ ROUTED m1 10 ( 0 0 ) ( 5 5 "s" )', "+ RECT m1", "+ VIA A", "+ POLYGON zz ( 0 0 ) ( 5 5 )",
 ]
 OTHER_CLAUSES = [
     "+ WEIGHT 2", "+ SOURCE DIST", "+ FIXEDBUMP", "+ SHIELDNET VDD", '+ PROPERTY k "v ;"', "+ VOLTAGE 1", "+ VPIN v ( 0 0 )",

@@ -68,7 +68,7 @@ class ScriptLines(DefTexts, LefTexts):
         return self.words("add", self.one(*self.components, *NEW_COMPONENTS), self.one("I", "J", "blk", "nomac"))
 
     def remove_line(self):
-        return self.words("remove", self.component())
+        return self.words("remove", "PIN" if self.chance(0.2) else self.component())
 
     def remaster_line(self):
         return self.words("remaster", self.component(), self.one("I", "J", "K", "blk", "MZ", "nomac"))
