@@ -19,7 +19,7 @@ class Sections:
 
 
 class Design:
-    """A DEF text, read with a library. All that is told of it is made anew each time that it is asked for."""
+    """A DEF text, read with a library. It never changes: an edit makes another design of another text."""
 
     def __init__(self, library, text):
         self.library, self.text = library, text

@@ -121,7 +121,8 @@ def add_entry(design, net, entry):
 
 @lru_cache(maxsize=1)
 def nets_of(design):
-    """Returns all nets by their names. A pin of the design belongs to the net of its first NET too."""
+    """Returns all nets by their names. A pin of the design belongs to the net of its first NET too. (Those of the design that was
+    asked for last are kept.)"""
     nets = {}
     for entry in design.net_entries():
         add_entry(design, nets.setdefault(entry.name, Net()), entry)

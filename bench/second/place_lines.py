@@ -98,9 +98,9 @@ class PlaceLines:
 
     def holds(self, row, size, step, boundary):
         """Returns whether a row of sites holds a boundary: it begins on a line of the row, and lies between its ends."""
-        if row.columns == 0 or not is_on_step(boundary.bottom, row.at.y, row.rows, step[1]):
+        if row.columns == 0 or not is_on_step(boundary.bottom, row.at.y, row.rows, step.y):
             return False
-        ends = (row.at.x, row.at.x + (row.columns - 1) * step[0])
+        ends = (row.at.x, row.at.x + (row.columns - 1) * step.x)
         return min(ends) <= boundary.left and boundary.right <= max(ends) + size.x
 
     def in_rows(self, it):
@@ -113,7 +113,7 @@ class PlaceLines:
             step = row.step or size
             if self.holds(row, size, step, it.boundary):
                 is_held = True
-                if is_on_step(it.boundary.left, row.at.x, row.columns, step[0]):
+                if is_on_step(it.boundary.left, row.at.x, row.columns, step.x):
                     is_on_site = True
                     is_turned_so |= it.component.placing.orient in (row.orient, MIRRORED[row.orient])
         if not is_held:

@@ -163,6 +163,14 @@ class WireDesigns(SmallDesigns):
             parts.append(self.often(0.3, f"+ NONDEFAULTRULE {self.one('r1', 'r3')}"))
         return self.spaced(" ".join([*parts, ";"]))
 
+    def net_sections(self, least, most):
+        """Returns the sections of nets, with so many entries each."""
+        found = []
+        for section in ("NETS", "SPECIALNETS"):
+            entries = [self.wired_net(name, section) for name in self.some(self.nets, least, most)]
+            found.append(self.whole_section(section, entries))
+        return found
+
     def layer_blockage(self):
         shapes = [f"RECT {self.rectangle(-2, 12)}" for _ in range(self.between(1, 2))]
         return f"- LAYER {self.layer()} {self.one(*BLOCKING_LAYER)} {' '.join(shapes)} ;"
@@ -180,7 +188,7 @@ class WireDesigns(SmallDesigns):
             self.section("PINS", self.pin_entries()),
             self.whole_section("BLOCKAGES", [self.layer_blockage() for _ in range(self.between(0, 2))]),
         ]
-        parts += [self.whole_section(it, [self.wired_net(name, it) for name in self.some(self.nets, 0, 2)]) for it in ("NETS", "SPECIALNETS")]
+        parts += self.net_sections(0, 2)
         return "\n".join([*parts, "END DESIGN", ""])
 
     def asked(self):
@@ -228,7 +236,7 @@ class CrowdDesigns(WireDesigns):
             self.whole_section("COMPONENTS", [f"{self.placed(it, words, 0, 150)} ;" for it in self.components]),
             self.whole_section("BLOCKAGES", ["- LAYER m1 RECT ( 0 0 ) ( 50 50 ) ;"]),
         ]
-        parts += [self.whole_section(it, [self.wired_net(name, it) for name in self.some(self.nets, 22, 22)]) for it in ("NETS", "SPECIALNETS")]
+        parts += self.net_sections(22, 22)
         return "\n".join([*parts, "END DESIGN", ""])
 
     def asked(self):
