@@ -14,10 +14,11 @@ LIMIT = 60
 
 @dataclass
 class Program:
-    """A program, and how many seconds a run of it may take."""
+    """A program, how many seconds a run of it may take, and the folder in which runs that differ are kept, where one is named."""
 
     path: str
     limit: int = LIMIT
+    kept_in: str | None = None
 
 
 def bytes_of(path):
@@ -78,9 +79,9 @@ def differences(got, wanted):
     return found
 
 
-def keep(given, wanted, name):
+def keep(program, given, wanted, name):
     """Keeps what a run is given and what must come out of it in a new folder, as the files of a case. Returns the folder."""
-    folder = tempfile.mkdtemp(prefix=f"second-reading-{name}-")
+    folder = tempfile.mkdtemp(prefix=f"second-reading-{name}-", dir=program.kept_in)
     write_given(given, folder)
     write(f"{folder}/status", b"%d\n" % wanted.status)
     for file, text in {"stdout": wanted.answers, "stderr": wanted.complaint, "out.def": wanted.text}.items():

@@ -57,7 +57,7 @@ def is_told(trial, compare):
         code = STAND_IN.format(python=sys.executable, bench=BENCH, change=trial.change)
         write(f"{folder}/stand_in", code.encode())
         os.chmod(f"{folder}/stand_in", 0o755)
-        failed = compare(Program(f"{folder}/stand_in", 5), made("open", "self-test", 1))
+        failed = compare(Program(f"{folder}/stand_in", 5, folder), made("open", "self-test", 1))
     return failed == bool(trial.told) and trial.told in said.getvalue()
 
 
