@@ -1,0 +1,4 @@
+mod Cells
+mod EntryLengths
+mod FoundNets
+mod Measures
