@@ -1,7 +1,7 @@
 -- Sums that grow by a strip in parts: what it reaches over chunks as a whole, and its ends.
-use Rattle.std.proofs.Common.{◌≡◌, ◌+◌, ◌-◌, ◌*◌, ◌/◌, ◌^◌, ◌<◌, ◌≤◌, ℕ, suc, Bool, true, false, if◌then◌else◌, ◌==◌, ◌&&◌, List, ℤ, get_or, length, refl, sym, ap, ap₂, ◌∙◌, arith}
+use Rattle.std.proofs.Common.{◌≡◌, ◌+◌, ◌-◌, ◌*◌, ◌/◌, ◌^◌, ◌<◌, ◌≤◌, ℕ, Bool, true, false, if◌then◌else◌, ◌==◌, ◌&&◌, List, ℤ, refl, sym, ap, ap₂, ◌∙◌, arith}
 use Rattle.std.proofs.lemmas.Bool.Decides.{nat_tests}
-use Rattle.cell_sums.specs.Blocks.{BlockSums, Gains, one_of_two, pair_gains, HasGained, HasGainedAtMost, run_gains, strip_area, strip_gains, sum_at}
+use Rattle.cell_sums.specs.Blocks.{BlockSums, Gains, pair_gains, HasGained, HasGainedAtMost, run_gains, strip_area, strip_gains, sum_at}
 use Rattle.cell_sums.specs.Covered.{AreFull, HoldAll}
 use Rattle.cell_sums.specs.Lines.{AreLines, common_length, is_from, width}
 use Rattle.cell_sums.specs.Sheets.{HasGrown, HasGrownAtMost, SheetSums, total}

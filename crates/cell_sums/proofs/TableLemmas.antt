@@ -1,5 +1,5 @@
 -- Sums of cells of which some are kept along rows and some along columns.
-use Rattle.std.proofs.Common.{◌≡◌, ◌+◌, ◌*◌, ◌^◌, ◌<◌, ◌≤◌, ℕ, if◌then◌else◌, ◌==◌, List, Option, Some, None, ℤ, refl, sym, ap, ap₂, ◌∙◌, arith}
+use Rattle.std.proofs.Common.{◌≡◌, ◌+◌, ◌*◌, ◌^◌, ◌<◌, ℕ, if◌then◌else◌, ◌==◌, List, Option, Some, None, ℤ, refl, ap, ap₂, ◌∙◌, arith}
 use Rattle.design_model.specs.Geometry.{Rectangle}
 use Rattle.measure_rules.specs.Density.{common_area}
 use Rattle.measure_rules.specs.GridCells.{between, cell_among}

@@ -3,3 +3,4 @@ pub mod Blocks
 pub mod Lines
 pub mod Tables
 pub mod Sheets
+pub mod NotedBlocks

@@ -5,11 +5,10 @@ ghost use Rattle.cell_sums.specs.Blocks.{AreSame, HasGained, HasGainedAtMost, Ha
 ghost use Rattle.cell_sums.specs.Covered.{AreFull};
 ghost use Rattle.cell_sums.specs.Lines.{AreLines, common_length, is_from, width};
 
+use crate::block_places::BlockPlaces;
 use crate::lines::GridLines;
-use crate::noted_places::NotedPlaces;
 use crate::runs::{Key, Run, Strip};
 use crate::stretch::Stretch;
-use indexmap::IndexSet;
 use std::alloc::{AllocError, Allocator, Global};
 use std::hash::RandomState;
 use std::marker::Model;
@@ -20,7 +19,7 @@ pub(crate) const BLOCK: usize = 64;
 /// Sums by layer, minor and major number. They take memory only for blocks to which something was added. A sum stands in two parts.
 #[derive(Drop)]
 pub(crate) struct Blocks<A: Allocator = Global> {
-    keys: IndexSet<Key, RandomState, A>,
+    places: BlockPlaces<A>,
     /// What was added since the last spill, one block after the other, in the order of the keys. Others may follow where a key's growth
     /// was refused.
     sums: Vec<u64, A>,
@@ -28,7 +27,6 @@ pub(crate) struct Blocks<A: Allocator = Global> {
     spilled: Vec<u128, A>,
     /// None of `sums` is more than this.
     most: u64,
-    noted: NotedPlaces<A>,
 }
 
 impl<A: Allocator> Model for Blocks<A> {
@@ -36,9 +34,9 @@ impl<A: Allocator> Model for Blocks<A> {
 
     ghost Value = { BlockSums };
 
-    ghost view = { λ b. record { keys = b.keys.keys; sums = b.sums.items; spilled = b.spilled.items; most = b.most } };
+    ghost view = { λ b. record { keys = b.places; sums = b.sums.items; spilled = b.spilled.items; most = b.most } };
 
-    ghost invariant = { λ b. AreInBlocks b.keys.keys b.sums.items b.spilled.items b.most };
+    ghost invariant = { λ b. AreInBlocks b.places b.sums.items b.spilled.items b.most };
 }
 
 /// Whether there are some cells, all of one block.
@@ -163,11 +161,10 @@ impl<A: Allocator + Copy> Blocks<A> {
         ensures { result ≡ no_sums }
     {
         Blocks {
-            keys: IndexSet::with_hasher(alloc, hash_builder),
+            places: BlockPlaces::new(alloc, hash_builder),
             sums: Vec::new(alloc),
             spilled: Vec::new(alloc),
             most: 0,
-            noted: NotedPlaces::new(alloc),
         }
     }
 
@@ -175,20 +172,12 @@ impl<A: Allocator + Copy> Blocks<A> {
     pub(crate) fn sum(&self, layer: usize, minor: usize, major: usize) -> u128
         ensures { result ≡ sum_at self.now layer minor major }
     {
-        let Some(block) = self.keys.get_index_of(&(layer, major, minor / BLOCK)) else {
+        let Some(block) = self.places.get((layer, major, minor / BLOCK)) else {
             return 0;
         };
         let place = block * BLOCK + minor % BLOCK;
         let spilled = self.spilled.get(place).copied().unwrap_or(0);
         self.sums[place] as u128 + spilled
-    }
-
-    /// Whether the block of a key is the one at a place.
-    fn is_at(&self, key: Key, place: usize) -> bool
-        ensures { result ≡ true → block_at self.now.keys key ≡ Some place }
-    {
-        let keys = self.keys.as_slice();
-        place < keys.len() && keys[place] == key
     }
 
     /// The place of a block among all, by the hash of its key, made where there is none. No sum changes. This is rare, so what it needs
@@ -199,14 +188,14 @@ impl<A: Allocator + Copy> Blocks<A> {
         ensures stands { IfOk result (λ n. n * 64 + 64 ≤ length self.new.sums) }
         ensures same { (l i j : ℕ) → sum_at self.new l i j ≡ sum_at self.old l i j }
     {
-        if let Some(block) = self.keys.get_index_of(&key) {
+        if let Some(block) = self.places.get(key) {
             return Ok(block);
         }
-        let block = self.keys.len();
+        let block = self.places.len();
         self.sums.truncate(block * BLOCK);
         self.spilled.truncate(block * BLOCK);
         self.sums.extend_from_slice(&[0; BLOCK])?;
-        self.keys.insert(key)?;
+        self.places.push(key)?;
         Ok(block)
     }
 
@@ -217,12 +206,11 @@ impl<A: Allocator + Copy> Blocks<A> {
         ensures stands { IfOk result (λ n. n * 64 + 64 ≤ length self.new.sums) }
         ensures same { (l i j : ℕ) → sum_at self.new l i j ≡ sum_at self.old l i j }
     {
-        let noted = self.noted.place_for(key);
-        if self.is_at(key, noted) {
-            return Ok(noted);
+        if let Some(block) = self.places.noted(key) {
+            return Ok(block);
         }
         let block = self.hashed_block(key)?;
-        self.noted.note(key, block)?;
+        self.places.note(key, block)?;
         Ok(block)
     }
 

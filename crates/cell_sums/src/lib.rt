@@ -21,10 +21,10 @@
 //! lent is copied out.
 #![tactic(auto)]
 
+mod block_places;
 mod blocks;
 mod cell_sums;
 mod lines;
-mod noted_places;
 mod runs;
 mod sheets;
 mod stretch;

@@ -1,9 +1,7 @@
-use Rattle.std.proofs.Common.{◌≡◌, ◌+◌, ◌^◌, ◌≤◌, ℕ, refl, rules, arith, to_z, of_z, w64}
-use Rattle.std.proofs.lemmas.Int.{to_z-of_z}
-use Rattle.cell_sums.specs.Blocks.{sum_at}
+use Rattle.std.proofs.Common.{◌+◌, refl}
 use Rattle.cell_sums.specs.Tables.{spanned}
 use Rattle.cell_sums.specs.declared.runs.Strip.{Strip}
-use Rattle.cell_sums.proofs.RectangleLemmas.{rectangle_at_most, row_fits, rows_on, rows_stop}
+use Rattle.cell_sums.proofs.RectangleLemmas.{rectangle_at_most, rows_on, rows_stop}
 use Rattle.cell_sums.proofs.SheetLemmas.{pair_grown, pair_refused}
 use Rattle.cell_sums.proofs.cell_sums.add_pairs.Goals as goal
 

@@ -10,12 +10,12 @@ invariant_of-self g c =
     let inside = c.self.inside in
     let area = (λ (i : ℕ). one_of_two c.args.area c.args.next_area (i - cells.first)) in
     let got = c.as_mut_slice-sums.result.now in
-    let is = ap (λ xs. record { keys = inside.keys.keys; sums = xs; spilled = inside.spilled.items; most = inside.most }) c.as_mut_slice-sums.ensures.value ∙ c.self.view_is in
+    let is = ap (λ xs. record { keys = inside.places; sums = xs; spilled = inside.spilled.items; most = inside.most }) c.as_mut_slice-sums.ensures.value ∙ c.self.view_is in
     let added = pair_added got c.add_two.new.sums (c.in_ok-block.block * 64 + cells.first % 64) cells.first cells.end c.args.area c.args.next_area c.requires.two c.add_two.ensures in
     let put = with_items_is inside.sums c.add_two.new.sums (c.add_two.auto.sums ∙ c.as_mut_slice-sums.ensures.len) in
-    subst (λ xs. AreInBlocks inside.keys.keys xs inside.spilled.items inside.most) (sym put)
-    (kept_in_blocks cells area c.max.result (λ i. one_at_most c.args.area c.args.next_area (i - cells.first) c.max.result c.max.ensures) (omega (arith, c.requires.two)) c.requires.together c.args.self.now c.block_with_room.new.self c.in_ok-block.block c.in_ok-block.ensures.place c.in_ok-block.ensures.room c.in_ok-block.ensures.same c.requires.fits inside.keys.keys got c.add_two.new.sums inside.spilled.items inside.most is c.add_two.auto.sums added
-    (subst (λ xs. AreInBlocks inside.keys.keys xs inside.spilled.items inside.most) (sym c.as_mut_slice-sums.ensures.value) c.self.invariant))
+    subst (λ xs. AreInBlocks inside.places xs inside.spilled.items inside.most) (sym put)
+    (kept_in_blocks cells area c.max.result (λ i. one_at_most c.args.area c.args.next_area (i - cells.first) c.max.result c.max.ensures) (omega (arith, c.requires.two)) c.requires.together c.args.self.now c.block_with_room.new.self c.in_ok-block.block c.in_ok-block.ensures.place c.in_ok-block.ensures.room c.in_ok-block.ensures.same c.requires.fits inside.places got c.add_two.new.sums inside.spilled.items inside.most is c.add_two.auto.sums added
+    (subst (λ xs. AreInBlocks inside.places xs inside.spilled.items inside.most) (sym c.as_mut_slice-sums.ensures.value) c.self.invariant))
 
 pub returns-clause-added : goal.returns-clause-added
 returns-clause-added g c =
@@ -23,8 +23,8 @@ returns-clause-added g c =
     let inside = c.self.inside in
     let area = (λ (i : ℕ). one_of_two c.args.area c.args.next_area (i - cells.first)) in
     let got = c.as_mut_slice-sums.result.now in
-    let is = ap (λ xs. record { keys = inside.keys.keys; sums = xs; spilled = inside.spilled.items; most = inside.most }) c.as_mut_slice-sums.ensures.value ∙ c.self.view_is in
+    let is = ap (λ xs. record { keys = inside.places; sums = xs; spilled = inside.spilled.items; most = inside.most }) c.as_mut_slice-sums.ensures.value ∙ c.self.view_is in
     let added = pair_added got c.add_two.new.sums (c.in_ok-block.block * 64 + cells.first % 64) cells.first cells.end c.args.area c.args.next_area c.requires.two c.add_two.ensures in
     let put = with_items_is inside.sums c.add_two.new.sums (c.add_two.auto.sums ∙ c.as_mut_slice-sums.ensures.len) in
-    subst (λ xs. HasGained c.args.self.now (record { keys = inside.keys.keys; sums = xs; spilled = inside.spilled.items; most = inside.most }) (run_gains cells area)) (sym put)
-    (gained_in_blocks cells area c.max.result (λ i. one_at_most c.args.area c.args.next_area (i - cells.first) c.max.result c.max.ensures) (omega (arith, c.requires.two)) c.requires.together c.args.self.now c.block_with_room.new.self c.in_ok-block.block c.in_ok-block.ensures.place c.in_ok-block.ensures.room c.in_ok-block.ensures.same c.requires.fits inside.keys.keys got c.add_two.new.sums inside.spilled.items inside.most is c.add_two.auto.sums added)
+    subst (λ xs. HasGained c.args.self.now (record { keys = inside.places; sums = xs; spilled = inside.spilled.items; most = inside.most }) (run_gains cells area)) (sym put)
+    (gained_in_blocks cells area c.max.result (λ i. one_at_most c.args.area c.args.next_area (i - cells.first) c.max.result c.max.ensures) (omega (arith, c.requires.two)) c.requires.together c.args.self.now c.block_with_room.new.self c.in_ok-block.block c.in_ok-block.ensures.place c.in_ok-block.ensures.room c.in_ok-block.ensures.same c.requires.fits inside.places got c.add_two.new.sums inside.spilled.items inside.most is c.add_two.auto.sums added)

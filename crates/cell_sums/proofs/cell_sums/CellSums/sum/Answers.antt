@@ -1,4 +1,4 @@
-use Rattle.std.proofs.Common.{◌≡◌, arith}
+use Rattle.std.proofs.Common.{arith}
 use Rattle.cell_sums.proofs.TableLemmas.{sum_fits}
 use Rattle.cell_sums.proofs.cell_sums.CellSums.sum.Goals as goal
 

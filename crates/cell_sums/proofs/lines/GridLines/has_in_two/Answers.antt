@@ -1,4 +1,4 @@
-use Rattle.std.proofs.Common.{◌≡◌, ◌+◌, ◌<◌, ◌≤ℤ◌, List, ℤ, length, rules, subst, arith, to_z, of_z, w64}
+use Rattle.std.proofs.Common.{◌+◌, ◌≤ℤ◌, List, ℤ, rules, subst, arith, w64}
 use Rattle.std.proofs.lemmas.Int.{to_z-of_z}
 use Rattle.cell_sums.specs.Covered.{IsCovered}
 use Rattle.cell_sums.proofs.CoverLemmas.{in_two, le_so}

@@ -1,8 +1,7 @@
-use Rattle.std.proofs.Common.{◌≡◌, subst, ap, arith}
+use Rattle.std.proofs.Common.{subst, ap, arith}
 use Rattle.std.proofs.lemmas.Result.{on_ok_weaker}
 use Rattle.cell_sums.specs.Blocks.{strip_gains, sum_at}
 use Rattle.cell_sums.specs.Sheets.{HasGrown, HasGrownAtMost, SheetSums}
-use Rattle.cell_sums.proofs.GainLemmas.{gained_at_most}
 use Rattle.cell_sums.proofs.SheetLemmas.{chunk_fits, grown, grown_at_most, none_gained}
 use Rattle.cell_sums.proofs.sheets.Sheet.add_in_parts.Goals as goal
 
