@@ -1,11 +1,15 @@
 -- The lines on nets of a text follow an edit by those that it touches.
-use Rattle.std.proofs.Common.{◌≡◌, ◌∙◌, ◌+◌, ◌≤◌, ℕ, Bool, true, false, not, List, [], ◌∷◌, ◌++◌, append-nil, Option, Some, None, map, sum_by, refl, sym, ap, ap₂, arith, subst}
-use Rattle.std.specs.Prelude.{IfSome, filter}
-use Rattle.std.specs.List.{AllByRecursion}
+use Rattle.std.proofs.Common.{◌≡◌, ◌∙◌, ◌+◌, ◌≤◌, ℕ, Bool, true, false, not, ◌||◌, List, [], ◌∷◌, ◌++◌, append-nil, Option, Some, None, map, sum_by, refl, sym, ap, ap₂, arith, subst}
+use Rattle.std.specs.Prelude.{IfNone, IfSome, filter, flat_map}
+use Rattle.std.specs.Option.{option_map}
+use Rattle.std.specs.List.{AllByRecursion, list_any}
+use Rattle.std.specs.Str.{bytes_eq}
 use Rattle.std.proofs.lemmas.List.Sums.{sum_by-append}
+use Rattle.std.proofs.lemmas.Slice.Eq.{bytes_eq-Decides}
 use Rattle.design_model.specs.Order.{sorted_by_bytes}
 use Rattle.design_model.specs.declared.identifier.StmtId.{StmtId}
 use Rattle.def_grammar.specs.Records.{Record}
+use Rattle.def_grammar.specs.Terminals.{is_of_all}
 use Rattle.lef_grammar.specs.Library.{Library}
 use Rattle.lef_grammar.specs.Measures.{Shape}
 use Rattle.design_rules.specs.Boxes.{scale}
@@ -19,7 +23,7 @@ use Rattle.named_shapes.specs.Named.{shapes_by_name}
 use Rattle.net_laws.specs.NetChanges as net_changes
 use Rattle.net_laws.specs.NetChanges.{ToldExchange, ToldNetsAreExchanged, is_one_of}
 use Rattle.net_laws.specs.NetExchanges.{nets_where}
-use Rattle.net_laws.specs.NetsTold.{AgreeOnNet, NetsAreTold, is_of_net}
+use Rattle.net_laws.specs.NetsTold.{AgreeOnNet, NetsAreTold, is_of_net, terminals_in, terminals_of}
 use Rattle.net_laws.specs.OneNet.{TellNet}
 use Rattle.net_laws.specs.PinLines.{ArePins, PinLinesFollow}
 use Rattle.net_laws.specs.StarNets.{OneComponentExchanged, OneEntryTells, PinsAreExchanged, pins_by_one, tells_of}
@@ -214,6 +218,10 @@ module _ (library : Library) (records then_records : List (StmtId × Record)) (n
     lines = record { often = λ q. ap (times q) (sym (append-nil (class_lines n))) };
   }
 
+  -- a net of the same entries lists the same
+  same_stars : (net : List ℕ) → filter (is_of_net net) old ≡ filter (is_of_net net) new → list_any is_of_all (terminals_in old net) ≡ true → list_any is_of_all (terminals_in new net) ≡ true
+  same_stars net same there = ap (λ (rs : List Record). list_any is_of_all (flat_map terminals_of rs)) (sym same) ∙ there
+
   -- after an edit of a net, the nets that are kept with their parts stay
   module _ (law : NetsAreTold) (none : t.component ≡ None) where
     pub exchanged_nets : (gone come : List Told) → gone ≡ t.before → come ≡ after → AreExchanged library old new t.names stars noted.shapes kept.lines gone come
@@ -243,12 +251,28 @@ module _ (library : Library) (records then_records : List (StmtId × Record)) (n
     still_stars [] others are = tt
     still_stars (s ∷ ss) others are = (still_star s others.0 are.0, still_stars ss others.1 are.1)
 
+    -- a net that is kept isn't touched
+    star_other : (ss : List Net) (net : List ℕ) → AllByRecursion (λ (s : Net). is_one_of t.names s.name ≡ false) ss → is_one_of (names_of ss) net ≡ true → is_one_of t.names net ≡ false
+    star_other [] net others there = absurd (cc)
+    star_other (s ∷ ss) net others there = either (bytes_eq s.name net) refl there (λ h. star_other ss net others.1 h)
+      where
+        either : (b : Bool) → bytes_eq s.name net ≡ b → (b || is_one_of (names_of ss) net) ≡ true → (is_one_of (names_of ss) net ≡ true → is_one_of t.names net ≡ false) → is_one_of t.names net ≡ false
+        either true this h later = ap (is_one_of t.names) (sym ((bytes_eq-Decides s.name net).0 this)) ∙ others.0
+        either false this h later = later h
+
+    no_star : (net : List ℕ) → is_one_of t.names net ≡ false → is_one_of (t.names ++ stars) net ≡ false
+    no_star net other = ap (λ (ss : List StarPins). is_one_of (t.names ++ star_names ss) net) (no_stars none) ∙ ap (λ (ns : List (List ℕ)). is_one_of ns net) (append-nil t.names) ∙ other
+
     pub still_kept : (found : Option (List Net)) → noted.stars ≡ found → IfSome found (AreStars library new)
     still_kept None is = tt
     still_kept (Some ss) is =
         let are = are_kept ss is in
         record {
-          names = record { apart = are.names.apart; all = λ net out. leaves.no_stars net (are.names.all net out) };
+          names = record {
+          apart = are.names.apart;
+          all = λ net out. leaves.no_stars net (are.names.all net out);
+          own = λ net there. same_stars net (leaves.apart.agree net (no_star net (star_other ss net (fits.others none ss is) there))).entries (are.names.own net there);
+        };
           kept = still_stars ss (fits.others none ss is) are.kept;
         }
 
@@ -324,11 +348,33 @@ module _ (library : Library) (records then_records : List (StmtId × Record)) (n
             names = record {
               apart = subst AreApart (sym same) names.apart;
               all = λ net out. leaves.no_stars net (names.all net (ap (λ (ns : List (List ℕ)). is_one_of ns net) (sym same) ∙ out));
+              own = λ net there. same_stars net (leaves.but name net is).entries (names.own net (ap (λ (ns : List (List ℕ)). is_one_of ns net) (sym same) ∙ there));
             };
             kept = have.own.kept;
           } in
           subst (λ (s : Option (List Net)). IfSome s (AreStars library new)) (sym have.kept_are) are
 
--- nets that are noted are their fields
-pub noted_so : (n : Nets) (common : List StmtId) (stars : Option (List Net)) → n.common ≡ common → n.stars ≡ stars → record { shapes = n.shapes; common = common; stars = stars } ≡ n
-noted_so n common stars a b = ap₂ (λ (c : List StmtId) (s : Option (List Net)). record { shapes = n.shapes; common = c; stars = s }) (sym a) (sym b)
+  -- after either
+  pub record AllExchanged (gone come : List Told) (then_kept : Option (List Net)) : Type 0 where
+    pub parts : AreExchanged library old new t.names stars noted.shapes kept.lines gone come
+    pub then_stars : IfSome then_kept (AreStars library new)
+
+  pub all_exchanged : {C : Type 0} (component : Option C) (name : C → List ℕ) (own_pins : C → List StarPins) → t.component ≡ option_map name component → ((own : C) → component ≡ Some own → t.stars ≡ own_pins own)
+      → NetsAreTold → PinLinesFollow → OneComponentExchanged → (gone come : List Told) (then_kept : Option (List Net))
+      → IfNone component ((then_kept ≡ noted.stars) × (gone ≡ t.before) × (come ≡ after))
+      → IfSome component (λ own. (d : List Record) (kept_nets : List Net) → noted.stars ≡ Some kept_nets → AwaitsOwn library d new (name own) kept_nets (own_pins own)
+      → HaveComponent library d new (name own) (names_of kept_nets) t.before after then_kept gone come)
+      → AllExchanged gone come then_kept
+  all_exchanged None name own_pins is pins_are law lines_follow exchange gone come then_kept none some = record {
+    parts = exchanged_nets law is gone come none.1 none.2;
+    then_stars = subst (λ (s : Option (List Net)). IfSome s (AreStars library new)) (sym none.0) (still_kept law is noted.stars refl);
+  }
+  all_exchanged (Some own) name own_pins is pins_are law lines_follow exchange gone come then_kept none some =
+      let kept_nets = kept_stars lines_follow exchange (name own) is in
+      let awaits = subst (λ (ps : List StarPins). AwaitsOwn library old new (name own) kept_nets ps) (pins_are own refl) (awaits_own lines_follow exchange (name own) is) in
+      let have = some old kept_nets (fits.own (name own) is).1 awaits in
+      record { parts = exchanged_stars lines_follow exchange (name own) is gone come then_kept have; then_stars = then_stars lines_follow exchange (name own) is gone come then_kept have }
+
+pub if_none_so : {C P Q : Type 0} (o : Option C) → (P → Q) → IfNone o P → IfNone o Q
+if_none_so None f h = f h
+if_none_so (Some x) f h = tt

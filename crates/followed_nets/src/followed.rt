@@ -1,6 +1,6 @@
 //! The nets of a text that are noted, and the lines on them that follow.
 
-ghost use Rattle.std.specs.Prelude.{◌≡◌, ◌++◌, ◌+◌, ◌≤◌, ℕ, false, true, IfNone, IfOk, IfSome, IsTrue, List, Some, map};
+ghost use Rattle.std.specs.Prelude.{◌≡◌, ◌++◌, ◌∷◌, ◌+◌, ◌≤◌, ℕ, [], false, true, IfNone, IfOk, IfSome, IsTrue, List, None, Some, map};
 ghost use Rattle.std.specs.List.{AllByRecursion};
 ghost use Rattle.std.specs.Option.{option_map};
 ghost use Rattle.design_model.specs.declared.identifier.StmtId.{StmtId as Number};
@@ -12,7 +12,7 @@ ghost use Rattle.net_laws.specs.Within.{NoOtherLists};
 ghost use Rattle.design_text.specs.DesignTexts.{design_of};
 ghost use Rattle.design_text.specs.Exchanges.{AreExchanges, records_in};
 ghost use Rattle.followed_nets.specs.FollowedNets.{HasNets};
-ghost use Rattle.followed_nets.specs.Listed.{AreApart};
+ghost use Rattle.followed_nets.specs.Listed.{AllList, AreApart};
 ghost use Rattle.followed_nets.specs.Noted.{AreCommon, said};
 ghost use Rattle.followed_nets.specs.Pieces.{AreOnPieces, ArePieces, Piece};
 ghost use Rattle.followed_nets.specs.StarExchanges.{AwaitsOwn, HaveComponent};
@@ -116,6 +116,7 @@ fn names_of_others<A: Allocator + Copy>(
 ) -> Result<Vec<OwnName<A>, A>, AllocError>
     ensures apart { AreApart names.now → AreApart (names_of stars.now) → IfOk result (λ v. AreApart (v.items ++ names_of stars.now)) }
     ensures all { IfOk result (λ v. (net : List ℕ) → is_one_of names.now net ≡ true → is_one_of (v.items ++ names_of stars.now) net ≡ true) }
+    ensures only { IfOk result (λ v. (net : List ℕ) → is_one_of v.items net ≡ true → is_one_of names.now net ≡ true) }
 {
     let mut others = Vec::new(alloc);
     for name in names {
@@ -160,7 +161,9 @@ impl<A: Allocator + Copy> FollowedNets<A> {
         requires apart { AreApart (names.items ++ star_names (stars_of component)) }
         requires lists { NoOtherLists (design_of text.now) (names.items ++ star_names (stars_of component)) (option_map (λ c. c.name) component) }
         requires pins { ArePinsOf library.now (design_of text.now) (option_map (λ c. c.name) component) (stars_of component) }
-        ensures { IfOk result (λ found. IfSome found (AreTouched library.now (design_of text.now))) }
+        ensures touched { IfOk result (λ found. IfSome found (AreTouched library.now (design_of text.now))) }
+        ensures names { IfOk result (λ found. IfSome found (λ t. t.names ≡ names.items)) }
+        ensures component { IfOk result (λ found. IfSome found (λ t. (t.component ≡ option_map (λ c. c.name) component) × (t.stars ≡ stars_of component))) }
     {
         let Some(before) = told_nets(alloc, library, text, &self.common, &names)? else {
             return Ok(None);
@@ -181,7 +184,8 @@ impl<A: Allocator + Copy> FollowedNets<A> {
         net: &[u8],
     ) -> Result<Option<TouchedNets<A>>, AllocError>
         requires { HasNets library.now (records_in text.now) self.now }
-        ensures { IfOk result (λ found. IfSome found (AreTouched library.now (design_of text.now))) }
+        ensures touched { IfOk result (λ found. IfSome found (AreTouched library.now (design_of text.now))) }
+        ensures names { IfOk result (λ found. IfSome found (λ t. (t.names ≡ net.now ∷ []) × (t.stars ≡ []) × (t.component ≡ None))) }
     {
         let mut names = Vec::new(alloc);
         names.push(OwnName::copy_of(alloc, net)?)?;
@@ -198,7 +202,8 @@ impl<A: Allocator + Copy> FollowedNets<A> {
         component: &[u8],
     ) -> Result<Option<TouchedNets<A>>, AllocError>
         requires { HasNets library.now (records_in text.now) self.now }
-        ensures { IfOk result (λ found. IfSome found (AreTouched library.now (design_of text.now))) }
+        ensures touched { IfOk result (λ found. IfSome found (AreTouched library.now (design_of text.now))) }
+        ensures names { IfOk result (λ found. IfSome found (λ t. AllList (design_of text.now) component.now (t.names ++ star_names t.stars) × (t.component ≡ Some component.now))) }
     {
         text.statements_are_kept();
         // (pins of the design, and virtual ones, stand under these names in entries of nets)
