@@ -194,9 +194,9 @@ pub(crate) fn follow_nets<A: Allocator + Copy>(
     let kept = known.nets.take()?;
     let touched = touched?;
     match nets.follow(alloc, library, text, made, touched, kept) {
-        Ok(Some(lines)) => {
+        Ok(Some(followed)) => {
             *noted = Some(nets);
-            Some(lines)
+            Some(followed.lines)
         }
         _ => None,
     }

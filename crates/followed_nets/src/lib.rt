@@ -1,11 +1,12 @@
 //! The lines on the nets of a text, which follow its edits.
 //!
 //! Begin with `FollowedNets::of`, which notes the nets of a text. Before an edit, `touched_by_net` and `touched_by_component` tell which nets
-//! it is about to change; after it, `follow` gives the lines from those before, where it changed no others. What is noted follows then,
-//! too, and else isn't to be used any more.
+//! it is about to change; after it, `follow` gives the lines from those before, where it changed no others, and how many pairs of shapes
+//! were compared for them (`specs/Tests`). What is noted follows then, too, and else isn't to be used any more.
 //!
-//! A net is told by few statements of the text (`told`), and exchanged as a whole (`exchanging`). A net that lists a pin of all components
-//! is kept with its parts, and an edit of a component exchanges its pins of that component (`star_pins`, `star_exchange`).
+//! A net is told by few statements of the text (`told`), and exchanged as a whole. A net that lists a pin of all components is kept with
+//! its parts, and an edit of a component exchanges its pins of that component (`star_pins`, `star_exchange`). Both are pieces of
+//! `specs/Pieces`: first all that go are taken out, then all that come are put in (`exchanging`).
 #![tactic(auto)]
 
 mod exchanging;
@@ -20,5 +21,6 @@ mod told_statements;
 mod touched;
 mod within;
 
+pub use exchanging::FollowedOnNets;
 pub use followed::FollowedNets;
 pub use touched::TouchedNets;
