@@ -269,10 +269,10 @@ module _ (library : Library) (records then_records : List (StmtId × Record)) (n
         let are = are_kept ss is in
         record {
           names = record {
-          apart = are.names.apart;
-          all = λ net out. leaves.no_stars net (are.names.all net out);
-          own = λ net there. same_stars net (leaves.apart.agree net (no_star net (star_other ss net (fits.others none ss is) there))).entries (are.names.own net there);
-        };
+            apart = are.names.apart;
+            all = λ net out. leaves.no_stars net (are.names.all net out);
+            own = λ net there. same_stars net (leaves.apart.agree net (no_star net (star_other ss net (fits.others none ss is) there))).entries (are.names.own net there);
+          };
           kept = still_stars ss (fits.others none ss is) are.kept;
         }
 

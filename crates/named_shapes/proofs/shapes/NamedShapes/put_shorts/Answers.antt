@@ -1,7 +1,6 @@
 use Rattle.std.proofs.Common.{rules, map, ◌≤◌, arith, length, refl}
 use Rattle.lef_grammar.specs.Measures.{Shape}
 use Rattle.connection_rules.specs.NetLines.{short_of}
-use Rattle.net_lists.specs.PartCuts.{shape_view}
 use Rattle.net_touches.specs.Barriers.{name_at}
 use Rattle.shape_index.specs.Near.{near_shapes}
 use Rattle.named_shapes.proofs.NearShapes.{next_tested}
