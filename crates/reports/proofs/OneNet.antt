@@ -28,10 +28,15 @@ boxes_seen : (ss : List NetShape) → map shape_box ss ≡ map box_of (map shape
 boxes_seen [] = refl
 boxes_seen (s ∷ ss) = ap (λ (rs : List Rectangle). shape_box s ∷ rs) (boxes_seen ss)
 
--- Shapes of a net that was put alone into a list are those of each net with its parts,
-module _ (m n : Net) (same : m.parts ≡ n.parts) (ss : List NetShape) (seen : map shape_view ss ≡ map bare (flat_map shapes_of_net (m ∷ []))) where
+-- Shapes of a net that stands alone in a list are those of each net with its parts,
+module _ (m n : Net) (same : m.parts ≡ n.parts) (listed : List Net) (alone : listed ≡ m ∷ []) (ss : List NetShape) (seen : map shape_view ss ≡ map bare (flat_map shapes_of_net listed)) where
   in_parts : map shape_view ss ≡ flat_map shapes_in n.parts
-  in_parts = seen ∙ ap (map bare) (append-nil (shapes_of_net m)) ∙ of_parts m m.parts ∙ ap (flat_map shapes_in) same
+  in_parts =
+      seen
+      ∙ ap (λ (ns : List Net). map bare (flat_map shapes_of_net ns)) alone
+      ∙ ap (map bare) (append-nil (shapes_of_net m))
+      ∙ of_parts m m.parts
+      ∙ ap (flat_map shapes_in) same
 
   shapes_are : map shape_view ss ≡ map bare (shapes_of_net n)
   shapes_are = in_parts ∙ sym (of_parts n n.parts)

@@ -62,8 +62,8 @@ fn measured<'a, 'l: 'a, 'r: 'a, 't: 'a, A: Allocator + Copy>(
         &mut part_walk,
         &mut net,
     )?;
-    let bounds = box_round(net.shapes());
     let shapes = Vec::from_slice(alloc, net.shapes())?;
+    let bounds = box_round(&shapes);
     Ok(NetMeasures {
         length,
         shapes,
@@ -72,10 +72,10 @@ fn measured<'a, 'l: 'a, 'r: 'a, 't: 'a, A: Allocator + Copy>(
 }
 
 /// Measures the net of a design that has entries of one net alone: `None` where it has entries of none, or of more.
-pub fn net_measures<A: Allocator + Copy>(
+pub fn net_measures<'a, 'l: 'a, 'r: 'a, 't: 'r, A: Allocator + Copy>(
     alloc: A,
-    library: &Library<'_, A>,
-    names: &Names<'_, '_, A>,
+    library: &'a Library<'l, A>,
+    names: &'a Names<'r, 't, A>,
 ) -> Result<Option<NetMeasures<A>>, AllocError>
     requires some { 0 < scale names.now }
     requires few { scale names.now ≤ 100000 }
