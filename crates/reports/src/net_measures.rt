@@ -72,10 +72,10 @@ fn measured<'a, 'l: 'a, 'r: 'a, 't: 'a, A: Allocator + Copy>(
 }
 
 /// Measures the net of a design that has entries of one net alone: `None` where it has entries of none, or of more.
-pub fn net_measures<'a, 'l: 'a, 'r: 'a, 't: 'r, A: Allocator + Copy>(
+pub fn net_measures<'a, A: Allocator + Copy>(
     alloc: A,
-    library: &'a Library<'l, A>,
-    names: &'a Names<'r, 't, A>,
+    library: &'a Library<'_, A>,
+    names: &'a Names<'_, '_, A>,
 ) -> Result<Option<NetMeasures<A>>, AllocError>
     requires some { 0 < scale names.now }
     requires few { scale names.now ≤ 100000 }
