@@ -1,16 +1,15 @@
 -- The answers on a design where one net is exchanged.
-use Rattle.std.proofs.Common.{◌≡◌, ◌∙◌, ◌+◌, ◌<◌, ◌≤◌, ◌^◌, ℕ, Bool, true, false, ◌||◌, List, [], ◌∷◌, ◌++◌, append-nil, flat_map, map, Option, Some, None, refl, sym, ap, ap₂, subst, arith, if◌then◌else◌}
+use Rattle.std.proofs.Common.{◌≡◌, ◌∙◌, ◌+◌, ◌<◌, ◌≤◌, ◌^◌, ℕ, Bool, true, false, ◌||◌, List, [], ◌∷◌, append-nil, map, Some, refl, sym, ap, subst, arith, if◌then◌else◌}
 use Rattle.std.specs.List.{sum_by}
 use Rattle.std.specs.Str.{bytes_eq}
 use Rattle.std.proofs.lemmas.List.Sums.{sum_by-cons}
 use Rattle.std.proofs.lemmas.Slice.Eq.{bytes_eq-Decides}
-use Rattle.design_model.specs.Geometry.{Rectangle}
 use Rattle.def_grammar.specs.Records.{Record}
 use Rattle.lef_grammar.specs.Library.{Library}
 use Rattle.lef_grammar.specs.Measures.{Shape}
 use Rattle.connection_rules.specs.NetLines.{NetShape, shapes_of_net}
 use Rattle.connection_rules.specs.NetParts.{Net, all_nets, net_named}
-use Rattle.design_rules.specs.Boxes.{Boxed, boxes, scale}
+use Rattle.design_rules.specs.Boxes.{boxes, scale}
 use Rattle.measure_laws.specs.LengthLaws.{NoneIsLonger}
 use Rattle.measure_rules.specs.GridCells.{columns, rows}
 use Rattle.measure_rules.specs.Lengths as lengths
@@ -121,13 +120,13 @@ module _ (library : Library) (old new : List Record) (before after : Told) (a : 
     reports_then =
         reports_on library new b
         (λ n. e.net_length n
-            ∙ each_is name (Some after.net_length) (length_in a) (lengths.net_length library new (scale new))
-            (measures.own_length name is_own ∙ ap Some (sym new_length))
-            (λ m other. measures.lengths m other ∙ sym (awaits.had.net_length m)) n)
+        ∙ each_is name (Some after.net_length) (length_in a) (lengths.net_length library new (scale new))
+        (measures.own_length name is_own ∙ ap Some (sym new_length))
+        (λ m other. measures.lengths m other ∙ sym (awaits.had.net_length m)) n)
         (λ n. e.net_box n
-            ∙ each_is name (Some after.bounds) (box_in a) (net_boxes.net_box library new (scale new))
-            (measures.own_box name is_own ∙ ap Some (sym new_bounds))
-            (λ m other. measures.boxes m other ∙ sym (awaits.had.net_box m)) n)
+        ∙ each_is name (Some after.bounds) (box_in a) (net_boxes.net_box library new (scale new))
+        (measures.own_box name is_own ∙ ap Some (sym new_bounds))
+        (λ m other. measures.boxes m other ∙ sym (awaits.had.net_box m)) n)
         (let t = e.total_length in omega (arith, t, total, awaits.had.total_length))
         (e.layers ∙ awaits.had.layers)
         cells_are

@@ -1,5 +1,5 @@
 -- What the statements that tell a net say of its measures.
-use Rattle.std.proofs.Common.{◌≡◌, ◌∙◌, ◌<◌, ◌^◌, ℕ, List, [], ◌∷◌, map, Option, refl, sym, ap, subst, arith}
+use Rattle.std.proofs.Common.{◌≡◌, ◌∙◌, ◌<◌, ◌^◌, ℕ, List, [], ◌∷◌, map, Option, refl, sym, ap, arith}
 use Rattle.design_model.specs.Geometry.{Rectangle}
 use Rattle.def_grammar.specs.Records.{Record}
 use Rattle.lef_grammar.specs.Library.{Library}
@@ -14,7 +14,7 @@ use Rattle.measure_rules.specs.NetBoxes.{box_round, rectangles_of}
 use Rattle.measuring_laws.specs.Measuring.{LengthsAreTold}
 use Rattle.net_laws.specs.OneNet.{IsNetTold, OneNetIsTold, TellNet}
 use Rattle.reports.specs.NetMeasures.{AreOfNet}
-use Rattle.followed_measures.specs.Told.{IsToldIn, Told}
+use Rattle.followed_measures.specs.Told.{IsToldIn}
 
 -- what one thing is made of is one thing
 one_made : {A B : Type 0} (make : A → B) (xs : List A) (y : B) → map make xs ≡ y ∷ [] → (x : A) × (xs ≡ x ∷ []) × (make x ≡ y)

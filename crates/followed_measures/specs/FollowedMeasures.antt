@@ -1,5 +1,5 @@
 -- What is measured of a text, which follows its edits.
-use Rattle.std.specs.Prelude.{◌≡◌, ℕ, IfSome, List, Option}
+use Rattle.std.specs.Prelude.{IfSome, List, Option}
 use Rattle.design_model.specs.declared.identifier.StmtId.{StmtId}
 use Rattle.def_grammar.specs.Records.{Record}
 use Rattle.lef_grammar.specs.Library.{Library}

@@ -1,6 +1,6 @@
 //! One net of what was measured, exchanged for another.
 
-ghost use Rattle.std.specs.Prelude.{◌≡◌, List, OnOk};
+ghost use Rattle.std.specs.Prelude.{List, OnOk};
 ghost use Rattle.def_grammar.specs.Records.{Record};
 ghost use Rattle.lef_grammar.specs.Library.{Library as TheLibrary};
 ghost use Rattle.reports.specs.Answers.{ReportsOn};

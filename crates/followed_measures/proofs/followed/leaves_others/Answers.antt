@@ -1,4 +1,4 @@
-use Rattle.std.proofs.Common.{rules, ◌≡◌, ◌∙◌, true, Bool, [], ◌∷◌, ◌++◌, ap₂, filter}
+use Rattle.std.proofs.Common.{rules, ◌≡◌, true, Bool, [], ◌∷◌, filter}
 use Rattle.std.proofs.lemmas.Result.{IfOk-weaker}
 use Rattle.design_text.specs.Exchanges.{records_in}
 use Rattle.measuring_laws.specs.Measuring.{is_of_cells}

@@ -1,4 +1,4 @@
-use Rattle.std.proofs.Common.{◌≡◌, ◌∙◌, ap, map}
+use Rattle.std.proofs.Common.{◌∙◌, ap, map}
 use Rattle.def_reader.specs.StatementViews.{record_view}
 use Rattle.design_rules.specs.Boxes.{scale}
 use Rattle.net_laws.specs.OneNet.{TellNet}
