@@ -7,6 +7,9 @@
 //! A net is told by few statements of the text (`told`), and exchanged as a whole. A net that lists a pin of all components is kept with
 //! its parts, and an edit of a component exchanges its pins of that component (`star_pins`, `star_exchange`). Both are pieces of
 //! `specs/Pieces`: first all that go are taken out, then all that come are put in (`exchanging`).
+//!
+//! Who follows something else of nets finds the statements that tell one by `common_numbers` and `told_statements`, and whether an edit
+//! leaves all other nets by `exchanges_are_within`.
 #![tactic(auto)]
 
 mod exchanging;
@@ -17,10 +20,12 @@ mod star_exchange;
 mod star_pins;
 mod stars;
 mod told;
-mod told_statements;
+pub mod told_statements;
 mod touched;
 mod within;
 
 pub use exchanging::FollowedOnNets;
 pub use followed::FollowedNets;
+pub use noted::common_numbers;
 pub use touched::TouchedNets;
+pub use within::exchanges_are_within;
