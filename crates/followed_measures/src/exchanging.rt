@@ -1,4 +1,4 @@
-//! One net of what was measured, exchanged for another.
+//! What is measured of one net, exchanged in the reports.
 
 ghost use Rattle.std.specs.Prelude.{List, OnOk};
 ghost use Rattle.def_grammar.specs.Records.{Record};

@@ -116,7 +116,8 @@ impl<A: Allocator + Copy> FollowedMeasures<A> {
         &self.reports
     }
 
-    /// What is measured of the net that an edit is about to change, by few statements; `None` where it is told by more than is soon read.
+    /// What is measured of the net that an edit is about to change, by few statements; `None` where it has no entry, or one in each
+    /// section, or is told by more than is soon read.
     pub fn told(
         &mut self,
         alloc: A,
@@ -137,8 +138,8 @@ impl<A: Allocator + Copy> FollowedMeasures<A> {
         told_net(alloc, library, text, common, net)
     }
 
-    /// Follows an edit that was made, and says whether it could: where it changed but the net that is told, as it was before. If not, or
-    /// after an error, what was measured isn't to be used any more.
+    /// Follows an edit that was made, and says whether it could: it can where the edit left all that is measured but for the net that was
+    /// told before it. If not, or after an error, what was measured isn't to be used any more.
     pub fn follow(
         &mut self,
         alloc: A,
