@@ -25,7 +25,7 @@ use std::alloc::{AllocError, Allocator};
 use wire_parts::nets::NetEntry;
 
 /// The net that an edit is of, if it is one of a net.
-fn net_of<'e>(edit: &Edit<'e>) -> Option<&'e [u8]> {
+pub(crate) fn net_of<'e>(edit: &Edit<'e>) -> Option<&'e [u8]> {
     match edit {
         Edit::Connect { net, .. } => Some(*net),
         Edit::Disconnect { net, .. } => Some(*net),

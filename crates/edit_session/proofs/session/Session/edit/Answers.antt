@@ -7,7 +7,6 @@ use Rattle.design_text.specs.Exchanges.{MadeEdit, records_in}
 use Rattle.edit_rules.specs.Edits.{change_of}
 use Rattle.followed_places.specs.Places.{said}
 use Rattle.edit_session.specs.Known.{AreKnownOf, HasFollowed, HasNoted}
-use Rattle.edit_session.specs.Sessions.{AnswersOn}
 use Rattle.edit_session.proofs.EditLemmas.{edits_nothing}
 use Rattle.edit_session.proofs.FollowLemmas.{is_read, said_is}
 use Rattle.edit_session.proofs.ReportLemmas.{of_this}
@@ -37,9 +36,8 @@ invariant_of-self g c =
     let same = edits_nothing MadeEdit library _ (change_of c.args.edit.now) c.in_err-made.field-0.0 _ c.in_err-made.ensures.edits in
     let i = c.self.invariant in (
       subst (λ (text : List ℕ). IsOk (read_def text)) (sym same) i.0,
-      subst (λ (text : List ℕ). IfSome c.self.inside.reports (AnswersOn library text)) (sym same) i.1,
-      subst (λ (text : List ℕ). AreKnownOf library text c.self.inside.known) (sym same) i.2,
-      subst (λ (rs : List (StmtId × Record)). HasNoted library rs c.note-touched.new.self) (sym c.in_err-made.ensures.same) c.note-touched.ensures.noted,
+      subst (λ (text : List ℕ). AreKnownOf library text c.self.inside.known) (sym same) i.1,
+      subst (λ (rs : List (StmtId × Record)). HasNoted library rs c.note-told.new.self) (sym c.in_err-made.ensures.same) c.note-told.ensures.noted,
     )
 
 pub follow-followed-requires : goal.follow-followed-requires
@@ -47,7 +45,7 @@ follow-followed-requires g c =
     let before = c.self.inside.text in
     let design = said (records_in before) in
     let reads : read_def (text_of before) ≡ Ok design = said_is (text_of before) (records_in before) _ c.statements_are_kept.ensures.said c.design_is_read.ensures.reads in
-    (before, record { told = c.in_ok-made.ensures.exchanged; reads = reads; touched = c.note-touched.ensures.touched; had = c.note-touched.ensures.noted; knew = c.self.invariant.2 design reads })
+    (before, record { told = c.in_ok-made.ensures.exchanged; reads = reads; told_before = c.note-told.ensures.told; had = c.note-told.ensures.noted; knew = c.self.invariant.1 design reads })
 
 pub invariant_of-self-2 : goal.invariant_of-self-2
 invariant_of-self-2 g c =
@@ -55,7 +53,6 @@ invariant_of-self-2 g c =
     let after = c.let_go.new.self in
     let reads = said_is (text_of after) (records_in after) _ c.statements_are_kept-2.ensures.said c.design_is_read-2.ensures.reads in (
       is_read (text_of after) _ reads,
-      tt,
       λ design also.
           c.put.ensures library design (c.none.ensures library design)
           (of_this (λ (d : List Record). HasFollowed library d c.follow-followed.result) (text_of after) (said (records_in after)) design reads also
