@@ -13,7 +13,7 @@ use cell_library::library::Library;
 use design_names::names::Names;
 use design_wires::wires::DesignWires;
 use drawn_parts::{PartWalk, put_drawn};
-use net_entries::{LentEntry, entries_by_net, is_power};
+use net_entries::{LentEntry, NamePlaces, entries_by_net, is_power};
 use net_lists::{NetList, building_a_net};
 use net_pins::{PinWalk, Pins};
 use std::alloc::{AllocError, Allocator};
@@ -61,7 +61,8 @@ pub fn nets_of<'a, 'l: 'a, 'r: 'a, 't: 'a, A: Allocator + Copy>(
     requires same { wires.now ≡ record { library = library.now; design = names.now } }
     ensures { IfOk result (λ nets. nets ≡ all_nets library.entry.now names.entry.now (scale names.entry.now)) }
 {
-    let groups = entries_by_net(alloc, names.hash_builder(), names.records())?;
+    let mut places = NamePlaces::new(alloc, names.hash_builder());
+    let groups = entries_by_net(alloc, names.records(), &mut places)?;
     let pins = Pins::new(alloc, library, names, wires)?;
     let mut pin_walk = pins.walk(alloc);
     let mut part_walk = PartWalk::new(library);

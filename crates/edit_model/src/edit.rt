@@ -155,8 +155,7 @@ impl<T: Drop> From<AllocFailed<T>> for EditRefusal {
     }
 }
 
-/// What an accepted edit took: statements read to their end for the new text, and pairs of rectangles compared. The latter aren't
-/// counted yet, and are 0.
+/// What an accepted edit took: statements read to their end for the new text, and pairs of rectangles compared by searches over tiles.
 #[derive(Clone, Copy, Debug, PartialEq, Eq)]
 pub struct Done {
     pub reads: u64,

@@ -36,10 +36,6 @@ text_outcome old a b put =
     if in_range old a b then (if is_long (new_text old a b put) then Err (Refused TooLong) else if_it_reads (new_text old a b put) (read_def (new_text old a b put)))
     else Err (Refused Range)
 
--- no pair of rectangles is counted yet
-abbrev pub IsUntested : Done → Type 0
-IsUntested done = done.tests ≡ 0
-
 -- want of memory may stand in the place of this answer: of none that needs no memory
 abbrev pub MayWantMemory : Result (List Cut) EditCode → Type 0
 MayWantMemory (Ok cuts) = Unit {0}
@@ -52,11 +48,11 @@ WantsMemory library old change = (outcome : Result (List Cut) EditCode) × Makes
 -- An edit may be answered so, and leave the text new: one that is refused leaves it as it was, and want of memory may
 -- stand in place of no refusal that is found without memory.
 abbrev pub Answers : Library → List ℕ → Step → Result Done EditRefusal → List ℕ → Type 0
-Answers library old (design_edit change) (Ok done) new = (cuts : List Cut) × Makes library old change (Ok cuts) × (new ≡ with_cuts cuts old) × IsUntested done
+Answers library old (design_edit change) (Ok done) new = (cuts : List Cut) × Makes library old change (Ok cuts) × (new ≡ with_cuts cuts old)
 Answers library old (design_edit change) (Err (Refused code)) new = (new ≡ old) × Makes library old change (Err code)
 Answers library old (design_edit change) (Err (Unreadable fault)) new = ⊥
 Answers library old (design_edit change) (Err Memory) new = (new ≡ old) × WantsMemory library old change
-Answers library old (text_edit a b put) (Ok done) new = (text_outcome old a b put ≡ Ok new) × IsUntested done
+Answers library old (text_edit a b put) (Ok done) new = text_outcome old a b put ≡ Ok new
 Answers library old (text_edit a b put) (Err Memory) new = (new ≡ old) × (a ≤ b) × (b ≤ length old) × (is_long (new_text old a b put) ≡ false)
 Answers library old (text_edit a b put) (Err refusal) new = (new ≡ old) × (text_outcome old a b put ≡ Err refusal)
 

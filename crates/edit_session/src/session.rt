@@ -148,6 +148,7 @@ impl<'s, 'l, A: Allocator + Copy> Session<'s, 'l, A> {
         ensures answer { Answers self.old.library self.old.text (design_edit (change_of edit.now)) result self.new.text }
         ensures applied { IfOk result (λ _. ReadsEdited self.old.text (change_of edit.now) self.new.text) }
         ensures keeps { IfOk result (λ _. KeepsTheRest self.old.library self.old.text (change_of edit.now) self.new.text) }
+        ensures untested { IfOk result (λ done. done.tests ≡ 0) }
         ensures few { IfOk result (λ done. ReadsFew self.old.library self.old.text (change_of edit.now) done.reads) }
         ensures library { self.new.library ≡ self.old.library }
         ensures reads { IsOk (read_def self.new.text) }
@@ -184,6 +185,7 @@ impl<'s, 'l, A: Allocator + Copy> Session<'s, 'l, A> {
     /// Puts bytes in the place of those from `a` up to `b`, or refuses it and leaves the text as it was.
     pub fn text_edit(&mut self, a: usize, b: usize, new: &[u8]) -> Result<Done, EditRefusal>
         ensures answer { Answers self.old.library self.old.text (text_edit a b new.now) result self.new.text }
+        ensures untested { IfOk result (λ done. done.tests ≡ 0) }
         ensures few { IfOk result (λ done. done.reads ≤ new_in self.old.text (record { lo = a; hi = b; put = new.now })) }
         ensures library { self.new.library ≡ self.old.library }
         ensures reads { IsOk (read_def self.new.text) }

@@ -1,1 +1,2 @@
 pub mod NetEntries
+pub mod Places

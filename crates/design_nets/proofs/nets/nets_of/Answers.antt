@@ -2,7 +2,7 @@ use Rattle.std.proofs.Common.{rules, map, refl, ap, ◌∙◌}
 use Rattle.connection_rules.specs.NetParts.{Net}
 use Rattle.design_rules.specs.Boxes.{scale}
 use Rattle.name_groups.specs.Groups.{Group}
-use Rattle.name_groups.specs.GroupViews.{group_view}
+use Rattle.net_entries.specs.Places.{net_group_view}
 use Rattle.net_entries.specs.NetEntries.{wired_group}
 use Rattle.net_entries.specs.declared.lent_entry.LentEntry.{LentEntry}
 use Rattle.design_nets.specs.NetGroups.{net_of_group}
@@ -14,7 +14,7 @@ loop-place-preserved g c =
     let library = c.args.library.now in
     let design = c.args.names.now in
     let u = scale design in
-    let gs = map group_view c.groups.inside.groups.entries in
+    let gs = map net_group_view c.groups.inside.groups.items in
     let group : Group LentEntry = record { name = c.at.result.0.now; members = c.at.result.1.now } in
     let here = rw (← c.groups.view_is) at c.at.ensures in
     let net = rw (c.requires.same, c.is_power.ensures library design u) at c.in_ok-put_net.ensures.net in
@@ -29,7 +29,7 @@ returns g c =
     let library = c.args.library.now in
     let design = c.args.names.now in
     let u = scale design in
-    let gs = map group_view c.groups.inside.groups.entries in
+    let gs = map net_group_view c.groups.inside.groups.items in
     let one : Group LentEntry → Net = λ x. net_of_group library design u (wired_group library design u x) in
     let wired = rw (c.records.ensures, ← c.groups.view_is) at (c.in_ok-groups.ensures.wired library design u) in
     no_net_more one gs c.loop-place.place c.loop-place.nets _ c.loop-place.invariant.nets (search rules)

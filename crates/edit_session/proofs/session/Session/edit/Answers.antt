@@ -1,4 +1,4 @@
-use Rattle.std.proofs.Common.{◌≡◌, ◌∙◌, ℕ, List, Ok, refl, ap, subst, sym}
+use Rattle.std.proofs.Common.{◌≡◌, ◌∙◌, ℕ, List, Ok, ap, subst, sym}
 use Rattle.std.specs.Prelude.{IfSome, IsOk}
 use Rattle.design_model.specs.declared.identifier.StmtId.{StmtId}
 use Rattle.def_grammar.specs.Records.{Record, read_def}
@@ -15,7 +15,7 @@ use Rattle.edit_session.proofs.session.Session.edit.Goals as goal
 pub returns-clause-answer : goal.returns-clause-answer
 returns-clause-answer g c =
     let edits = c.in_ok-made.ensures.edits in
-    rw (← c.self.view_is) (edits.0, edits.1, c.let_go.ensures.text ∙ edits.2, refl)
+    rw (← c.self.view_is) (edits.0, edits.1, c.let_go.ensures.text ∙ edits.2)
 
 pub returns-clause-applied : goal.returns-clause-applied
 returns-clause-applied g c =
