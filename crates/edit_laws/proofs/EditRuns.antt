@@ -56,7 +56,7 @@ module _ (applied_so : EditsAreApplied) where
   answered library old (design_edit change) (Err (Refused code)) new a reads = kept old new a.0 reads
   answered library old (design_edit change) (Err (Unreadable fault)) new a reads = absurd a
   answered library old (design_edit change) (Err Memory) new a reads = kept old new a.0 reads
-  answered library old (text_edit a b put) (Ok done) new e reads = accepted_reads (in_range old a b) (is_long (new_text old a b put)) (new_text old a b put) new e.0
+  answered library old (text_edit a b put) (Ok done) new e reads = accepted_reads (in_range old a b) (is_long (new_text old a b put)) (new_text old a b put) new e
   answered library old (text_edit a b put) (Err (Refused code)) new e reads = kept old new e.0 reads
   answered library old (text_edit a b put) (Err (Unreadable fault)) new e reads = kept old new e.0 reads
   answered library old (text_edit a b put) (Err Memory) new e reads = kept old new e.0 reads

@@ -31,7 +31,7 @@ returns g c =
     let u = scale design in
     let gs = map net_group_view c.groups.inside.groups.items in
     let one : Group LentEntry → Net = λ x. net_of_group library design u (wired_group library design u x) in
-    let wired = rw (c.records.ensures, ← c.groups.view_is) at (c.in_ok-groups.ensures.wired library design u) in
+    let wired = rw (c.records.ensures, ← c.groups.view_is) at (c.in_ok-groups.ensures.entries.wired library design u) in
     no_net_more one gs c.loop-place.place c.loop-place.nets _ c.loop-place.invariant.nets (search rules)
     ∙ by_two one gs c.loop-place.place c.loop-place.nets _ c.loop-place.invariant.nets (wired_group library design u) (net_of_group library design u) (λ h. refl)
     ∙ ap (map (net_of_group library design u)) wired
