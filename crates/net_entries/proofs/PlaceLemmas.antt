@@ -5,10 +5,9 @@ use Rattle.std.proofs.lemmas.Slice.Eq.{bytes_eq-Decides}
 use Rattle.std.specs.List.{list_any, position_or_len}
 use Rattle.std.specs.Str.{bytes_eq}
 use Rattle.indexmap.specs.IndexSet.{insert_key}
-use Rattle.name_keys.specs.declared.name.Name.{Name}
 use Rattle.name_groups.specs.Groups.{Group, with_member}
 use Rattle.form_meanings.specs.Firsts.{has_name, with_first}
-use Rattle.net_entries.specs.Places.{entries_listed, group_names, key_bytes, name_of_group, net_group_view, place_in, with_member_at}
+use Rattle.net_entries.specs.Places.{entries_listed, group_names, name_of_group, net_group_view, place_in, with_member_at}
 use Rattle.net_entries.specs.declared.lent_entry.LentEntry.{LentEntry}
 use Rattle.net_entries.specs.declared.net_groups.NetGroup.{NetGroup}
 
@@ -16,35 +15,26 @@ bytes_eq_sym : (a b : List ℕ) → bytes_eq a b ≡ bytes_eq b a
 bytes_eq_sym a b = grind (arith, bytes_eq-Decides)
 
 -- names as the keys of a set
-module _ (k : Name) where
-  abbrev is_key : Name → Bool
-  is_key x = bytes_eq k.bytes.now x.bytes.now
-
+module _ (k : List ℕ) where
   abbrev is_name : List ℕ → Bool
-  is_name n = bytes_eq n k.bytes.now
+  is_name n = bytes_eq n k
 
   -- the place of a key is that of its name
-  pub key_place : (ks : List Name) → position_or_len is_key ks ≡ place_in (map key_bytes ks) k.bytes.now
+  pub key_place : (ks : List (List ℕ)) → position_or_len (bytes_eq k) ks ≡ place_in ks k
   key_place [] = refl
   key_place (x ∷ ks) =
-      ap (λ b. cond (not b) (1 + position_or_len is_key ks) 0) (bytes_eq_sym k.bytes.now x.bytes.now)
-      ∙ ap (λ n. cond (not (bytes_eq x.bytes.now k.bytes.now)) (1 + n) 0) (key_place ks)
+      ap (λ b. cond (not b) (1 + position_or_len (bytes_eq k) ks) 0) (bytes_eq_sym k x)
+      ∙ ap (λ n. cond (not (bytes_eq x k)) (1 + n) 0) (key_place ks)
 
-  key_known : (ks : List Name) → list_any is_key ks ≡ list_any is_name (map key_bytes ks)
+  key_known : (ks : List (List ℕ)) → list_any (bytes_eq k) ks ≡ list_any is_name ks
   key_known [] = refl
   key_known (x ∷ ks) =
-      ap (λ b. b || list_any is_key ks) (bytes_eq_sym k.bytes.now x.bytes.now)
-      ∙ ap (λ (b : Bool). bytes_eq x.bytes.now k.bytes.now || b) (key_known ks)
-
-  put_by : (ks : List Name) (b : Bool) → map key_bytes (if b then ks else ks ++ k ∷ []) ≡ (if b then map key_bytes ks else map key_bytes ks ++ k.bytes.now ∷ [])
-  put_by ks true = refl
-  put_by ks false = map-append key_bytes ks (k ∷ [])
+      ap (λ b. b || list_any (bytes_eq k) ks) (bytes_eq_sym k x)
+      ∙ ap (λ (b : Bool). bytes_eq x k || b) (key_known ks)
 
   -- a key that is put in is the first of its name
-  pub key_put : (ks : List Name) → map key_bytes (insert_key (λ (a b : Name). bytes_eq a.bytes.now b.bytes.now) ks k) ≡ with_first (λ (n : List ℕ). n) (map key_bytes ks) k.bytes.now
-  key_put ks =
-      put_by ks (list_any is_key ks)
-      ∙ ap (λ (b : Bool). if b then map key_bytes ks else map key_bytes ks ++ k.bytes.now ∷ []) (key_known ks)
+  pub key_put : (ks : List (List ℕ)) → insert_key bytes_eq ks k ≡ with_first (λ (n : List ℕ). n) ks k
+  key_put ks = ap (λ (b : Bool). if b then ks else ks ++ k ∷ []) (key_known ks)
 
 one_more : (n : ℕ) → 1 + n ≡ suc n
 one_more n = omega arith

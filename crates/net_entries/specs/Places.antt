@@ -3,7 +3,6 @@ use Rattle.std.specs.Prelude.{ℕ, zero, suc, List, [], ◌∷◌, ◌++◌, map
 use Rattle.std.specs.List.{position_or_len}
 use Rattle.std.specs.Str.{bytes_eq}
 use Rattle.name_groups.specs.Groups.{Group}
-use Rattle.name_keys.specs.declared.name.Name.{Name}
 use Rattle.net_entries.specs.declared.entry_list.EntryList.{EntryList}
 use Rattle.net_entries.specs.declared.entry_list.EntryList.TheVariants.{One, Several}
 use Rattle.net_entries.specs.declared.lent_entry.LentEntry.{LentEntry}
@@ -18,10 +17,6 @@ name_of_group g = g.name
 
 abbrev pub group_names : {T : Type 0} → List (Group T) → List (List ℕ)
 group_names gs = map name_of_group gs
-
--- the bytes of a name that is a key
-abbrev pub key_bytes : Name → List ℕ
-key_bytes k = k.bytes.now
 
 abbrev pub entries_listed : {A : Type 0} → EntryList A → List LentEntry
 entries_listed (One e) = e ∷ []

@@ -16,7 +16,7 @@ use def_reader::statement::Statement;
 use std::alloc::{AllocError, Allocator};
 
 /// Puts an entry behind those of its net, if it speaks of one. The places are those of the groups.
-fn add_entry<'r, 't, P: NetPlaces<'t>, A: Allocator + Copy>(
+fn add_entry<'r, 't, P: NetPlaces, A: Allocator + Copy>(
     groups: &mut NetGroups<'r, 't, A>,
     places: &mut P,
     entry: &'r Entry<'t>,
@@ -34,7 +34,7 @@ fn add_entry<'r, 't, P: NetPlaces<'t>, A: Allocator + Copy>(
 
 /// The entries of NETS and of SPECIALNETS by the names of their nets, in the order of the text. Each net stands at the place that its
 /// name has among the places.
-pub fn entries_by_net<'r, 't, P: NetPlaces<'t>, A: Allocator + Copy>(
+pub fn entries_by_net<'r, 't, P: NetPlaces, A: Allocator + Copy>(
     alloc: A,
     records: &'r [Statement<'t>],
     places: &mut P,

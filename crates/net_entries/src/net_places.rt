@@ -5,39 +5,38 @@ ghost use Rattle.form_meanings.specs.Firsts.{with_first};
 ghost use Rattle.net_entries.specs.Places.{place_in};
 
 use indexmap::IndexSet;
-use name_keys::Name;
+use name_keys::OwnName;
 use std::alloc::{AllocError, Allocator, Global};
 use std::hash::RandomState;
 use std::marker::Model;
 
-/// Names of nets, each with a place, in the order in which they came.
-pub trait NetPlaces<'t> {
+/// Names of nets, each with a place, in the order in which they came. A name isn't lent to them.
+pub trait NetPlaces {
     ghost use Rattle.std.specs.Prelude.{List, ℕ};
 
     ghost names: { Self → List (List ℕ) };
 
     /// The place of a name, which is put behind the others if it has none.
-    fn place_of(&mut self, name: &'t [u8]) -> Result<usize, AllocError>
+    fn place_of(&mut self, name: &[u8]) -> Result<usize, AllocError>
         ensures place { IfOk result (λ n. n ≡ place_in (names self.old) name.now) }
         ensures named { OnOk result (names self.new ≡ with_first (λ n. n) (names self.old) name.now) };
 }
 
-/// Names of nets alone.
+/// Names of nets alone, which it copies.
 #[derive(Drop)]
-pub struct NamePlaces<'t, A: Allocator = Global> {
-    names: IndexSet<Name<'t>, RandomState, A>,
+pub struct NamePlaces<A: Allocator = Global> {
+    names: IndexSet<OwnName<A>, RandomState, A>,
 }
 
-impl<'t, A: Allocator> Model for NamePlaces<'t, A> {
-    ghost use Rattle.std.specs.Prelude.{List, ℕ, map};
-    ghost use Rattle.net_entries.specs.Places.{key_bytes};
+impl<A: Allocator> Model for NamePlaces<A> {
+    ghost use Rattle.std.specs.Prelude.{List, ℕ};
 
     ghost Value = { List (List ℕ) };
 
-    ghost view = { λ p. map key_bytes p.names.keys };
+    ghost view = { λ p. p.names.keys };
 }
 
-impl<'t, A: Allocator + Copy> NamePlaces<'t, A> {
+impl<A: Allocator + Copy> NamePlaces<A> {
     /// No names. It takes no memory.
     pub fn new(alloc: A, hash_builder: RandomState) -> Self
         ensures { result ≡ [] }
@@ -48,11 +47,12 @@ impl<'t, A: Allocator + Copy> NamePlaces<'t, A> {
     }
 }
 
-impl<'t, A: Allocator> NetPlaces<'t> for NamePlaces<'t, A> {
+impl<A: Allocator + Copy> NetPlaces for NamePlaces<A> {
     ghost names = { λ p. p };
 
-    fn place_of(&mut self, name: &'t [u8]) -> Result<usize, AllocError> {
-        let (place, _) = self.names.insert_full(Name { bytes: name })?;
+    fn place_of(&mut self, name: &[u8]) -> Result<usize, AllocError> {
+        let key = OwnName::copy_of(*self.names.allocator(), name)?;
+        let (place, _) = self.names.insert_full(key)?;
         Ok(place)
     }
 }
