@@ -1,0 +1,74 @@
+-- How many pairs of rectangles are compared at most for an edit.
+use Rattle.std.specs.Prelude.{◌≡◌, ◌+◌, ◌≤◌, ℕ, Bool, true, false, List, [], ◌∷◌, ◌++◌, length, count_by, sum_by, MatchOption, Option, Some, None}
+use Rattle.std.specs.List.{AllByRecursion, list_any}
+use Rattle.std.specs.Str.{bytes_eq}
+use Rattle.def_grammar.specs.Records.{Record}
+use Rattle.lef_grammar.specs.Library.{Library}
+use Rattle.design_rules.specs.Boxes.{Boxed, boxes}
+use Rattle.edit_rules.specs.Edits.{Change, of_component, of_net, of_section}
+use Rattle.edit_rules.specs.SectionEdits.{add_blockage, add_component, remove_component}
+use Rattle.net_laws.specs.NetExchanges.{finds}
+use Rattle.net_laws.specs.NetsTold.{terminals_in}
+use Rattle.shape_index.specs.Near.{are_near}
+use Rattle.staying_laws.specs.PlaceStatements.{boxes_among}
+use Rattle.followed_nets.specs.Tests.{near_pairs}
+
+-- what an edit is of: a net, or a component
+pub data Subject : Type 0 where
+  one_net : List ℕ → Subject
+  one_component : List ℕ → Subject
+
+abbrev pub subject_of : Change → Option Subject
+subject_of (of_component name change) = Some (one_component name)
+subject_of (of_net name change) = Some (one_net name)
+subject_of (of_section (add_component name cell)) = Some (one_component name)
+subject_of (of_section (remove_component name)) = Some (one_component name)
+subject_of (of_section (add_blockage layer x1 y1 x2 y2)) = None
+
+-- it touches a net of a design: it is that net, or lists that component
+abbrev pub is_touched : List Record → Option Subject → List ℕ → Bool
+is_touched design None name = false
+is_touched design (Some (one_net net)) name = bytes_eq name net
+is_touched design (Some (one_component c)) name = list_any (finds c) (terminals_in design name)
+
+-- each component of a design among some statements, with each whose box is near its own, itself too
+abbrev pub near_boxes : Library → List Record → List Record → ℕ
+near_boxes library design some = sum_by (λ (b : Boxed). count_by (λ (c : Boxed). are_near b.box c.box) (boxes library design)) (boxes_among library design some)
+
+-- statements that went out of a design, and those that came in for them
+pub record Exchanged : Type 0 where
+  pub went : List Record
+  pub came : List Record
+
+-- exchanges that were made one after the other, each of few statements, and how many pairs of boxes are near in all
+abbrev pub AreNearIn : Library → List Record → List Exchanged → List Record → ℕ → Type 0
+AreNearIn library old [] new pairs = (new ≡ old) × (pairs ≡ 0)
+AreNearIn library old (x ∷ xs) new pairs =
+    (front : List Record)
+    × (behind : List Record)
+    × (later : ℕ)
+    × (old ≡ front ++ (x.went ++ behind))
+    × (length x.went ≤ 256)
+    × (length x.came ≤ 256)
+    × (pairs ≡ near_boxes library old x.went + near_boxes library (front ++ (x.came ++ behind)) x.came + later)
+    × AreNearIn library (front ++ (x.came ++ behind)) xs new later
+
+-- so many pairs of boxes are near where the lines on components followed an edit; else none is compared
+abbrev pub FewBoxes : Library → List Record → List Record → ℕ → Type 0
+FewBoxes library old new tests =
+    (pairs : ℕ) × (exchanges : Option (List Exchanged)) × MatchOption exchanges (pairs ≡ 0) (λ xs. AreNearIn library old xs new pairs) × (tests ≤ pairs)
+
+-- each of some nets is touched, and so many pairs of shapes are near
+pub record FewShapes (library : Library) (old new : List Record) (subject : Option Subject) (tests : ℕ) : Type 0 where
+  pub nets : List (List ℕ)
+  pub are_touched : AllByRecursion (λ name. is_touched old subject name ≡ true) nets
+  pub few : tests ≤ near_pairs library old nets + near_pairs library new nets
+
+-- Shapes of nets that the edit touches are compared with shapes near them, as they were and as they are then; so are boxes of components
+-- that go or come; and nothing else.
+pub record TestsFew (library : Library) (old new : List Record) (subject : Option Subject) (tests : ℕ) : Type 0 where
+  pub by_shapes : ℕ
+  pub by_boxes : ℕ
+  pub shapes : FewShapes library old new subject by_shapes
+  pub boxes : FewBoxes library old new by_boxes
+  pub few : tests ≤ by_shapes + by_boxes
