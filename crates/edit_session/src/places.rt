@@ -79,7 +79,7 @@ fn followed<'t, A: Allocator + Copy>(
             return None;
         }
         match places.follow(alloc, library, text, exchange, kept) {
-            Ok(Some(lines)) => kept = lines,
+            Ok(Some(found)) => kept = found.lines,
             _ => return None,
         }
     }

@@ -1,6 +1,5 @@
 -- Components that go out of those whose boxes are kept, and others that come in.
-use Rattle.std.proofs.Common.{◌≡◌, ℕ, List, [], ◌∷◌, ◌++◌, map, sum_by, Option, Some, None, Result, Ok, Err, refl, sym, ap, arith}
-use Rattle.std.specs.Prelude.{IfOk, IfSome}
+use Rattle.std.proofs.Common.{◌≡◌, ◌≤◌, ◌+◌, ℕ, List, [], ◌∷◌, ◌++◌, map, sum_by, Option, refl, sym, ap, arith}
 use Rattle.std.proofs.lemmas.List.Sums.{sum_by-append}
 use Rattle.design_model.specs.declared.identifier.StmtId.{StmtId}
 use Rattle.design_model.specs.Geometry.{Rectangle}
@@ -16,12 +15,9 @@ use Rattle.text_pieces.specs.Tables.{Kept}
 use Rattle.followed_places.specs.Lines.{AreBoxesOf, Awaits, boxed_under}
 use Rattle.followed_places.specs.Placed.{component_of, placed_view}
 use Rattle.followed_places.specs.Places.{components_under, place_under}
+use Rattle.followed_places.specs.Tests.{near_sum}
 use Rattle.followed_places.specs.declared.components.Placed.{Placed}
-
-pub always : {A E : Type 0} (P : Type 0) (r : Result (Option A) E) → P → IfOk r (λ found. IfSome found (λ a. P))
-always P (Ok (Some a)) p = p
-always P (Ok None) p = tt
-always P (Err e) p = tt
+use Rattle.followed_places.proofs.NearSums.{near_sum_same}
 
 same_components : (ps : List Placed) → map (λ (x : StmtId × Boxed). x.1) (map placed_view ps) ≡ map component_of ps
 same_components [] = refl
@@ -30,6 +26,21 @@ same_components (p ∷ ps) = ap (λ (bs : List Boxed). component_of p ∷ bs) (s
 same_places : (ps : List Placed) → map (λ p. place_under (placed_view p)) ps ≡ map place_under (map placed_view ps)
 same_places [] = refl
 same_places (p ∷ ps) = ap (λ (bs : List (StmtId × Rectangle)). place_under (placed_view p) ∷ bs) (same_places ps)
+
+-- each that goes or comes is compared with those that are left alone
+pub few_compared : (library : Library) (u : ℕ) (slots : List (Option Kept)) (went came : List Placed) (stay : List StmtId) (left : List (StmtId × Rectangle)) (out put tests : ℕ) → AreBoxesOf library u slots stay left
+    → out ≤ near_sum left (map place_under (map placed_view went)) → put ≤ near_sum left (map place_under (map placed_view came)) → tests ≤ out + put
+    → tests ≤ near_sum (map place_under (components_under library u (records_under slots stay))) (map place_under (map placed_view went)) + near_sum (map place_under (components_under library u (records_under slots stay))) (map place_under (map placed_view came))
+few_compared library u slots went came stay left out put tests are out_few put_few few =
+    let these = map place_under (components_under library u (records_under slots stay)) in
+    omega (
+      arith,
+      out_few,
+      put_few,
+      few,
+      near_sum_same left these (map place_under (map placed_view went)) are.boxes_are,
+      near_sum_same left these (map place_under (map placed_view came)) are.boxes_are,
+    )
 
 module _ (library : Library) (u : ℕ) (slots : List (Option Kept)) (stay : List StmtId) (s : Surroundings) (outs : List Rectangle)
     (went came : List Placed) (boxes : List (StmtId × Rectangle)) (kept after : List (List ℕ))

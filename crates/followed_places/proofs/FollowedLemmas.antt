@@ -1,5 +1,5 @@
 -- What is noted of a text whose statements are exchanged.
-use Rattle.std.proofs.Common.{◌≡◌, ◌<◌, ◌≤◌, ◌||◌, ℕ, Bool, true, false, List, [], ◌∷◌, ◌++◌, filter, flat_map, map, sum_by, Option, Some, None, Result, Ok, Err, refl, sym, subst, ap, ap₂, ◌∙◌, arith, if◌then◌else◌}
+use Rattle.std.proofs.Common.{◌≡◌, ◌<◌, ◌≤◌, ◌+◌, ◌||◌, ℕ, Bool, true, false, List, [], ◌∷◌, ◌++◌, filter, flat_map, map, sum_by, Option, Some, None, Result, Ok, Err, refl, sym, subst, ap, ap₂, ◌∙◌, arith, if◌then◌else◌}
 use Rattle.std.specs.Prelude.{IfOk, IfSome}
 use Rattle.std.specs.List.{cons_option, filter_map, list_any}
 use Rattle.std.specs.Option.{option_map}
@@ -28,6 +28,8 @@ use Rattle.design_text.specs.Exchanges.{Exchanged, IsExchange}
 use Rattle.design_text.proofs.KeptExchanges.{pieces-append}
 use Rattle.followed_places.specs.Lines.{Awaits, boxed_under}
 use Rattle.followed_places.specs.Places.{AreFollowed, Places, component_under, components_under, place_under, said}
+use Rattle.followed_places.specs.Tests.{near_pairs, near_sum}
+use Rattle.followed_places.proofs.NearSums.{near_sum_part}
 
 abbrev surrounds : StmtId × Record → Bool
 surrounds x = is_surrounding x.1
@@ -96,6 +98,12 @@ pub both_found : {A E : Type 0} (P R : A → Type 0) (Q : Type 0) (r : Result (O
 both_found P R Q (Ok (Some a)) f p q = f a p q
 both_found P R Q (Ok None) f p q = tt
 both_found P R Q (Err e) f p q = tt
+
+-- what one says
+pub as_found : {A E : Type 0} (P R : A → Type 0) (r : Result (Option A) E) → ((a : A) → P a → R a) → IfOk r (λ found. IfSome found P) → IfOk r (λ found. IfSome found R)
+as_found P R (Ok (Some a)) f p = f a p
+as_found P R (Ok None) f p = tt
+as_found P R (Err e) f p = tt
 
 -- the components among statements
 seconds : (library : Library) (u : ℕ) (rs : List (StmtId × Record)) → map (λ x. x.1) (components_under library u rs) ≡ filter_map (box_of library u) (said rs)
@@ -264,6 +272,17 @@ module _ (library : Library) (slots : List (Option Kept)) (old new : List (StmtI
           some = rw (← same_scale) f.some;
           few = rw (← same_scale) f.few;
         }
+
+        -- those that stay are part of those before and of those after
+        pub few_tests : (n : ℕ) → n ≤ near_sum (map place_under (components_under library u (these stay))) (map place_under went) + near_sum (map place_under (components_under library u (these stay))) (map place_under came)
+            → n ≤ near_pairs library old (these x.went) + near_pairs library new (these x.came)
+        few_tests n few =
+            let boxes_of = λ (rs : List (StmtId × Record)). map place_under (components_under library u rs) in
+            let before = near_sum_part (boxes_of old) (boxes_of (these x.went)) (boxes_of (these stay)) (map place_under went) (places_parted u old x.went e.old_is) in
+            let after = near_sum_part (boxes_of new) (boxes_of (these x.came)) (boxes_of (these stay)) (map place_under came) (places_parted u new x.came e.new_is) in
+            let old_pairs : near_sum (boxes_of old) (map place_under went) ≡ near_pairs library old (these x.went) = rw (went_are, f.places.scale_is) refl in
+            let new_pairs : near_sum (boxes_of new) (map place_under came) ≡ near_pairs library new (these x.came) = rw (came_are, f.places.scale_is, same_scale) refl in
+            omega (arith, few, before, after, old_pairs, new_pairs)
 
       -- where no component went and none came, the lines stay
       pub stays : SameLinesSortAlike → [] ≡ components_under library u (these x.went) → [] ≡ components_under library u (these x.came)

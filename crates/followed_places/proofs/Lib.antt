@@ -2,4 +2,5 @@ mod ComponentLemmas
 mod ExchangeLemmas
 mod FollowedLemmas
 mod MetLemmas
+mod NearSums
 mod OthersMet

@@ -1,6 +1,5 @@
 -- Components of a text whose boxes meet a rectangle, by sums over the numbers of statements.
-use Rattle.std.proofs.Common.{◌≡◌, ◌≤◌, ◌<◌, ◌+◌, ℕ, Bool, true, false, cond, eqb, List, [], ◌∷◌, Option, Some, None, Result, Ok, Err, refl, sym, ap, subst, ◌∙◌, arith, map, sum_by, filter, ⊎_elim}
-use Rattle.std.specs.Prelude.{IfOk}
+use Rattle.std.proofs.Common.{◌≡◌, ◌≤◌, ◌<◌, ◌+◌, ℕ, Bool, true, false, cond, eqb, List, [], ◌∷◌, Option, Some, None, refl, sym, ap, subst, ◌∙◌, arith, map, sum_by, filter, ⊎_elim}
 use Rattle.std.specs.List.{filter_map, cons_option}
 use Rattle.std.specs.Option.{option_map}
 use Rattle.std.proofs.lemmas.Bool.{cases_Bool as cases, eq-eqb, eqb-true}
@@ -138,9 +137,3 @@ module _ (library : Library) (u : ℕ) (slots : List (Option Kept)) (ids : List 
           ∙ sym (sum_by-map v (λ (c : StmtId × Boxed). c.1) (components_under library u (records_under slots ids)))
           ∙ sym (sum_by-filter w (λ (b : Boxed). meets b.box r) (boxed_under library u slots ids));
     }
-
-    -- and so where there was memory for them
-    pub met_boxes : {V E : Type 0} (items : V → List Boxed) (r' : Result V E) (records : List Record) (ids' : List StmtId) → ids' ≡ found → records ≡ map record_under ids' → IfOk r' (λ v. items v ≡ filter_map (box_of library u) records)
-        → IfOk r' (λ v. SameThings (items v) (filter (λ b. meets b.box r) (boxed_under library u slots ids)))
-    met_boxes items (Ok v) records ids' same read is = found_boxes records (items v) (read ∙ ap (map record_under) same) is
-    met_boxes items (Err e) records ids' same read is = tt

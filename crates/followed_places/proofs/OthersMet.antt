@@ -100,7 +100,7 @@ one_more s outs stay met rest c old new all those is so_far =
           );
     }
 
-left_from : (xs : List Placed) (i : ℕ) (x : Placed) → i < length xs → x ≡ get_or xs i x → drop i xs ≡ x ∷ drop (i + 1) xs
+pub left_from : (xs : List Placed) (i : ℕ) (x : Placed) → i < length xs → x ≡ get_or xs i x → drop i xs ≡ x ∷ drop (i + 1) xs
 left_from xs i x below is = rw (add-one, drop-cons xs i x, ← is) refl
 
 pub one_of_components : (s : Surroundings) (outs : List Rectangle) (stay met others : List Boxed) (components : List Placed) (i : ℕ) (x : Placed) (old new all : List (List ℕ))

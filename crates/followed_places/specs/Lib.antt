@@ -1,3 +1,4 @@
 pub mod Lines
 pub mod Placed
 pub mod Places
+pub mod Tests

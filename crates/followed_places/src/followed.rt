@@ -1,6 +1,6 @@
 //! The components of a text that are noted, and the lines on them that follow.
 
-ghost use Rattle.std.specs.Prelude.{◌≡◌, ◌<◌, ◌≤◌, ◌++◌, [], IfOk, IfSome, IsTrue, List, OnOk, false, map};
+ghost use Rattle.std.specs.Prelude.{◌≡◌, ◌<◌, ◌≤◌, ◌+◌, ◌++◌, [], IfOk, IfSome, IsTrue, List, OnOk, false, map};
 ghost use Rattle.std.specs.List.{list_any};
 ghost use Rattle.design_model.specs.declared.identifier.StmtId.{StmtId as Number};
 ghost use Rattle.design_model.specs.Order.{sorted_by_bytes};
@@ -18,6 +18,7 @@ ghost use Rattle.design_text.specs.Exchanges.{IsExchange, exchange_view, records
 ghost use Rattle.followed_places.specs.Lines.{Awaits};
 ghost use Rattle.followed_places.specs.Placed.{placed_view};
 ghost use Rattle.followed_places.specs.Places.{AreFollowed, HasPlaces, components_under, place_under, said};
+ghost use Rattle.followed_places.specs.Tests.{near_pairs, near_sum};
 
 use crate::around::{Around, KeptAround, is_any_surrounding, numbers_around};
 use crate::components::{Placed, boxes_of, components_of, insert_all, remove_all};
@@ -54,6 +55,14 @@ impl<A: Allocator> Model for FollowedPlaces<A> {
     ghost Value = { Places };
 
     ghost view = { λ p. record { boxes = p.boxes; surroundings = p.around.surroundings; keep_outs = map rectangle_of p.around.keep_outs.items; scale = p.around.scale } };
+}
+
+/// The lines on components after an exchange of statements.
+#[derive(Drop)]
+pub struct FollowedOnPlaces<A: Allocator = Global> {
+    pub lines: KeptLines<A>,
+    /// How many boxes were compared for them.
+    pub tests: u64,
 }
 
 /// The components that go out of a text and come in by an edit, and what stands round them before and after it.
@@ -130,14 +139,16 @@ fn exchanged<'t, A: Allocator + Copy>(
     change: &Change<'t, A>,
     boxes: &mut StatementBoxes<A>,
     kept: KeptLines<A>,
-) -> Result<Option<KeptLines<A>>, AllocError>
+) -> Result<Option<FollowedOnPlaces<A>>, AllocError>
     requires some { 0 < change.now.around.scale }
     requires few { change.now.around.scale ≤ 100000 }
     requires awaits { (stay : List Number) × (after : List _) × Awaits library.now change.now.around.scale text.now.pieces.table.slots stay (surroundings_view change.now.around.surroundings) (map rectangle_of change.now.around.keep_outs.now) (map placed_view change.now.went.items) (map placed_view change.now.came.items) boxes.old kept.lines after }
     ensures lines { (stay : List Number) (after : List _) → Awaits library.now change.now.around.scale text.now.pieces.table.slots stay (surroundings_view change.now.around.surroundings) (map rectangle_of change.now.around.keep_outs.now) (map placed_view change.now.went.items) (map placed_view change.now.came.items) boxes.old kept.lines after
-        → IfOk result (λ found. IfSome found (λ k. k.lines ≡ sorted_by_bytes after)) }
+        → IfOk result (λ found. IfSome found (λ f. f.lines.lines ≡ sorted_by_bytes after)) }
     ensures boxes { (stay : List Number) (after : List _) → Awaits library.now change.now.around.scale text.now.pieces.table.slots stay (surroundings_view change.now.around.surroundings) (map rectangle_of change.now.around.keep_outs.now) (map placed_view change.now.went.items) (map placed_view change.now.came.items) boxes.old kept.lines after
         → IfOk result (λ found. IfSome found (λ _. SameThings boxes.new (map place_under (map placed_view change.now.came.items) ++ map place_under (components_under library.now change.now.around.scale (records_under text.now.pieces.table.slots stay))))) }
+    ensures tests { (stay : List Number) (after : List _) → Awaits library.now change.now.around.scale text.now.pieces.table.slots stay (surroundings_view change.now.around.surroundings) (map rectangle_of change.now.around.keep_outs.now) (map placed_view change.now.went.items) (map placed_view change.now.came.items) boxes.old kept.lines after
+        → IfOk result (λ found. IfSome found (λ f. f.tests ≤ near_sum (map place_under (components_under library.now change.now.around.scale (records_under text.now.pieces.table.slots stay))) (map place_under (map placed_view change.now.went.items)) + near_sum (map place_under (components_under library.now change.now.around.scale (records_under text.now.pieces.table.slots stay))) (map place_under (map placed_view change.now.came.items)))) }
 {
     same_lines_follow();
     if !remove_all(boxes, &change.went) {
@@ -147,7 +158,11 @@ fn exchanged<'t, A: Allocator + Copy>(
     let out = lines_of(alloc, library, text, around, boxes, &change.went)?;
     let put = lines_of(alloc, library, text, around, boxes, &change.came)?;
     insert_all(boxes, &change.came)?;
-    kept.followed(out, put, MOST_MOVED)
+    let tests = out.tests.saturating_add(put.tests);
+    let Some(lines) = kept.followed(out.lines, put.lines, MOST_MOVED)? else {
+        return Ok(None);
+    };
+    Ok(Some(FollowedOnPlaces { lines, tests }))
 }
 
 impl<A: Allocator + Copy> FollowedPlaces<A> {
@@ -177,10 +192,12 @@ impl<A: Allocator + Copy> FollowedPlaces<A> {
         text: &'t DesignText<A>,
         exchange: Exchange<'_>,
         kept: KeptLines<A>,
-    ) -> Result<Option<KeptLines<A>>, AllocError>
+    ) -> Result<Option<FollowedOnPlaces<A>>, AllocError>
         requires { (old : List (Number × Record)) × (new : List (Number × Record)) × IsExchange text.now.pieces.table.slots old new (exchange_view exchange) × AreFollowed library.now old self.old kept }
-        ensures { (old new : List (Number × Record)) → IsExchange text.entry.now.pieces.table.slots old new (exchange_view exchange.entry) → AreFollowed library.entry.now old self.old kept
-            → IfOk result (λ found. IfSome found (AreFollowed library.entry.now new self.new)) }
+        ensures followed { (old new : List (Number × Record)) → IsExchange text.entry.now.pieces.table.slots old new (exchange_view exchange.entry) → AreFollowed library.entry.now old self.old kept
+            → IfOk result (λ found. IfSome found (λ f. AreFollowed library.entry.now new self.new f.lines)) }
+        ensures tests { (old new : List (Number × Record)) → IsExchange text.entry.now.pieces.table.slots old new (exchange_view exchange.entry) → AreFollowed library.entry.now old self.old kept
+            → IfOk result (λ found. IfSome found (λ f. f.tests ≤ near_pairs library.entry.now old (records_under text.entry.now.pieces.table.slots (exchange_view exchange.entry).went) + near_pairs library.entry.now new (records_under text.entry.now.pieces.table.slots (exchange_view exchange.entry).came))) }
     {
         surroundings_are_told();
         components_are_exchanged();
@@ -194,7 +211,10 @@ impl<A: Allocator + Copy> FollowedPlaces<A> {
         };
         // An edit of a net exchanges none.
         if are_none(&went, &came) {
-            return Ok(Some(kept));
+            return Ok(Some(FollowedOnPlaces {
+                lines: kept,
+                tests: 0,
+            }));
         }
         let around = self.around.lent(alloc)?;
         let change = Change { around, went, came };

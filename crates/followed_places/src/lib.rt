@@ -4,6 +4,7 @@
 //! components. For each exchange of statements that an edit of the text was made by, `follow` looks at those that went out and at those
 //! that came in: unless one of them is of what stands round components, it exchanges in lines that are kept the lines on their
 //! components, with those components alone whose boxes meet theirs. It reads these statements, and no others.
+//! It counts the boxes that it compares: no more than the `near_pairs` of `specs/Tests`, before the exchange and after it.
 //!
 //! What is noted is `HasPlaces` of `specs/Places`, and with the kept lines `AreFollowed`. Statements are asked of
 //! `design_text` by their numbers, lines are those of `place_checks`, and that they follow is a law of `staying_laws`.
@@ -16,4 +17,4 @@ mod components;
 mod followed;
 mod own_lines;
 
-pub use followed::FollowedPlaces;
+pub use followed::{FollowedOnPlaces, FollowedPlaces};

@@ -8,8 +8,11 @@ ghost use Rattle.line_laws.specs.Lines.{SameLines, SameThings};
 ghost use Rattle.place_checks.specs.IndexViews.{surroundings_view};
 ghost use Rattle.place_checks.specs.Views.{boxed_view};
 ghost use Rattle.shape_rules.specs.Meeting.{meets};
+ghost use Rattle.statement_boxes.specs.Boxes.{near_count};
 ghost use Rattle.followed_places.specs.Lines.{AreBoxesOf, boxed_under};
-ghost use Rattle.followed_places.specs.Placed.{component_of};
+ghost use Rattle.followed_places.specs.Placed.{component_of, placed_view};
+ghost use Rattle.followed_places.specs.Places.{place_under};
+ghost use Rattle.followed_places.specs.Tests.{near_sum};
 
 use crate::around::Around;
 use crate::components::Placed;
@@ -19,9 +22,17 @@ use design_text::text::DesignText;
 use place_checks::boxes::boxes_among;
 use place_checks::one::put_own_lines;
 use place_checks::placed_box::PlacedBox;
-use report_lines::Lines;
+use report_lines::{Checked, Lines};
 use statement_boxes::StatementBoxes;
 use std::alloc::{AllocError, Allocator};
+
+/// The components whose boxes meet a rectangle.
+#[derive(Drop)]
+struct MetComponents<'t, A: Allocator> {
+    components: Vec<PlacedBox<'t>, A>,
+    /// How many boxes were compared.
+    compared: u64,
+}
 
 /// The components of a text whose boxes meet a rectangle. They alone are read.
 fn met<'t, A: Allocator + Copy>(
@@ -31,16 +42,22 @@ fn met<'t, A: Allocator + Copy>(
     text: &'t DesignText<A>,
     boxes: &StatementBoxes<A>,
     rect: Rect,
-) -> Result<Vec<PlacedBox<'t>, A>, AllocError>
+) -> Result<MetComponents<'t, A>, AllocError>
     requires some { 0 < scale }
     requires few { scale ≤ 100000 }
     requires kept { (ids : List Number) × AreBoxesOf library.now scale text.now.pieces.table.slots ids boxes.now }
-    ensures { (ids : List Number) → AreBoxesOf library.now scale text.now.pieces.table.slots ids boxes.now
-        → IfOk result (λ v. SameThings (map boxed_view v.items) (filter (λ b. meets b.box (rectangle_of rect)) (boxed_under library.entry.now scale text.entry.now.pieces.table.slots ids))) }
+    ensures components { (ids : List Number) → AreBoxesOf library.now scale text.now.pieces.table.slots ids boxes.now
+        → IfOk result (λ m. SameThings (map boxed_view m.components.items) (filter (λ b. meets b.box (rectangle_of rect)) (boxed_under library.entry.now scale text.entry.now.pieces.table.slots ids))) }
+    ensures compared { IfOk result (λ m. m.compared ≤ near_count (rectangle_of rect) boxes.now) }
 {
     let found = boxes.met(alloc, rect)?;
     let statements = text.kept(alloc, &found.ids)?;
-    boxes_among(alloc, library, scale, &statements)
+    let components = boxes_among(alloc, library, scale, &statements)?;
+    let compared = found.compared;
+    Ok(MetComponents {
+        components,
+        compared,
+    })
 }
 
 /// Puts components behind others.
@@ -56,7 +73,8 @@ fn push_components<'t, A: Allocator>(
     Ok(())
 }
 
-/// The lines on components: with one another, with those whose boxes are kept, in what stands round them, and on what keeps them out.
+/// The lines on components: with one another, with those whose boxes are kept, in what stands round them, and on what keeps them out; and
+/// how many of the boxes that are kept were compared with theirs.
 pub(crate) fn lines_of<'t, A: Allocator + Copy>(
     alloc: A,
     library: &'t Library<'_, A>,
@@ -64,17 +82,21 @@ pub(crate) fn lines_of<'t, A: Allocator + Copy>(
     around: &Around<'t, A>,
     boxes: &StatementBoxes<A>,
     components: &[Placed<'t>],
-) -> Result<Lines<A>, AllocError>
+) -> Result<Checked<A>, AllocError>
     requires some { 0 < around.now.scale }
     requires few { around.now.scale ≤ 100000 }
     requires kept { (ids : List Number) × AreBoxesOf library.now around.now.scale text.now.pieces.table.slots ids boxes.now }
-    ensures { (ids : List Number) → AreBoxesOf library.now around.now.scale text.now.pieces.table.slots ids boxes.now
-        → IfOk result (λ lines. SameLines lines (lines_of_components (surroundings_view around.now.surroundings) (map component_of components.now) (boxed_under library.now around.now.scale text.now.pieces.table.slots ids) (map rectangle_of around.now.keep_outs.now) [])) }
+    ensures lines { (ids : List Number) → AreBoxesOf library.now around.now.scale text.now.pieces.table.slots ids boxes.now
+        → IfOk result (λ c. SameLines c.lines (lines_of_components (surroundings_view around.now.surroundings) (map component_of components.now) (boxed_under library.now around.now.scale text.now.pieces.table.slots ids) (map rectangle_of around.now.keep_outs.now) [])) }
+    ensures tests { IfOk result (λ c. c.tests ≤ near_sum boxes.now (map place_under (map placed_view components.now))) }
 {
     let scale = around.scale;
     let mut lines = Lines::new(alloc);
+    let mut tests = 0_u64;
     for (place, one) in components.iter().enumerate() {
-        let mut others = met(alloc, library, scale, text, boxes, one.component.rect)?;
+        let found = met(alloc, library, scale, text, boxes, one.component.rect)?;
+        tests = tests.saturating_add(found.compared);
+        let mut others = found.components;
         push_components(&mut others, &components[place + 1..])?;
         put_own_lines(
             alloc,
@@ -85,5 +107,5 @@ pub(crate) fn lines_of<'t, A: Allocator + Copy>(
             &mut lines,
         )?;
     }
-    Ok(lines)
+    Ok(Checked { lines, tests })
 }

@@ -14,7 +14,7 @@ pub loop-place-preserved : goal.loop-place-preserved
 loop-place-preserved g c =
     let i = c.loop-place.invariant in
     let next = next_exchange c.args.text.now i.0 (records_in c.args.text.now) c.args.made.now.exchanges c.loop-place.place (exchange_view c.in_ok-exchange.exchange) c.in_ok-exchange.ensures i.1 in
-    (next.0, next.2, rw (c.in-Ok-Some.field-0-is) at (c.in-Ok-Some.ensures i.0 next.0 next.1 i.2))
+    (next.0, next.2, rw (c.in-Ok-Some.field-0-is) at (c.in-Ok-Some.ensures.followed i.0 next.0 next.1 i.2))
 
 pub returns : goal.returns
 returns g c =

@@ -1,14 +1,19 @@
-use Rattle.std.proofs.Common.{List, [], ◌++◌, drop, map}
+use Rattle.std.proofs.Common.{◌≤◌, ◌+◌, List, [], ◌++◌, drop, map}
 use Rattle.design_model.specs.Views.{rectangle_of}
 use Rattle.design_model.specs.declared.identifier.StmtId.{StmtId}
 use Rattle.following_laws.specs.DesignLaws.{lines_of_components}
 use Rattle.line_laws.specs.Lines.{SameLines}
 use Rattle.place_checks.specs.IndexViews.{surroundings_view}
 use Rattle.followed_places.specs.Lines.{AreBoxesOf, boxed_under}
-use Rattle.followed_places.specs.Placed.{component_of}
+use Rattle.followed_places.specs.Placed.{component_of, placed_view}
+use Rattle.followed_places.specs.Places.{place_under}
+use Rattle.followed_places.specs.Tests.{near_sum}
 use Rattle.followed_places.proofs.own_lines.lines_of.Given as goal
 
 abbrev pub invariant-loop-place : goal.invariant-loop-place
-invariant-loop-place g l = (ids : List StmtId) → AreBoxesOf l.library l.around.scale l.text.pieces.table.slots ids l.boxes
-    → SameLines (l.lines ++ lines_of_components (surroundings_view l.around.surroundings) (map component_of (drop l.place l.components)) (boxed_under l.library l.around.scale l.text.pieces.table.slots ids) (map rectangle_of l.around.keep_outs.now) [])
-    (lines_of_components (surroundings_view l.around.surroundings) (map component_of l.components) (boxed_under l.library l.around.scale l.text.pieces.table.slots ids) (map rectangle_of l.around.keep_outs.now) [])
+invariant-loop-place g l = record {
+  lines : (ids : List StmtId) → AreBoxesOf l.library l.around.scale l.text.pieces.table.slots ids l.boxes
+      → SameLines (l.lines ++ lines_of_components (surroundings_view l.around.surroundings) (map component_of (drop l.place l.components)) (boxed_under l.library l.around.scale l.text.pieces.table.slots ids) (map rectangle_of l.around.keep_outs.now) [])
+      (lines_of_components (surroundings_view l.around.surroundings) (map component_of l.components) (boxed_under l.library l.around.scale l.text.pieces.table.slots ids) (map rectangle_of l.around.keep_outs.now) []);
+  tests : l.tests + near_sum l.boxes (map place_under (map placed_view (drop l.place l.components))) ≤ near_sum l.boxes (map place_under (map placed_view l.components));
+}

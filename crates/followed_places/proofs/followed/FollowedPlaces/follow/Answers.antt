@@ -3,7 +3,7 @@ use Rattle.staying_laws.specs.Staying.{lines_on_places}
 use Rattle.design_text.specs.Exchanges.{exchange_view}
 use Rattle.followed_places.specs.Placed.{placed_view}
 use Rattle.followed_places.specs.Places.{said}
-use Rattle.followed_places.proofs.FollowedLemmas.{awaits, both_found, few_units, follows, some_units, stay, stays}
+use Rattle.followed_places.proofs.FollowedLemmas.{as_found, awaits, both_found, few_tests, few_units, follows, some_units, stay, stays}
 use Rattle.followed_places.proofs.followed.FollowedPlaces.follow.Goals as goal
 
 pub loose_components-requires-clause-some : goal.loose_components-requires-clause-some
@@ -52,10 +52,9 @@ exchanged-requires-clause-awaits g c =
     (stay library slots c.requires.0 c.requires.1 x e, lines_on_places library (said c.requires.1), rw (around.scale, around.surroundings, around.keep_outs) awaited)
 
 pub returns : goal.returns
-returns g c = λ old new e followed.
+returns g c =
     let library = c.args.library.now in
     let slots = c.args.text.now.pieces.table.slots in
-    let f = rw (← c.self.view_is) at followed in
     let x = exchange_view c.args.exchange in
     let told = c.surroundings_are_told.ensures in
     let law = c.components_are_exchanged.ensures in
@@ -64,12 +63,21 @@ returns g c = λ old new e followed.
     let went = rw c.in-Some.is at c.in_ok-went.ensures.components in
     let came = rw c.in-Some-2.is at c.in_ok-came.ensures.components in
     let around = c.in_ok-around.ensures in
-    let awaited = rw (← around.scale, ← around.surroundings, ← around.keep_outs) at (awaits library slots old new x e _ _ f told law gone come _ _ went came) in
-    let boxes = rw around.scale at (c.exchanged.ensures.boxes _ _ awaited) in
-    both_found _ _ _ c.exchanged.result (λ k lines same. follows library slots old new x e _ _ f told law gone come _ _ went came _ k lines same) (c.exchanged.ensures.lines _ _ awaited) boxes
+    record {
+      followed = λ old new e followed.
+          let f = rw (← c.self.view_is) at followed in
+          let awaited = rw (← around.scale, ← around.surroundings, ← around.keep_outs) at (awaits library slots old new x e _ _ f told law gone come _ _ went came) in
+          let boxes = rw around.scale at (c.exchanged.ensures.boxes _ _ awaited) in
+          both_found _ _ _ c.exchanged.result (λ k lines same. follows library slots old new x e _ _ f told law gone come _ _ went came _ k.lines lines same) (c.exchanged.ensures.lines _ _ awaited) boxes;
+      tests = λ old new e followed.
+          let f = rw (← c.self.view_is) at followed in
+          let awaited = rw (← around.scale, ← around.surroundings, ← around.keep_outs) at (awaits library slots old new x e _ _ f told law gone come _ _ went came) in
+          let tests = rw around.scale at (c.exchanged.ensures.tests _ _ awaited) in
+          as_found _ _ c.exchanged.result (λ k few. few_tests library slots old new x e _ _ f told law gone come _ _ went came k.tests few) tests;
+    }
 
-pub returns-then-are_none : goal.returns-then-are_none
-returns-then-are_none g c = λ old new e followed.
+pub returns-then-are_none-clause-followed : goal.returns-then-are_none-clause-followed
+returns-then-are_none-clause-followed g c = λ old new e followed.
     let slots = c.args.text.now.pieces.table.slots in
     let f = rw (← c.self.view_is) at followed in
     let gone = rw c.in-Some.is at c.in_ok-went.ensures.loose in

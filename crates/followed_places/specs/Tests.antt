@@ -1,0 +1,21 @@
+-- How many boxes are compared where components of a text go out and come in.
+use Rattle.std.specs.Prelude.{ℕ, List, map, sum_by}
+use Rattle.design_model.specs.declared.identifier.StmtId.{StmtId}
+use Rattle.design_model.specs.Geometry.{Rectangle}
+use Rattle.def_grammar.specs.Records.{Record}
+use Rattle.lef_grammar.specs.Library.{Library}
+use Rattle.design_rules.specs.Boxes.{scale}
+use Rattle.statement_boxes.specs.Boxes.{near_count}
+use Rattle.followed_places.specs.Places.{components_under, place_under, said}
+
+-- how many of these boxes are near each of some, in all
+abbrev pub near_sum : List (StmtId × Rectangle) → List (StmtId × Rectangle) → ℕ
+near_sum boxes some = sum_by (λ b. near_count b.1 boxes) some
+
+-- the boxes of the components among a design's statements that take part
+abbrev pub places_in : Library → List (StmtId × Record) → List (StmtId × Rectangle)
+places_in library records = map place_under (components_under library (scale (said records)) records)
+
+-- each box of a component among some statements with each box of the design near it, itself too
+abbrev pub near_pairs : Library → List (StmtId × Record) → List (StmtId × Record) → ℕ
+near_pairs library records some = near_sum (places_in library records) (map place_under (components_under library (scale (said records)) some))
