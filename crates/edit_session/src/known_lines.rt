@@ -80,6 +80,7 @@ impl<A: Allocator + Copy> KnownLines<A> {
             statements,
             places,
             nets,
+            tests: _,
         } = lines;
         if statements.is_some() {
             self.statements = statements;

@@ -19,6 +19,7 @@ mod measures;
 mod nets;
 mod no_nets;
 mod noted;
+mod part;
 mod places;
 mod report;
 pub mod session;

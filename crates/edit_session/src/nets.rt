@@ -25,7 +25,9 @@ use std::alloc::{AllocError, Allocator};
 use wire_parts::nets::NetEntry;
 
 /// The net that an edit is of, if it is one of a net.
-pub(crate) fn net_of<'e>(edit: &Edit<'e>) -> Option<&'e [u8]> {
+pub(crate) fn net_of<'e>(edit: &Edit<'e>) -> Option<&'e [u8]>
+    ensures { IfSome result (λ n. subject_of (change_of edit.now) ≡ Some (one_net n.now)) }
+{
     match edit {
         Edit::Connect { net, .. } => Some(*net),
         Edit::Disconnect { net, .. } => Some(*net),

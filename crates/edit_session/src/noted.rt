@@ -46,6 +46,8 @@ pub(crate) struct FollowedLines<A: Allocator + Copy = Global> {
     pub(crate) statements: Option<KeptLines<A>>,
     pub(crate) places: Option<KeptLines<A>>,
     pub(crate) nets: Option<KeptLines<A>>,
+    /// How many pairs of rectangles were compared for them.
+    pub(crate) tests: u64,
 }
 
 impl<A: Allocator + Copy> Noted<A> {
@@ -113,8 +115,9 @@ impl<A: Allocator + Copy> Noted<A> {
         );
         FollowedLines {
             statements,
-            places,
-            nets,
+            places: places.lines,
+            nets: nets.lines,
+            tests: nets.tests.saturating_add(places.tests),
         }
     }
 }

@@ -178,8 +178,9 @@ impl<'s, 'l, A: Allocator + Copy> Session<'s, 'l, A> {
         self.text.statements_are_kept();
         self.text.design_is_read();
         self.known = KnownLines::none();
+        let tests = followed.tests;
         self.known.put(followed);
-        Ok(Done { reads, tests: 0 })
+        Ok(Done { reads, tests })
     }
 
     /// Puts bytes in the place of those from `a` up to `b`, or refuses it and leaves the text as it was.
@@ -215,8 +216,9 @@ impl<'s, 'l, A: Allocator + Copy> Session<'s, 'l, A> {
         self.text.statements_are_kept();
         self.text.design_is_read();
         self.known = KnownLines::none();
+        let tests = followed.tests;
         self.known.put(followed);
-        Ok(Done { reads, tests: 0 })
+        Ok(Done { reads, tests })
     }
 
     /// The entry of a section that has this name, of the present text. There is none of BLOCKAGES and of sections whose
