@@ -1,17 +1,20 @@
 -- How many pairs of rectangles are compared at most for an edit.
-use Rattle.std.specs.Prelude.{◌≡◌, ◌+◌, ◌≤◌, ℕ, Bool, true, false, List, [], ◌∷◌, ◌++◌, length, count_by, sum_by, MatchOption, Option, Some, None}
+use Rattle.std.specs.Prelude.{◌≡◌, ◌+◌, ◌≤◌, ℕ, Bool, true, false, List, [], ◌∷◌, ◌++◌, length, count_by, sum_by, MatchOption, Option, Some, None, Ok}
 use Rattle.std.specs.List.{AllByRecursion, list_any}
 use Rattle.std.specs.Str.{bytes_eq}
-use Rattle.def_grammar.specs.Records.{Record}
+use Rattle.def_grammar.specs.Records.{Record, read_def}
 use Rattle.lef_grammar.specs.Library.{Library}
 use Rattle.design_rules.specs.Boxes.{Boxed, boxes}
-use Rattle.edit_rules.specs.Edits.{Change, of_component, of_net, of_section}
+use Rattle.edit_rules.specs.Edits.{Change, change_of, of_component, of_net, of_section}
 use Rattle.edit_rules.specs.SectionEdits.{add_blockage, add_component, remove_component}
 use Rattle.net_laws.specs.NetExchanges.{finds}
 use Rattle.net_laws.specs.NetsTold.{terminals_in}
 use Rattle.shape_index.specs.Near.{are_near}
 use Rattle.staying_laws.specs.PlaceStatements.{boxes_among}
 use Rattle.followed_nets.specs.Tests.{near_pairs}
+use Rattle.followed_nets.specs.Touched.{Touched, star_names}
+use Rattle.edit_session.specs.declared.change.Change as session
+use Rattle.edit_session.specs.declared.change.Change.TheVariants.{Design, Text}
 
 -- what an edit is of: a net, or a component
 pub data Subject : Type 0 where
@@ -58,6 +61,15 @@ abbrev pub FewBoxes : Library → List Record → List Record → ℕ → Type 0
 FewBoxes library old new tests =
     (pairs : ℕ) × (exchanges : Option (List Exchanged)) × MatchOption exchanges (pairs ≡ 0) (λ xs. AreNearIn library old xs new pairs) × (tests ≤ pairs)
 
+-- an edit that touches these nets touches no others than it says
+abbrev pub TouchesOnly : List Record → Option Subject → Touched → Type 0
+TouchesOnly design subject t = AllByRecursion (λ name. is_touched design subject name ≡ true) (t.names ++ star_names t.stars)
+
+-- what a change is of: a text edit of whatever its first byte lies in
+abbrev pub IsSubject : session.Change → Option Subject → Type 0
+IsSubject (Design edit) subject = subject ≡ subject_of (change_of edit.now)
+IsSubject (Text position) subject = Unit {0}
+
 -- each of some nets is touched, and so many pairs of shapes are near
 pub record FewShapes (library : Library) (old new : List Record) (subject : Option Subject) (tests : ℕ) : Type 0 where
   pub nets : List (List ℕ)
@@ -72,3 +84,7 @@ pub record TestsFew (library : Library) (old new : List Record) (subject : Optio
   pub shapes : FewShapes library old new subject by_shapes
   pub boxes : FewBoxes library old new by_boxes
   pub few : tests ≤ by_shapes + by_boxes
+
+-- so of what texts read as
+abbrev pub TestsFewIn : Library → List ℕ → List ℕ → Option Subject → ℕ → Type 0
+TestsFewIn library old new subject tests = (before : List Record) × (after : List Record) × (read_def old ≡ Ok before) × (read_def new ≡ Ok after) × TestsFew library before after subject tests

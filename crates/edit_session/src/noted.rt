@@ -1,11 +1,12 @@
 //! What is noted of a text, so that lines follow its edits.
 
-ghost use Rattle.std.specs.Prelude.{◌≡◌, List, None};
+ghost use Rattle.std.specs.Prelude.{◌≡◌, IfSome, List, None, Option};
 ghost use Rattle.def_grammar.specs.Records.{Record};
 ghost use Rattle.design_text.specs.DesignTexts.{Content};
 ghost use Rattle.design_text.specs.Exchanges.{records_in};
 ghost use Rattle.followed_places.specs.Places.{said};
 ghost use Rattle.edit_session.specs.Known.{AreKnown, AreTold, Followed, HasFollowed, HasNoted};
+ghost use Rattle.edit_session.specs.Tests.{IsSubject, Subject, TestsFew, TouchesOnly};
 
 use crate::change::Change;
 use crate::known_lines::KnownLines;
@@ -76,6 +77,7 @@ impl<A: Allocator + Copy> Noted<A> {
         requires { HasNoted library.now (records_in text.now) self.old }
         ensures noted { HasNoted library.now (records_in text.now) self.new }
         ensures told { AreTold library.now (said (records_in text.now)) result }
+        ensures only { (subject : Option Subject) × IsSubject change subject × IfSome result.nets (TouchesOnly (said (records_in text.now)) subject) }
     {
         let is_wanted = match change {
             Change::Design(edit) => component_of(edit).is_some(),
@@ -99,6 +101,8 @@ impl<A: Allocator + Copy> Noted<A> {
     ) -> FollowedLines<A>
         requires { (old : Content) × Followed library.now old text.now made.now.exchanges told self.old known.old }
         ensures lines { HasFollowed library.now (said (records_in text.now)) result }
+        ensures tests { (old : Content) (subject : Option Subject) → Followed library.now old text.now made.now.exchanges told self.old known.old → IfSome told.nets (TouchesOnly (said (records_in old)) subject)
+            → TestsFew library.now (said (records_in old)) (said (records_in text.now)) subject result.tests }
         ensures noted { HasNoted library.now (records_in text.now) self.new }
         ensures known { (design : List Record) → AreKnown library.now design known.old → AreKnown library.now design known.new }
     {

@@ -1,6 +1,6 @@
 //! The session: a library and the present text of a design.
 
-ghost use Rattle.std.specs.Prelude.{◌≡◌, ◌+◌, ◌≤◌, ◌<◌, ◌^◌, OnErr, OnOk, IfOk, IfSome, IsOk, length};
+ghost use Rattle.std.specs.Prelude.{◌≡◌, ◌+◌, ◌≤◌, ◌<◌, ◌^◌, OnErr, OnOk, IfOk, IfSome, IsOk, Option, length};
 ghost use Rattle.std.specs.Io.KnownBytes.{Appends};
 ghost use Rattle.counted_devices.specs.Counting.{HasFailed};
 ghost use Rattle.counted_devices.specs.Known.{WritesPart};
@@ -18,6 +18,7 @@ ghost use Rattle.measure_rules.specs.NetBoxes.{net_box};
 ghost use Rattle.design_text.specs.DesignTexts.{text_of};
 ghost use Rattle.design_text.specs.Editing.{KeepsTheRest, ReadsEdited};
 ghost use Rattle.design_text.specs.FewReads.{ReadsFew, new_in};
+ghost use Rattle.edit_session.specs.Tests.{Subject, TestsFewIn, subject_of};
 ghost use Rattle.edit_session.specs.Sessions.{AreDiagnostics, HasParts, Measures, OpensAs, Views};
 
 use crate::change::Change;
@@ -148,7 +149,7 @@ impl<'s, 'l, A: Allocator + Copy> Session<'s, 'l, A> {
         ensures answer { Answers self.old.library self.old.text (design_edit (change_of edit.now)) result self.new.text }
         ensures applied { IfOk result (λ _. ReadsEdited self.old.text (change_of edit.now) self.new.text) }
         ensures keeps { IfOk result (λ _. KeepsTheRest self.old.library self.old.text (change_of edit.now) self.new.text) }
-        ensures untested { IfOk result (λ done. done.tests ≡ 0) }
+        ensures tests { IfOk result (λ done. TestsFewIn self.old.library self.old.text self.new.text (subject_of (change_of edit.now)) done.tests) }
         ensures few { IfOk result (λ done. ReadsFew self.old.library self.old.text (change_of edit.now) done.reads) }
         ensures library { self.new.library ≡ self.old.library }
         ensures reads { IsOk (read_def self.new.text) }
@@ -186,7 +187,7 @@ impl<'s, 'l, A: Allocator + Copy> Session<'s, 'l, A> {
     /// Puts bytes in the place of those from `a` up to `b`, or refuses it and leaves the text as it was.
     pub fn text_edit(&mut self, a: usize, b: usize, new: &[u8]) -> Result<Done, EditRefusal>
         ensures answer { Answers self.old.library self.old.text (text_edit a b new.now) result self.new.text }
-        ensures untested { IfOk result (λ done. done.tests ≡ 0) }
+        ensures tests { IfOk result (λ done. (subject : Option Subject) × TestsFewIn self.old.library self.old.text self.new.text subject done.tests) }
         ensures few { IfOk result (λ done. done.reads ≤ new_in self.old.text (record { lo = a; hi = b; put = new.now })) }
         ensures library { self.new.library ≡ self.old.library }
         ensures reads { IsOk (read_def self.new.text) }
