@@ -16,7 +16,7 @@ use Rattle.design_text.specs.Exchanges.{IsExchange}
 use Rattle.design_text.specs.Exchanges as text
 use Rattle.followed_places.specs.Places.{components_under, place_under, said}
 use Rattle.followed_places.specs.Tests.{near_pairs}
-use Rattle.edit_session.specs.Tests.{AreNearIn, Exchanged, near_boxes}
+use Rattle.edit_session.specs.Tests.{AreNearIn, Exchanged, FewBoxes, near_boxes}
 
 -- the components among numbered statements, and without their numbers
 seconds : (library : Library) (u : ℕ) (rs : List (StmtId × Record)) → map (λ (x : StmtId × Boxed). x.1) (components_under library u rs) ≡ filter_map (box_of library u) (said rs)
@@ -43,6 +43,14 @@ same_pairs library rs some =
     near_all (components_under library u rs) (components_under library u some)
     ∙ ap₂ (λ (xs ys : List Boxed). sum_by (λ (b : Boxed). count_by (λ (c : Boxed). are_near b.box c.box) xs) ys) (seconds library u rs) (seconds library u some)
 
+-- whatever is compared from a design on, with what was compared before it is all of an edit's
+abbrev pub IsAhead : Library → List Record → List Record → List Record → ℕ → Type 0
+IsAhead library old between new tests =
+    (xs : List Exchanged) (pairs : ℕ) → AreNearIn library between xs new pairs → (all : List Exchanged) × (total : ℕ) × AreNearIn library old all new total × (tests + pairs ≤ total)
+
+pub none_ahead : (library : Library) (old new : List Record) → IsAhead library old old new 0
+none_ahead library old new xs pairs near = (xs, pairs, near, omega arith)
+
 module _ (library : Library) (slots : List (Option Kept)) (old between : List (StmtId × Record)) (x : text.Exchanged) (e : IsExchange slots old between x) where
   abbrev one : Exchanged
   one = record { went = said (records_under slots x.went); came = said (records_under slots x.came) }
@@ -67,3 +75,19 @@ module _ (library : Library) (slots : List (Option Kept)) (old between : List (S
         ap₂ (λ m n. m + n + later) (same_pairs library old (records_under slots x.went)) (same_pairs library between (records_under slots x.came) ∙ ap (λ (d : List Record). near_boxes library d one.came) then),
         rw (← then) near,
       )
+
+  -- so it is one exchange further
+  pub ahead_then : (first new : List Record) (tests more next : ℕ) → length x.went ≤ 256 → length x.came ≤ 256 → IsAhead library first (said old) new tests
+      → more ≤ near_pairs library old (records_under slots x.went) + near_pairs library between (records_under slots x.came) → next ≤ tests + more → IsAhead library first (said between) new next
+  ahead_then first new tests more next few also ahead within sum xs pairs near =
+      let all = ahead (one ∷ xs) _ (near_then xs new pairs few also near) in
+      (all.0, all.1, all.2, let le = all.3 in omega (arith, le, within, sum))
+
+-- and in the end
+pub few_boxes : (library : Library) (old between new : List Record) (tests : ℕ) → new ≡ between → IsAhead library old between new tests → FewBoxes library old new tests
+few_boxes library old between new tests same ahead =
+    let all = ahead [] 0 (same, refl) in
+    (all.1, Some all.0, all.2, let le = all.3 in omega (arith, le))
+
+pub no_boxes : (library : Library) (old new : List Record) (tests : ℕ) → tests ≡ 0 → FewBoxes library old new tests
+no_boxes library old new tests none = (0, None, refl, omega (arith, none))

@@ -4,7 +4,7 @@ use Rattle.followed_places.specs.Places.{HasPlaces, said}
 use Rattle.staying_laws.specs.Staying.{lines_on_places}
 use Rattle.edit_session.specs.Known.{AreKept}
 use Rattle.edit_session.proofs.FollowLemmas.{of_some}
-use Rattle.edit_session.proofs.places.follow_places.Goals as goal
+use Rattle.edit_session.proofs.places.follow_known.Goals as goal
 
 pub followed-requires : goal.followed-requires
 followed-requires g c =

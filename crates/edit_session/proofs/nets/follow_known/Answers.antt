@@ -5,7 +5,7 @@ use Rattle.followed_nets.specs.Touched.{AreTouched}
 use Rattle.followed_places.specs.Places.{said}
 use Rattle.edit_session.specs.Known.{AreOnNets}
 use Rattle.edit_session.proofs.FollowLemmas.{of_some}
-use Rattle.edit_session.proofs.nets.follow_nets.Goals as goal
+use Rattle.edit_session.proofs.nets.follow_known.Goals as goal
 
 pub follow-requires : goal.follow-requires
 follow-requires g c =
