@@ -16,8 +16,7 @@ use Rattle.measure_rules.specs.NetBoxes as boxes
 use Rattle.measure_rules.specs.NetBoxes.{box_round, rectangles_of}
 use Rattle.measure_laws.specs.LengthLaws.{NoneIsLonger}
 use Rattle.drawn_parts.specs.DrawnLengths.{capped}
-use Rattle.design_wires.proofs.FirstLemmas.{firsts_found}
-use Rattle.reports.specs.MeasuredNets.{MeasuredNet, firsts, measured, name_of}
+use Rattle.reports.specs.MeasuredNets.{MeasuredNet, measured, name_of}
 use Rattle.reports.proofs.TableLemmas.{bytes_eq_sym, same_bytes}
 
 abbrev length_in : MeasuredNet → ℕ
@@ -53,11 +52,10 @@ module _ (library : Library) (design : List Record) (u : ℕ) where
     is_whole name = let less = no_longer library design u name in omega (arith, less, few)
 
     pub length_is : (name : List ℕ)
-        → option_map length_in (find_named name_of (firsts (measured (all_nets library design u) (map capped_length (net_names library design u)))) name) ≡ lengths.net_length library design u name
+        → option_map length_in (find_named name_of (measured (all_nets library design u) (map capped_length (net_names library design u))) name) ≡ lengths.net_length library design u name
     length_is name =
         let names = net_names library design u in
-        ap (option_map length_in) (firsts_found name_of [] (measured (map (net_named library design u) names) (map capped_length names)) name)
-        ∙ length_found capped_length names name
+        length_found capped_length names name
         ∙ ap (λ n. if list_any (bytes_eq name) names then Some n else None) (is_whole name)
 
     sum_same : (names : List (List ℕ)) → sum_by capped_length names ≡ sum_by (length_of library design u) names
@@ -84,8 +82,7 @@ module _ (library : Library) (design : List Record) (u : ℕ) where
       (find_named name_of (measured ns ls) name) (find_named (λ (k : Net). k.name) ns name) refl (box_found ns ls name (omega (arith, same)))
 
   pub box_is : (length_by : List ℕ → ℕ) (name : List ℕ)
-      → option_map box_in (find_named name_of (firsts (measured (all_nets library design u) (map length_by (net_names library design u)))) name) ≡ boxes.net_box library design u name
+      → option_map box_in (find_named name_of (measured (all_nets library design u) (map length_by (net_names library design u))) name) ≡ boxes.net_box library design u name
   box_is length_by name =
       let names = net_names library design u in
-      ap (option_map box_in) (firsts_found name_of [] (measured (map (net_named library design u) names) (map length_by names)) name)
-      ∙ box_found (map (net_named library design u) names) (map length_by names) name (length-map names length_by ∙ sym (length-map names (net_named library design u)))
+      box_found (map (net_named library design u) names) (map length_by names) name (length-map names length_by ∙ sym (length-map names (net_named library design u)))

@@ -1,14 +1,15 @@
 -- Nets by their names, as a map holds them.
-use Rattle.std.proofs.Common.{◌≡◌, ℕ, Bool, true, false, cond, ◌||◌, List, [], ◌∷◌, ◌++◌, map, refl, sym, ap, ◌∙◌, Option, Some, is_some, if◌then◌else◌, arith}
-use Rattle.std.specs.List.{list_any}
-use Rattle.std.specs.Map.{lookup}
+use Rattle.std.proofs.Common.{◌≡◌, ◌+◌, ℕ, zero, suc, Bool, true, false, not, cond, ◌||◌, List, [], ◌∷◌, ◌++◌, map, refl, sym, ap, ◌∙◌, Option, Some, if◌then◌else◌, arith}
+use Rattle.std.specs.List.{list_any, position_or_len}
+use Rattle.std.specs.Map.{keys_of, lookup}
 use Rattle.std.specs.Option.{option_map}
 use Rattle.std.specs.Str.{bytes_eq}
-use Rattle.std.proofs.lemmas.List.{map-append}
 use Rattle.std.proofs.lemmas.Slice.Eq.{bytes_eq-Decides}
-use Rattle.indexmap.specs.IndexMap.{insert_entry}
+use Rattle.indexmap.specs.IndexMap.{insert_entry, set_value_at}
 use Rattle.form_meanings.specs.Firsts.{find_named, has_name, with_first}
-use Rattle.reports.specs.MeasuredNets.{MeasuredNet, entry_view, measures_view, name_of}
+use Rattle.design_model.specs.Views.{rectangle_of}
+use Rattle.net_entries.specs.Places.{place_in}
+use Rattle.reports.specs.MeasuredNets.{MeasuredNet, entry_view, measured_at, measures_view, name_of}
 use Rattle.reports.specs.declared.net_table.Measures.{Measures}
 
 pub bytes_eq_sym : (a b : List ℕ) → bytes_eq a b ≡ bytes_eq b a
@@ -19,10 +20,6 @@ same_bytes a b t = grind (arith, bytes_eq-Decides)
 
 abbrev Entry : Type 0
 Entry = List ℕ × Measures
-
-taken_step : (b : Bool) (m : Measures) (r : Option Measures) (q : Bool) → is_some r ≡ q → is_some (cond b (Some m) r) ≡ (b || q)
-taken_step true m r q h = refl
-taken_step false m r q h = h
 
 -- a key is the name
 abbrev pub is_key : List ℕ → List ℕ → Bool
@@ -40,62 +37,37 @@ found name (e ∷ es) =
     ap (λ b. option_map (measures_view name) (cond b (Some e.1) (lookup (is_key name) es))) (bytes_eq_sym name e.0)
     ∙ found_step name (bytes_eq e.0 name) e (same_bytes e.0 name) (lookup (is_key name) es) (find_named name_of (map entry_view es) name) (found name es)
 
-taken : (name : List ℕ) (es : List Entry) → is_some (lookup (is_key name) es) ≡ list_any (has_name name_of name) (map entry_view es)
-taken name [] = refl
-taken name (e ∷ es) =
-    taken_step (bytes_eq name e.0) e.1 (lookup (is_key name) es) (list_any (has_name name_of name) (map entry_view es)) (taken name es)
-    ∙ ap (λ (b : Bool). b || list_any (has_name name_of name) (map entry_view es)) (bytes_eq_sym name e.0)
+-- a name that is put in
+module _ (k : List ℕ) where
+  abbrev names : List Entry → List (List ℕ)
+  names es = map name_of (map entry_view es)
 
-module _ (k : List ℕ) (m : Measures) where
-  put_step : (b : Bool) (e : Entry) (es more : List Entry) (r : Option Measures) → is_some (cond b (Some e.1) r) ≡ false → (is_some r ≡ false → more ≡ es ++ (k, m) ∷ []) → (if b then ((e.0, m) ∷ es) else (e ∷ more)) ≡ e ∷ (es ++ (k, m) ∷ [])
-  put_step true e es more r h i = cc
-  put_step false e es more r h i = ap (λ z. e ∷ z) (i h)
+  -- its place among the keys is that among the names
+  pub key_place : (es : List Entry) → position_or_len (λ (x : List ℕ). bytes_eq k x) (keys_of es) ≡ place_in (names es) k
+  key_place [] = refl
+  key_place (e ∷ es) =
+      ap (λ (b : Bool). cond (not b) (1 + position_or_len (λ (x : List ℕ). bytes_eq k x) (keys_of es)) 0) (bytes_eq_sym k e.0)
+      ∙ ap (λ n. cond (not (bytes_eq e.0 k)) (1 + n) 0) (key_place es)
 
-  put_last : (es : List Entry) → is_some (lookup (is_key k) es) ≡ false → insert_entry (λ (a b : List ℕ). bytes_eq a b) es k m ≡ es ++ (k, m) ∷ []
-  put_last [] h = refl
-  put_last (e ∷ es) h = put_step (bytes_eq k e.0) e es (insert_entry (λ (a b : List ℕ). bytes_eq a b) es k m) (lookup (is_key k) es) h (put_last es)
+  named_step : (m : Measures) (b a : Bool) (e : Entry) (es more : List Entry) → names more ≡ (if a then names es else names es ++ k ∷ [])
+      → names (if b then (e.0, m) ∷ es else e ∷ more) ≡ (if b || a then e.0 ∷ names es else e.0 ∷ (names es ++ k ∷ []))
+  named_step m true a e es more later = refl
+  named_step m false true e es more later = ap (λ ns. e.0 ∷ ns) later
+  named_step m false false e es more later = ap (λ ns. e.0 ∷ ns) later
 
-  -- a net of a name that isn't taken goes last
-  pub added_new : (name : List ℕ) (es new : List Entry) → k ≡ name → is_some (lookup (is_key name) es) ≡ false → new ≡ insert_entry (λ (a b : List ℕ). bytes_eq a b) es k m
-      → map entry_view new ≡ with_first name_of (map entry_view es) (measures_view name m)
-  added_new name es new is h e =
-      let fresh : list_any (has_name name_of name) (map entry_view es) ≡ false = sym (taken name es) ∙ h in
-      let last = put_last es (ap (λ n. is_some (lookup (is_key n) es)) is ∙ h) in
-      rw (fresh) (ap (map entry_view) (e ∙ last) ∙ map-append entry_view es ((k, m) ∷ []) ∙ ap (λ n. map entry_view es ++ measures_view n m ∷ []) is)
+  -- the names then
+  pub names_put : (m : Measures) (es : List Entry) → names (insert_entry (λ (a b : List ℕ). bytes_eq a b) es k m) ≡ with_first (λ (n : List ℕ). n) (names es) k
+  names_put m [] = refl
+  names_put m (e ∷ es) =
+      let known = list_any (has_name (λ (n : List ℕ). n) k) (names es) in
+      named_step m (bytes_eq k e.0) known e es (insert_entry (λ (a b : List ℕ). bytes_eq a b) es k m) (names_put m es)
+      ∙ ap (λ (b : Bool). if b || known then e.0 ∷ names es else e.0 ∷ (names es ++ k ∷ [])) (bytes_eq_sym k e.0)
 
--- a name that is taken keeps its net, where that is put back
-module _ (k : List ℕ) (m first : Measures) where
-  abbrev put_as : Measures → List Entry → List Entry
-  put_as v es = insert_entry (λ (a b : List ℕ). bytes_eq a b) es k v
-
-  same_value : (a b : Measures) → Some a ≡ Some b → a ≡ b
-  same_value a b h = cc
-
-  back_step : (b : Bool) (e : Entry) (es : List Entry) → bytes_eq k e.0 ≡ b → cond b (Some e.1) (lookup (is_key k) es) ≡ Some first
-      → (lookup (is_key k) es ≡ Some first → put_as first (put_as m es) ≡ es) → put_as first (if b then ((e.0, m) ∷ es) else (e ∷ put_as m es)) ≡ e ∷ es
-  back_step true e es is there later =
-      ap (λ (b : Bool). if b then ((e.0, first) ∷ es) else ((e.0, m) ∷ put_as first es)) is ∙ ap (λ (v : Measures). (e.0, v) ∷ es) (sym (same_value e.1 first there))
-  back_step false e es is there later =
-      ap (λ (b : Bool). if b then ((e.0, first) ∷ put_as m es) else (e ∷ put_as first (put_as m es))) is ∙ ap (λ (z : List Entry). e ∷ z) (later there)
-
-  put_back : (es : List Entry) → lookup (is_key k) es ≡ Some first → put_as first (put_as m es) ≡ es
-  put_back [] there = absurd (cc)
-  put_back (e ∷ es) there = back_step (bytes_eq k e.0) e es refl there (put_back es)
-
-  is_there : (r : Option Measures) → r ≡ Some first → is_some r ≡ true
-  is_there r h = ap is_some h
-
-  pub added_old : (name : List ℕ) (l : List ℕ) (es between new : List Entry) → k ≡ name → l ≡ name → lookup (is_key k) es ≡ Some first
-      → between ≡ put_as m es → new ≡ insert_entry (λ (a b : List ℕ). bytes_eq a b) between l first
-      → map entry_view new ≡ with_first name_of (map entry_view es) (measures_view name m)
-  added_old name l es between new is also there e f =
-      let back : new ≡ es =
-      f ∙ ap (λ (xs : List Entry). insert_entry (λ (a b : List ℕ). bytes_eq a b) xs l first) e
-      ∙ ap (λ (n : List ℕ). insert_entry (λ (a b : List ℕ). bytes_eq a b) (put_as m es) n first) (also ∙ sym is)
-      ∙ put_back es there in
-      let old : list_any (has_name name_of name) (map entry_view es) ≡ true =
-      sym (taken name es) ∙ ap (λ (n : List ℕ). is_some (lookup (is_key n) es)) (sym is) ∙ is_there (lookup (is_key k) es) there in
-      ap (map entry_view) back ∙ rw old refl
+-- measures that are written at a place
+pub written_at : (es : List Entry) (i : ℕ) (m : Measures) → map entry_view (set_value_at es i m) ≡ measured_at i m.length (option_map rectangle_of m.bounds) (map entry_view es)
+written_at [] i m = refl
+written_at (e ∷ es) zero m = refl
+written_at (e ∷ es) (suc i) m = ap (λ ns. entry_view e ∷ ns) (written_at es i m)
 
 -- a net that has a name already is found in the place of the one that had it
 module _ (k : List ℕ) (m : Measures) (n : List ℕ) where

@@ -1,9 +1,8 @@
 -- What is kept of each net.
-use Rattle.std.specs.Prelude.{◌≡◌, ℕ, List, [], ◌∷◌, flat_map, length, map, sum, Option, ℤ}
+use Rattle.std.specs.Prelude.{◌≡◌, ℕ, zero, suc, List, [], ◌∷◌, ◌++◌, flat_map, length, map, sum, Option, ℤ}
 use Rattle.std.specs.Option.{option_map}
 use Rattle.design_model.specs.Geometry.{Rectangle}
 use Rattle.design_model.specs.Views.{rectangle_of}
-use Rattle.form_meanings.specs.Firsts.{with_all}
 use Rattle.connection_rules.specs.NetLines as net_lines
 use Rattle.connection_rules.specs.NetLines.{shapes_of_net}
 use Rattle.connection_rules.specs.NetParts.{Net}
@@ -29,9 +28,11 @@ measured [] lengths = []
 measured (n ∷ ns) [] = []
 measured (n ∷ ns) (l ∷ ls) = record { name = n.name; net_length = l; net_box = box_round (rectangles_of n) } ∷ measured ns ls
 
--- the first of each name
-abbrev pub firsts : List MeasuredNet → List MeasuredNet
-firsts ns = with_all name_of [] ns
+-- the net at a place has this length and this box, under its name
+abbrev pub measured_at : ℕ → ℕ → Option Rectangle → List MeasuredNet → List MeasuredNet
+measured_at place net_length net_box [] = []
+measured_at zero net_length net_box (n ∷ ns) = record { name = n.name; net_length = net_length; net_box = net_box } ∷ ns
+measured_at (suc place) net_length net_box (n ∷ ns) = n ∷ measured_at place net_length net_box ns
 
 abbrev pub measures_view : List ℕ → Measures → MeasuredNet
 measures_view name m = record { name = name; net_length = m.length; net_box = option_map rectangle_of m.bounds }
@@ -43,9 +44,12 @@ entry_view e = measures_view e.0 e.1
 abbrev pub shape_box : NetShape → Rectangle
 shape_box s = rectangle_of s.rect
 
--- what was measured of nets of these lengths: the first of each name, the lengths together, and the densities of their shapes
-pub record AreMeasured (columns rows : List ℤ) (nets : List Net) (lengths : List ℕ) (table : List MeasuredNet) (total : ℕ) (cells : CellTable) : Type 0 where
+-- what was measured of nets of these lengths, behind which nets of the names that are left stand unmeasured: each in the table, the
+-- lengths together, and the densities of their shapes
+pub record AreMeasured (columns rows : List ℤ) (nets : List Net) (lengths : List ℕ) (left : List (List ℕ)) (table : List MeasuredNet) (total : ℕ) (cells : CellTable) : Type 0 where
   pub each : length nets ≡ length lengths
-  pub by_name : table ≡ firsts (measured nets lengths)
+  pub unmeasured : List MeasuredNet
+  pub by_name : table ≡ measured nets lengths ++ unmeasured
+  pub named : map name_of unmeasured ≡ left
   pub together : total ≡ capped (sum lengths)
   pub densities : HoldsDensities columns rows (map (λ (s : net_lines.NetShape). s.shape) (flat_map shapes_of_net nets)) cells

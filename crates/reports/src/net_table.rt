@@ -1,14 +1,16 @@
 //! Nets by their names.
 
-ghost use Rattle.std.specs.Prelude.{◌≡◌, ℕ, List, [], Some, IfOk, OnOk, if◌then◌else◌};
+ghost use Rattle.std.specs.Prelude.{◌≡◌, ◌<◌, ℕ, List, [], Some, IfOk, OnOk, if◌then◌else◌, length};
 ghost use Rattle.std.specs.Option.{option_map};
 ghost use Rattle.std.specs.Str.{bytes_eq};
-ghost use Rattle.form_meanings.specs.Firsts.{find_named, with_first};
-ghost use Rattle.reports.specs.MeasuredNets.{measures_view, name_of};
+ghost use Rattle.design_model.specs.Views.{rectangle_of};
+ghost use Rattle.form_meanings.specs.Firsts.{find_named};
+ghost use Rattle.reports.specs.MeasuredNets.{measured_at, measures_view, name_of};
 
 use design_model::geometry::Rect;
 use indexmap::IndexMap;
 use name_keys::{Name, OwnName};
+use net_entries::NetPlaces;
 use std::alloc::{AllocError, Allocator, Global};
 use std::hash::RandomState;
 use std::marker::Model;
@@ -48,22 +50,12 @@ impl<A: Allocator + Copy> NetTable<A> {
         Ok(NetTable { nets })
     }
 
-    /// Puts a net behind the others, unless its name is taken. The name is copied.
-    pub(crate) fn add(
-        &mut self,
-        alloc: A,
-        name: &[u8],
-        measures: Measures,
-    ) -> Result<(), AllocError>
-        ensures { OnOk result (self.new ≡ with_first name_of self.old (measures_view name.now measures)) }
+    /// Gives the net at a place these measures, in the place of those that it has.
+    pub(crate) fn set_at(&mut self, place: usize, measures: Measures)
+        requires { place < length self.old }
+        ensures { self.new ≡ measured_at place measures.length (option_map rectangle_of measures.bounds) self.old }
     {
-        // A name is nearly always new: one look-up puts it there, and a second one puts back the net that came first.
-        let key = OwnName::copy_of(alloc, name)?;
-        if let Some(first) = self.nets.insert(key, measures)? {
-            let key = OwnName::copy_of(alloc, name)?;
-            self.nets.insert(key, first)?;
-        }
-        Ok(())
+        *self.nets.get_index_mut(place).unwrap() = measures;
     }
 
     /// Gives the net of a name these measures, in the place of those that it has, if it is there. The name is copied.
@@ -80,5 +72,23 @@ impl<A: Allocator + Copy> NetTable<A> {
         ensures { option_map (measures_view name.now) result ≡ find_named name_of self.now name.now }
     {
         self.nets.get(Name { bytes: name }).copied()
+    }
+}
+
+impl<A: Allocator + Copy> NetPlaces for NetTable<A> {
+    ghost use Rattle.std.specs.Prelude.{map};
+    ghost use Rattle.reports.specs.MeasuredNets.{name_of};
+
+    ghost names = { map name_of };
+
+    /// The name is copied. Its net is yet to be measured then, also one that was there.
+    fn place_of(&mut self, name: &[u8]) -> Result<usize, AllocError> {
+        let key = OwnName::copy_of(*self.nets.allocator(), name)?;
+        let unmeasured = Measures {
+            length: 0,
+            bounds: None,
+        };
+        let (place, _) = self.nets.insert_full(key, unmeasured)?;
+        Ok(place)
     }
 }
