@@ -1,8 +1,8 @@
 -- How many pairs of boxes are compared where exchanges are followed one after the other.
-use Rattle.std.proofs.Common.{◌≡◌, ◌≤◌, ◌+◌, ℕ, List, [], ◌∷◌, ◌++◌, map, count_by, sum_by, length, Option, Some, None, refl, sym, ap, ap₂, ◌∙◌, arith}
+use Rattle.std.proofs.Common.{◌≡◌, ◌≤◌, ◌+◌, ℕ, suc, cond, List, [], ◌∷◌, ◌++◌, map, count_by, sum_by, length, Option, Some, None, refl, sym, ap, ap₂, ◌∙◌, arith}
 use Rattle.std.specs.List.{cons_option, filter_map}
 use Rattle.std.specs.Option.{option_map}
-use Rattle.std.proofs.lemmas.List.{length-map, map-append}
+use Rattle.std.proofs.lemmas.List.{map-append}
 use Rattle.std.proofs.lemmas.List.Sums.{sum_by-cons}
 use Rattle.design_model.specs.declared.identifier.StmtId.{StmtId}
 use Rattle.design_model.specs.Geometry.{Rectangle}
@@ -29,12 +29,18 @@ seconds library u (x ∷ rs) = one (box_of library u x.1) (components_under libr
 
 near_one : (r : Rectangle) (cs : List (StmtId × Boxed)) → count_by (λ (b : StmtId × Rectangle). are_near r b.1) (map place_under cs) ≡ count_by (λ (c : Boxed). are_near r c.box) (map (λ (x : StmtId × Boxed). x.1) cs)
 near_one r [] = refl
-near_one r (c ∷ cs) = grind (arith, near_one r cs)
+near_one r (c ∷ cs) =
+    sum_by-cons (λ (b : StmtId × Rectangle). cond (are_near r b.1) 1 0) (place_under c) (map place_under cs)
+    ∙ ap (λ n. cond (are_near r c.1.box) 1 0 + n) (near_one r cs)
+    ∙ sym (sum_by-cons (λ (d : Boxed). cond (are_near r d.box) 1 0) c.1 (map (λ (x : StmtId × Boxed). x.1) cs))
 
 near_all : (all some : List (StmtId × Boxed)) → sum_by (λ (b : StmtId × Rectangle). count_by (λ (c : StmtId × Rectangle). are_near b.1 c.1) (map place_under all)) (map place_under some)
     ≡ sum_by (λ (b : Boxed). count_by (λ (c : Boxed). are_near b.box c.box) (map (λ (x : StmtId × Boxed). x.1) all)) (map (λ (x : StmtId × Boxed). x.1) some)
 near_all all [] = refl
-near_all all (c ∷ some) = ap₂ (λ m n. m + n) (near_one c.1.box all) (near_all all some)
+near_all all (c ∷ some) =
+    sum_by-cons (λ (b : StmtId × Rectangle). count_by (λ (d : StmtId × Rectangle). are_near b.1 d.1) (map place_under all)) (place_under c) (map place_under some)
+    ∙ ap₂ (λ m n. m + n) (near_one c.1.box all) (near_all all some)
+    ∙ sym (sum_by-cons (λ (b : Boxed). count_by (λ (d : Boxed). are_near b.box d.box) (map (λ (x : StmtId × Boxed). x.1) all)) c.1 (map (λ (x : StmtId × Boxed). x.1) some))
 
 -- pairs of boxes by numbered statements are those of the definition
 pub same_pairs : (library : Library) (rs some : List (StmtId × Record)) → near_pairs library rs some ≡ near_boxes library (said rs) (said some)
@@ -42,6 +48,11 @@ same_pairs library rs some =
     let u = scale (said rs) in
     near_all (components_under library u rs) (components_under library u some)
     ∙ ap₂ (λ (xs ys : List Boxed). sum_by (λ (b : Boxed). count_by (λ (c : Boxed). are_near b.box c.box) xs) ys) (seconds library u rs) (seconds library u some)
+
+-- statements under numbers are as many as these
+many : (slots : List (Option Kept)) (ids : List StmtId) → length (said (records_under slots ids)) ≡ length ids
+many slots [] = refl
+many slots (i ∷ ids) = ap (λ n. suc n) (many slots ids)
 
 -- whatever is compared from a design on, with what was compared before it is all of an edit's
 abbrev pub IsAhead : Library → List Record → List Record → List Record → ℕ → Type 0
@@ -70,8 +81,8 @@ module _ (library : Library) (slots : List (Option Kept)) (old between : List (S
         behind,
         later,
         was,
-        rw (length-map (λ (y : StmtId × Record). y.1) (records_under slots x.went)) few,
-        also,
+        rw (many slots x.went) few,
+        rw (many slots x.came) also,
         ap₂ (λ m n. m + n + later) (same_pairs library old (records_under slots x.went)) (same_pairs library between (records_under slots x.came) ∙ ap (λ (d : List Record). near_boxes library d one.came) then),
         rw (← then) near,
       )
