@@ -1,12 +1,13 @@
 -- How many pairs of rectangles are compared at most for an edit.
 use Rattle.std.specs.Prelude.{◌≡◌, ◌+◌, ◌≤◌, ℕ, Bool, true, false, List, [], ◌∷◌, ◌++◌, length, count_by, sum_by, MatchOption, Option, Some, None, Ok}
-use Rattle.std.specs.List.{AllByRecursion, list_any}
+use Rattle.std.specs.List.{list_any}
 use Rattle.std.specs.Str.{bytes_eq}
 use Rattle.def_grammar.specs.Records.{Record, read_def}
 use Rattle.lef_grammar.specs.Library.{Library}
 use Rattle.design_rules.specs.Boxes.{Boxed, boxes}
 use Rattle.edit_rules.specs.Edits.{Change, change_of, of_component, of_net, of_section}
 use Rattle.edit_rules.specs.SectionEdits.{add_blockage, add_component, remove_component}
+use Rattle.net_laws.specs.NetChanges.{is_one_of}
 use Rattle.net_laws.specs.NetExchanges.{finds}
 use Rattle.net_laws.specs.NetsTold.{terminals_in}
 use Rattle.shape_index.specs.Near.{are_near}
@@ -31,8 +32,12 @@ subject_of (of_section (add_blockage layer x1 y1 x2 y2)) = None
 -- it touches a net of a design: it is that net, or lists that component
 abbrev pub is_touched : List Record → Option Subject → List ℕ → Bool
 is_touched design None name = false
-is_touched design (Some (one_net net)) name = bytes_eq name net
+is_touched design (Some (one_net net)) name = bytes_eq net name
 is_touched design (Some (one_component c)) name = list_any (finds c) (terminals_in design name)
+
+-- and each of some nets
+abbrev pub AreTouched : List Record → Option Subject → List (List ℕ) → Type 0
+AreTouched design subject nets = (name : List ℕ) → is_one_of nets name ≡ true → is_touched design subject name ≡ true
 
 -- each component of a design among some statements, with each whose box is near its own, itself too
 abbrev pub near_boxes : Library → List Record → List Record → ℕ
@@ -63,7 +68,7 @@ FewBoxes library old new tests =
 
 -- an edit that touches these nets touches no others than it says
 abbrev pub TouchesOnly : List Record → Option Subject → Touched → Type 0
-TouchesOnly design subject t = AllByRecursion (λ name. is_touched design subject name ≡ true) (t.names ++ star_names t.stars)
+TouchesOnly design subject t = AreTouched design subject (t.names ++ star_names t.stars)
 
 -- what a change is of: a text edit of whatever its first byte lies in
 abbrev pub IsSubject : session.Change → Option Subject → Type 0
@@ -73,7 +78,7 @@ IsSubject (Text position) subject = Unit {0}
 -- each of some nets is touched, and so many pairs of shapes are near
 pub record FewShapes (library : Library) (old new : List Record) (subject : Option Subject) (tests : ℕ) : Type 0 where
   pub nets : List (List ℕ)
-  pub are_touched : AllByRecursion (λ name. is_touched old subject name ≡ true) nets
+  pub are_touched : AreTouched old subject nets
   pub few : tests ≤ near_pairs library old nets + near_pairs library new nets
 
 -- Shapes of nets that the edit touches are compared with shapes near them, as they were and as they are then; so are boxes of components

@@ -1,39 +1,49 @@
 -- The lines on nets of a text follow an edit by those that it touches.
-use Rattle.std.proofs.Common.{◌≡◌, ◌∙◌, ℕ, Bool, true, false, not, List, [], ◌∷◌, ◌++◌, append_assoc, append-nil, Option, Some, None, map, sum_by, refl, sym, ap, ap₂, arith, subst}
-use Rattle.std.specs.Prelude.{IfSome, filter}
-use Rattle.std.specs.List.{AllByRecursion}
-use Rattle.std.proofs.lemmas.List.{map-append}
+use Rattle.std.proofs.Common.{◌≡◌, ◌∙◌, ◌+◌, ◌≤◌, ℕ, Bool, true, false, not, ◌||◌, List, [], ◌∷◌, ◌++◌, append-nil, Option, Some, None, map, sum_by, refl, sym, ap, ap₂, arith, subst}
+use Rattle.std.specs.Prelude.{IfNone, IfSome, filter, flat_map}
+use Rattle.std.specs.Option.{option_map}
+use Rattle.std.specs.List.{AllByRecursion, list_any}
+use Rattle.std.specs.Str.{bytes_eq}
 use Rattle.std.proofs.lemmas.List.Sums.{sum_by-append}
+use Rattle.std.proofs.lemmas.Slice.Eq.{bytes_eq-Decides}
+use Rattle.design_model.specs.Order.{sorted_by_bytes}
 use Rattle.design_model.specs.declared.identifier.StmtId.{StmtId}
 use Rattle.def_grammar.specs.Records.{Record}
+use Rattle.def_grammar.specs.Terminals.{is_of_all}
 use Rattle.lef_grammar.specs.Library.{Library}
+use Rattle.lef_grammar.specs.Measures.{Shape}
 use Rattle.design_rules.specs.Boxes.{scale}
-use Rattle.connection_rules.specs.NetLines.{Barrier, NetShape, barriers, layer_name, short_of}
-use Rattle.connection_rules.specs.NetParts.{Net, all_nets, net_named}
-use Rattle.following_laws.specs.DesignLaws.{NetLinesFollow}
+use Rattle.connection_rules.specs.NetLines.{Barrier, NetShape, barriers, class_lines, layer_name, net_lines, net_shapes, shapes_of_net, short_of}
+use Rattle.connection_rules.specs.NetParts.{Net, Part, all_nets, net_named}
 use Rattle.kept_lines.specs.Kept.{Kept}
-use Rattle.line_laws.specs.Lines.{SameThings}
+use Rattle.line_laws.specs.Lines.{SameThings, times}
 use Rattle.line_laws.specs.PairLaws.{IsSymmetric}
 use Rattle.line_laws.specs.SortingLaws.{SameLinesSortAlike}
+use Rattle.named_shapes.specs.Named.{shapes_by_name}
 use Rattle.net_laws.specs.NetChanges as net_changes
 use Rattle.net_laws.specs.NetChanges.{ToldExchange, ToldNetsAreExchanged, is_one_of}
 use Rattle.net_laws.specs.NetExchanges.{nets_where}
-use Rattle.net_laws.specs.NetsTold.{AgreeOnNet, NetsAreTold, is_of_net}
+use Rattle.net_laws.specs.NetsTold.{AgreeOnNet, NetsAreTold, is_of_net, terminals_in, terminals_of}
 use Rattle.net_laws.specs.OneNet.{TellNet}
-use Rattle.net_laws.specs.StarNets.{OneEntryTells}
+use Rattle.net_laws.specs.PinLines.{ArePins, PinLinesFollow}
+use Rattle.net_laws.specs.StarNets.{OneComponentExchanged, OneEntryTells, PinsAreExchanged, pins_by_one, tells_of}
 use Rattle.net_queries.specs.ShortLaws.{ShortIsSymmetric}
-use Rattle.net_touches.specs.Barriers.{name_at}
-use Rattle.followed_nets.specs.Exchanging.{AreToldIn, AwaitsNets, name_of, nets_told}
-use Rattle.followed_nets.specs.FollowedNets.{AreOnNets, HasNets, Nets}
+use Rattle.shape_index.specs.Near.{near_shapes}
+use Rattle.followed_nets.specs.Exchanging.{AreToldIn, name_of, nets_told}
+use Rattle.followed_nets.specs.FollowedNets.{HasNets, Nets}
 use Rattle.followed_nets.specs.Listed.{AreApart}
 use Rattle.followed_nets.specs.Noted.{AreCommon, said}
-use Rattle.followed_nets.specs.StarExchanges.{AreStarsThen, AwaitsOwn, nets_of}
+use Rattle.followed_nets.specs.Pieces.{AreOnPieces, ArePieces, Piece, piece_of}
+use Rattle.followed_nets.specs.StarExchanges.{AwaitsOwn, HaveComponent, nets_of}
 use Rattle.followed_nets.specs.Stars.{AreStarNames, AreStars, IsStar, names_of}
+use Rattle.followed_nets.specs.Tests.{near_each, near_pairs, near_told}
 use Rattle.followed_nets.specs.Told.{IsToldIn, Told}
 use Rattle.followed_nets.specs.Touched.{AreFollowed, ArePinsBy, ArePinsOf, AreTouched, StarPins, Touched, star_names}
 use Rattle.followed_nets.specs.Within.{Fits, LeavesOthers}
-use Rattle.followed_nets.proofs.ExchangingLemmas.{same_shorts}
-use Rattle.followed_nets.proofs.NetsLeft.{in_any_order}
+use Rattle.followed_nets.proofs.NearPairs.{near_nets, near_pins}
+use Rattle.followed_nets.proofs.PartedNets.{Splits, as_pieces, both_pieces, in_parts, lines_as_nets, made_whole, shapes_as_nets, told_pieces}
+use Rattle.followed_nets.proofs.PinPieces.{left_piece, net_splits, pins_piece, pins_told, same_left, they_are_pins}
+use Rattle.followed_nets.proofs.ShortLines.{same_shorts}
 
 -- each of some nets is told by some statements
 abbrev AllTell : List Record → List (List ℕ) → Type 0
@@ -62,15 +72,34 @@ nets_are : (library : Library) (design : List Record) (ts : List Told) → nets_
 nets_are library design [] = refl
 nets_are library design (t ∷ ts) = ap (λ (ns : List Net). net_named library design (scale design) t.name ∷ ns) (nets_are library design ts)
 
--- other parts first
-swapped : (xs ys zs : List Net) → SameThings (xs ++ (ys ++ zs)) (ys ++ (xs ++ zs))
-swapped xs ys zs = record { sums = λ w. omega (arith, sum_by-append w xs (ys ++ zs), sum_by-append w ys zs, sum_by-append w ys (xs ++ zs), sum_by-append w xs zs) }
-
 turned : {A : Type 0} {xs ys : List A} → SameThings xs ys → SameThings ys xs
 turned same = record { sums = λ w. sym (same.sums w) }
 
+-- What goes and what comes are pieces: what is kept is on those that go and the rest, and on those that come and the rest it is on the nets
+-- of the new design. Neither is compared with more shapes than are near these nets'.
+pub record AreExchanged (library : Library) (old new : List Record) (names stars : List (List ℕ)) (shapes : List NetShape) (lines : List (List ℕ)) (gone come : List Told) : Type 0 where
+  pub bars : List Barrier
+  pub out : List Piece
+  pub put : List Piece
+  pub rest : List Piece
+  pub goes : ArePieces (layer_name library.layers) bars out gone
+  pub comes : ArePieces (layer_name library.layers) bars put come
+  pub had : AreOnPieces (layer_name library.layers) bars (out ++ rest) shapes lines
+  pub then_shapes : (now : List NetShape) (then : List (List ℕ)) → AreOnPieces (layer_name library.layers) bars (put ++ rest) now then → SameThings now (shapes_by_name (all_nets library new (scale new)))
+  pub then_lines : (now : List NetShape) (then : List (List ℕ)) → AreOnPieces (layer_name library.layers) bars (put ++ rest) now then → then ≡ sorted_by_bytes (net_lines library new (scale new))
+  pub few : near_told gone shapes ≤ near_pairs library old (names ++ stars)
+  pub then_few : (now : List NetShape) → SameThings now (shapes_by_name (all_nets library new (scale new))) → near_told come now ≤ near_pairs library new (names ++ stars)
+
+near_append : (library : Library) (design : List Record) (names more : List (List ℕ)) → near_pairs library design (names ++ more) ≡ near_pairs library design names + near_pairs library design more
+near_append library design names more =
+    sum_by-append (λ (name : List ℕ). sum_by (λ (s : Shape). near_shapes s (map (λ (n : NetShape). n.shape) (net_shapes library design (scale design)))) (map (λ (n : NetShape). n.shape) (shapes_of_net (net_named library design (scale design) name)))) names more
+
+near_as : (library : Library) (design : List Record) (names more : List (List ℕ)) → SameThings names more → near_pairs library design names ≡ near_pairs library design more
+near_as library design names more same =
+    same.sums (λ (name : List ℕ). sum_by (λ (s : Shape). near_shapes s (map (λ (n : NetShape). n.shape) (net_shapes library design (scale design)))) (map (λ (n : NetShape). n.shape) (shapes_of_net (net_named library design (scale design) name))))
+
 module _ (library : Library) (records then_records : List (StmtId × Record)) (noted : Nets) (kept : Kept) (t : Touched) (after : List Told)
-    (exchanged : ToldNetsAreExchanged) (entries : OneEntryTells) (follow : NetLinesFollow) (sorted : SameLinesSortAlike) (symmetric : ShortIsSymmetric)
+    (exchanged : ToldNetsAreExchanged) (entries : OneEntryTells) (sorted : SameLinesSortAlike) (symmetric : ShortIsSymmetric)
     (touched : AreTouched library (said records) t) (followed : AreFollowed library records noted kept) (leaves : LeavesOthers (said records) (said then_records) t) (fits : Fits noted.stars t)
     (then_told : AreToldIn library (said then_records) after) (then_named : map name_of after ≡ t.names) where
   abbrev old : List Record
@@ -84,9 +113,6 @@ module _ (library : Library) (records then_records : List (StmtId × Record)) (n
 
   abbrev pub stay : List Net
   stay = nets_where library old (scale old) (λ net. not (is_one_of (t.names ++ stars) net))
-
-  abbrev then_bars : List Barrier
-  then_bars = barriers library new (scale new)
 
   -- where the edit is of no component
   no_stars : t.component ≡ None → t.stars ≡ []
@@ -112,124 +138,243 @@ module _ (library : Library) (records then_records : List (StmtId × Record)) (n
       (apart_tell old (t.names ++ stars) touched.apart (all_of_both (TellIn old) t.names stars (subst (AllTell old) touched.named (tells library old t.before touched.told)) both.0))
       (apart_tell new (t.names ++ stars) touched.apart (all_of_both (TellIn new) t.names stars (subst (AllTell new) then_named (tells library new after then_told)) both.1))
 
-  parted : (design : List Record) (ts : List Told) → map name_of ts ≡ t.names → nets_of library design (t.names ++ stars) ++ stay ≡ nets_told library design ts ++ (nets_of library design stars ++ stay)
-  parted design ts named =
-      ap (λ (ns : List (List ℕ)). nets_of library design (ns ++ stars) ++ stay) (sym named)
-      ∙ ap (λ (ns : List Net). ns ++ stay) (map-append (net_named library design (scale design)) (map name_of ts) stars)
-      ∙ append_assoc (nets_of library design (map name_of ts)) (nets_of library design stars) stay
-      ∙ ap (λ (ns : List Net). ns ++ (nets_of library design stars ++ stay)) (sym (nets_are library design ts))
+  abbrev name_of_layer : ℕ → List ℕ
+  name_of_layer = layer_name library.layers
 
-  abbrev symmetric_shorts : IsSymmetric (short_of (layer_name library.layers))
-  symmetric_shorts = same_shorts symmetric library
+  abbrev symmetric_shorts : IsSymmetric (short_of name_of_layer)
+  symmetric_shorts = same_shorts symmetric name_of_layer
 
-  pub awaited : (names : List (List ℕ)) → name_at names ≡ layer_name library.layers → AwaitsNets library old new names (nets_of library old stars ++ stay) t.before after noted.shapes kept.lines
-  awaited names names_are = record {
-    names_are = names_are;
-    told = touched.told;
-    then_told = then_told;
-    same_nets = touched.named ∙ sym then_named;
-    bars = told.bars;
-    had = in_any_order library (barriers library old (scale old)) follow sorted symmetric_shorts (all_nets library old (scale old)) (nets_told library old t.before ++ (nets_of library old stars ++ stay))
-        (subst (SameThings (all_nets library old (scale old))) (parted old t.before touched.named) told.exchange.old_is) noted.shapes kept.lines
-        (record { shapes_are = followed.nets.shapes_are; lines_are = followed.lines });
+  abbrev old_bars : List Barrier
+  old_bars = barriers library old (scale old)
+
+  abbrev new_bars : List Barrier
+  new_bars = barriers library new (scale new)
+
+  had : AreOnPieces name_of_layer old_bars (map piece_of (all_nets library old (scale old))) noted.shapes kept.lines
+  had = as_pieces name_of_layer old_bars (all_nets library old (scale old)) noted.shapes kept.lines followed.nets.shapes_are followed.lines
+
+  -- what is told goes and comes, with some parts of the nets that are kept with theirs
+  module _ (gone_part come_part left_part : List ℕ → Piece) (gone_split : (n : List ℕ) → Splits (piece_of (net_named library old (scale old) n)) (gone_part n) (left_part n))
+      (come_split : (n : List ℕ) → Splits (piece_of (net_named library new (scale new) n)) (come_part n) (left_part n)) (out put : List Told)
+      (out_names : SameThings (map name_of out) stars) (put_names : SameThings (map name_of put) stars)
+      (out_are : (bars : List Barrier) → ArePieces name_of_layer bars (map gone_part (map name_of out)) out) (put_are : (bars : List Barrier) → ArePieces name_of_layer bars (map come_part (map name_of put)) put)
+      (out_near : near_told out noted.shapes ≤ near_pairs library old (map name_of out))
+      (put_near : (shapes : List NetShape) → SameThings shapes (shapes_by_name (all_nets library new (scale new))) → near_told put shapes ≤ near_pairs library new (map name_of put)) where
+    abbrev rest : List Piece
+    rest = map left_part stars ++ map piece_of stay
+
+    gone_in : AreOnPieces name_of_layer old_bars ((map piece_of (nets_of library old t.names) ++ map gone_part (map name_of out)) ++ rest) noted.shapes kept.lines
+    gone_in = in_parts library old gone_part left_part gone_split t.names stars (map name_of out) out_names stay (all_nets library old (scale old)) told.exchange.old_is name_of_layer old_bars sorted symmetric_shorts noted.shapes kept.lines had
+
+    gone_told : ArePieces name_of_layer old_bars (map piece_of (nets_of library old t.names) ++ map gone_part (map name_of out)) (t.before ++ out)
+    gone_told =
+        both_pieces name_of_layer old_bars (map piece_of (nets_of library old t.names)) (map gone_part (map name_of out)) t.before out
+        (subst (λ (ns : List Net). ArePieces name_of_layer old_bars (map piece_of ns) t.before) (nets_are library old t.before ∙ ap (nets_of library old) touched.named) (told_pieces library old t.before touched.told))
+        (out_are old_bars)
+
+    come_told : ArePieces name_of_layer old_bars (map piece_of (nets_of library new t.names) ++ map come_part (map name_of put)) (after ++ put)
+    come_told =
+        both_pieces name_of_layer old_bars (map piece_of (nets_of library new t.names)) (map come_part (map name_of put)) after put
+        (subst (λ (bars : List Barrier). ArePieces name_of_layer bars (map piece_of (nets_of library new t.names)) after) (sym told.bars)
+        (subst (λ (ns : List Net). ArePieces name_of_layer new_bars (map piece_of ns) after) (nets_are library new after ∙ ap (nets_of library new) then_named) (told_pieces library new after then_told)))
+        (put_are old_bars)
+
+    come_whole : (shapes : List NetShape) (lines : List (List ℕ)) → AreOnPieces name_of_layer old_bars ((map piece_of (nets_of library new t.names) ++ map come_part (map name_of put)) ++ rest) shapes lines
+        → AreOnPieces name_of_layer new_bars (map piece_of (all_nets library new (scale new))) shapes lines
+    come_whole shapes lines are =
+        made_whole library new come_part left_part come_split t.names stars (map name_of put) put_names stay (all_nets library new (scale new)) told.exchange.new_is name_of_layer new_bars sorted symmetric_shorts shapes lines
+        (subst (λ (bars : List Barrier). AreOnPieces name_of_layer bars ((map piece_of (nets_of library new t.names) ++ map come_part (map name_of put)) ++ rest) shapes lines) told.bars are)
+
+    near_both : (design : List Record) (ts more : List Told) (shapes : List NetShape) → AreToldIn library design ts → map name_of ts ≡ t.names → SameThings (map name_of more) stars
+        → SameThings shapes (shapes_by_name (all_nets library design (scale design))) → near_told more shapes ≤ near_pairs library design (map name_of more)
+        → near_told (ts ++ more) shapes ≤ near_pairs library design (t.names ++ stars)
+    near_both design ts more shapes are named names all few =
+        let w = λ (u : Told). near_each u.shapes shapes in
+        let own = near_nets library design shapes all ts are ∙ ap (near_pairs library design) named in
+        let same = near_as library design (map name_of more) stars names in
+        omega (arith, own, same, few, sum_by-append w ts more, near_append library design t.names stars)
+
+    pub exchanged_parts : AreExchanged library old new t.names stars noted.shapes kept.lines (t.before ++ out) (after ++ put)
+    exchanged_parts = record {
+      bars = old_bars;
+      out = map piece_of (nets_of library old t.names) ++ map gone_part (map name_of out);
+      put = map piece_of (nets_of library new t.names) ++ map come_part (map name_of put);
+      rest = rest;
+      goes = gone_told;
+      comes = come_told;
+      had = gone_in;
+      then_shapes = λ shapes lines are. shapes_as_nets name_of_layer new_bars (all_nets library new (scale new)) shapes lines (come_whole shapes lines are);
+      then_lines = λ shapes lines are. lines_as_nets name_of_layer new_bars (all_nets library new (scale new)) shapes lines (come_whole shapes lines are);
+      few = near_both old t.before out noted.shapes touched.told touched.named out_names followed.nets.shapes_are out_near;
+      then_few = λ shapes all. near_both new after put shapes then_told then_named put_names all (put_near shapes all);
+    }
+
+  abbrev no_piece : Piece
+  no_piece = record { shapes = []; lines = [] }
+
+  all_of_it : (n : Net) → Splits (piece_of n) (piece_of n) no_piece
+  all_of_it n = record {
+    shapes = record { sums = λ w. ap (sum_by w) (sym (append-nil (shapes_of_net n))) };
+    lines = record { often = λ q. ap (times q) (sym (append-nil (class_lines n))) };
   }
 
-  new_parted : SameThings (nets_told library new after ++ (nets_of library new stars ++ stay)) (all_nets library new (scale new))
-  new_parted = turned (subst (SameThings (all_nets library new (scale new))) (parted new after then_named) told.exchange.new_is)
+  -- a net of the same entries lists the same
+  same_stars : (net : List ℕ) → filter (is_of_net net) old ≡ filter (is_of_net net) new → list_any is_of_all (terminals_in old net) ≡ true → list_any is_of_all (terminals_in new net) ≡ true
+  same_stars net same there = ap (λ (rs : List Record). list_any is_of_all (flat_map terminals_of rs)) (sym same) ∙ there
 
-  module _ (shapes : List NetShape) (lines : List (List ℕ)) (had : AreOnNets library then_bars (nets_told library new after ++ (nets_of library old stars ++ stay)) shapes lines) where
-    -- after an edit of a net, the nets that are kept with their parts stay
-    module _ (law : NetsAreTold) (none : t.component ≡ None) where
-      still_star : (s : Net) → is_one_of t.names s.name ≡ false → IsStar library old s → IsStar library new s
-      still_star s other star =
-          let out : is_one_of (t.names ++ stars) s.name ≡ false = ap (λ (ss : List StarPins). is_one_of (t.names ++ star_names ss) s.name) (no_stars none) ∙ ap (λ (ns : List (List ℕ)). is_one_of ns s.name) (append-nil t.names) ∙ other in
-          let agree : AgreeOnNet old new s.name = leaves.apart.agree s.name out in
-          let same : net_named library old (scale old) s.name ≡ net_named library new (scale new) s.name =
-          law library old new (scale old) s.name agree ∙ ap (λ (u : ℕ). net_named library new u s.name) told.scales in
-          record {
-            net = record {
-              same_power = star.net.same_power ∙ ap (λ (n : Net). n.is_power) same;
-              same_parts = subst (λ (n : Net). SameThings s.parts n.parts) same star.net.same_parts;
-            };
-            entry = star.entry;
-            one_entry = sym agree.entries ∙ star.one_entry;
-          }
+  -- after an edit of a net, the nets that are kept with their parts stay
+  module _ (law : NetsAreTold) (none : t.component ≡ None) where
+    pub exchanged_nets : (gone come : List Told) → gone ≡ t.before → come ≡ after → AreExchanged library old new t.names stars noted.shapes kept.lines gone come
+    exchanged_nets gone come gone_are come_are =
+        let no_names : SameThings [] stars = subst (λ (ss : List StarPins). SameThings [] (star_names ss)) (sym (no_stars none)) (record { sums = λ w. refl }) in
+        let e = exchanged_parts (λ n. piece_of (net_named library old (scale old) n)) (λ n. piece_of (net_named library new (scale new) n)) (λ n. no_piece) (λ n. all_of_it (net_named library old (scale old) n)) (λ n. all_of_it (net_named library new (scale new) n))
+        [] [] no_names no_names (λ bars. tt) (λ bars. tt) (omega arith) (λ shapes all. omega arith) in
+        subst (λ (ts : List Told). AreExchanged library old new t.names stars noted.shapes kept.lines ts come) (append-nil t.before ∙ sym gone_are)
+        (subst (λ (ts : List Told). AreExchanged library old new t.names stars noted.shapes kept.lines (t.before ++ []) ts) (append-nil after ∙ sym come_are) e)
 
-      still_stars : (ss : List Net) → AllByRecursion (λ (s : Net). is_one_of t.names s.name ≡ false) ss → AllByRecursion (IsStar library old) ss → AllByRecursion (IsStar library new) ss
-      still_stars [] others are = tt
-      still_stars (s ∷ ss) others are = (still_star s others.0 are.0, still_stars ss others.1 are.1)
+    still_star : (s : Net) → is_one_of t.names s.name ≡ false → IsStar library old s → IsStar library new s
+    still_star s other star =
+        let out : is_one_of (t.names ++ stars) s.name ≡ false = ap (λ (ss : List StarPins). is_one_of (t.names ++ star_names ss) s.name) (no_stars none) ∙ ap (λ (ns : List (List ℕ)). is_one_of ns s.name) (append-nil t.names) ∙ other in
+        let agree : AgreeOnNet old new s.name = leaves.apart.agree s.name out in
+        let same : net_named library old (scale old) s.name ≡ net_named library new (scale new) s.name =
+        law library old new (scale old) s.name agree ∙ ap (λ (u : ℕ). net_named library new u s.name) told.scales in
+        record {
+          net = record {
+            same_power = star.net.same_power ∙ ap (λ (n : Net). n.is_power) same;
+            same_parts = subst (λ (n : Net). SameThings s.parts n.parts) same star.net.same_parts;
+          };
+          entry = star.entry;
+          one_entry = sym agree.entries ∙ star.one_entry;
+        }
 
-      still_kept : (found : Option (List Net)) → noted.stars ≡ found → IfSome found (AreStars library new)
-      still_kept None is = tt
-      still_kept (Some ss) is =
-          let are = are_kept ss is in
-          record {
-            names = record { apart = are.names.apart; all = λ net out. leaves.no_stars net (are.names.all net out) };
-            kept = still_stars ss (fits.others none ss is) are.kept;
-          }
+    still_stars : (ss : List Net) → AllByRecursion (λ (s : Net). is_one_of t.names s.name ≡ false) ss → AllByRecursion (IsStar library old) ss → AllByRecursion (IsStar library new) ss
+    still_stars [] others are = tt
+    still_stars (s ∷ ss) others are = (still_star s others.0 are.0, still_stars ss others.1 are.1)
 
-      pub followed_by_nets : (k : Kept) → k.lines ≡ lines → AreCommon then_records noted.common → AreFollowed library then_records (record { shapes = shapes; common = noted.common; stars = noted.stars }) k
-      followed_by_nets k lines_are common =
-          let same : nets_of library old stars ≡ nets_of library new stars =
-          ap (λ (ss : List StarPins). nets_of library old (star_names ss)) (no_stars none) ∙ sym (ap (λ (ss : List StarPins). nets_of library new (star_names ss)) (no_stars none)) in
-          let all = in_any_order library then_bars follow sorted symmetric_shorts (nets_told library new after ++ (nets_of library new stars ++ stay)) (all_nets library new (scale new)) new_parted shapes lines
-          (subst (λ (ns : List Net). AreOnNets library then_bars (nets_told library new after ++ (ns ++ stay)) shapes lines) same had) in
-          record {
-            nets = record { shapes_are = all.shapes_are; common_are = common; stars_are = still_kept noted.stars refl };
-            lines = lines_are ∙ all.lines_are;
-          }
+    -- a net that is kept isn't touched
+    star_other : (ss : List Net) (net : List ℕ) → AllByRecursion (λ (s : Net). is_one_of t.names s.name ≡ false) ss → is_one_of (names_of ss) net ≡ true → is_one_of t.names net ≡ false
+    star_other [] net others there = absurd (cc)
+    star_other (s ∷ ss) net others there = either (bytes_eq s.name net) refl there (λ h. star_other ss net others.1 h)
+      where
+        either : (b : Bool) → bytes_eq s.name net ≡ b → (b || is_one_of (names_of ss) net) ≡ true → (is_one_of (names_of ss) net ≡ true → is_one_of t.names net ≡ false) → is_one_of t.names net ≡ false
+        either true this h later = ap (is_one_of t.names) (sym ((bytes_eq-Decides s.name net).0 this)) ∙ others.0
+        either false this h later = later h
 
-    -- after an edit of a component, its pins are to be exchanged in them
-    module _ (name : List ℕ) (is : t.component ≡ Some name) where
-      abbrev pub kept_stars : List Net
-      kept_stars = (fits.own name is).0
+    no_star : (net : List ℕ) → is_one_of t.names net ≡ false → is_one_of (t.names ++ stars) net ≡ false
+    no_star net other = ap (λ (ss : List StarPins). is_one_of (t.names ++ star_names ss) net) (no_stars none) ∙ ap (λ (ns : List (List ℕ)). is_one_of ns net) (append-nil t.names) ∙ other
 
-      abbrev stars_named : stars ≡ names_of kept_stars
-      stars_named = (fits.own name is).2
+    pub still_kept : (found : Option (List Net)) → noted.stars ≡ found → IfSome found (AreStars library new)
+    still_kept None is = tt
+    still_kept (Some ss) is =
+        let are = are_kept ss is in
+        record {
+          names = record {
+            apart = are.names.apart;
+            all = λ net out. leaves.no_stars net (are.names.all net out);
+            own = λ net there. same_stars net (leaves.apart.agree net (no_star net (star_other ss net (fits.others none ss is) there))).entries (are.names.own net there);
+          };
+          kept = still_stars ss (fits.others none ss is) are.kept;
+        }
 
-      pub awaits_own : (names : List (List ℕ)) → name_at names ≡ layer_name library.layers → AwaitsOwn library old new names name (nets_told library new after ++ stay) kept_stars t.stars shapes lines
-      awaits_own names names_are then_pins after_names after_pins = record {
-        names_are = names_are;
-        agree = λ net. leaves.but name net is;
-        scales = told.scales;
-        kept = (are_kept kept_stars (fits.own name is).1).kept;
-        before_names = stars_named;
-        after_names = after_names;
-        before_pins = subst (λ (c : Option (List ℕ)). ArePinsOf library old c t.stars) is touched.pins;
-        after_pins = after_pins;
-        had = subst (λ (ns : List (List ℕ)). AreOnNets library then_bars (nets_of library old ns ++ (nets_told library new after ++ stay)) shapes lines) stars_named
-            (in_any_order library then_bars follow sorted symmetric_shorts (nets_told library new after ++ (nets_of library old stars ++ stay)) (nets_of library old stars ++ (nets_told library new after ++ stay))
-            (swapped (nets_told library new after) (nets_of library old stars) stay) shapes lines had);
-      }
+  -- after an edit of a component, its pins are exchanged in them
+  module _ (pins : PinLinesFollow) (exchange : OneComponentExchanged) (name : List ℕ) (is : t.component ≡ Some name) where
+    abbrev pub kept_stars : List Net
+    kept_stars = (fits.own name is).0
 
-      pub followed_by_stars : (then_stars : List Net) (then_shapes : List NetShape) (k : Kept) → AreStarsThen library new (nets_told library new after ++ stay) (names_of kept_stars) then_stars then_shapes k.lines
-          → AreCommon then_records noted.common → AreFollowed library then_records (record { shapes = then_shapes; common = noted.common; stars = Some then_stars }) k
-      followed_by_stars then_stars then_shapes k are common =
-          let there = subst (λ (ns : List (List ℕ)). AreOnNets library then_bars (nets_of library new ns ++ (nets_told library new after ++ stay)) then_shapes k.lines) (sym stars_named) are.had in
-          let moved = in_any_order library then_bars follow sorted symmetric_shorts (nets_of library new stars ++ (nets_told library new after ++ stay)) (nets_told library new after ++ (nets_of library new stars ++ stay))
-          (swapped (nets_of library new stars) (nets_told library new after) stay) then_shapes k.lines there in
-          let all = in_any_order library then_bars follow sorted symmetric_shorts (nets_told library new after ++ (nets_of library new stars ++ stay)) (all_nets library new (scale new)) new_parted then_shapes k.lines moved in
+    abbrev stars_named : stars ≡ names_of kept_stars
+    stars_named = (fits.own name is).2
+
+    pub awaits_own : AwaitsOwn library old new name kept_stars t.stars
+    awaits_own then_pins after_names after_pins = record {
+      agree = λ net. leaves.but name net is;
+      scales = told.scales;
+      kept = (are_kept kept_stars (fits.own name is).1).kept;
+      before_names = stars_named;
+      after_names = after_names;
+      before_pins = subst (λ (c : Option (List ℕ)). ArePinsOf library old c t.stars) is touched.pins;
+      after_pins = after_pins;
+    }
+
+    same_net : (n : List ℕ) → PinsAreExchanged library old new (scale old) n name
+    same_net n = exchange library old new (scale old) n name (leaves.but name n is)
+
+    abbrev old_pins : List ℕ → List Part
+    old_pins n = pins_by_one library old (scale old) n name
+
+    abbrev new_pins : List ℕ → List Part
+    new_pins n = pins_by_one library new (scale new) n name
+
+    abbrev old_net : List ℕ → Net
+    old_net n = net_named library old (scale old) n
+
+    abbrev new_net : List ℕ → Net
+    new_net n = net_named library new (scale new) n
+
+    new_parted : (n : List ℕ) → SameThings (new_net n).parts (new_pins n ++ (same_net n).stay)
+    new_parted n = subst (λ (u : ℕ). SameThings (net_named library new u n).parts (pins_by_one library new u n name ++ (same_net n).stay)) told.scales (same_net n).exchange.new_is
+
+    new_split : (n : List ℕ) → Splits (piece_of (new_net n)) (pins_piece (new_net n) (new_pins n)) (left_piece (old_net n) (same_net n).stay)
+    new_split n =
+        subst (λ (p : Piece). Splits (piece_of (new_net n)) (pins_piece (new_net n) (new_pins n)) p)
+        (same_left (new_net n) (old_net n) (same_net n).stay refl (sym ((same_net n).same_power ∙ ap (λ (u : ℕ). (net_named library new u n).is_power) told.scales)))
+        (net_splits (new_net n) (new_pins n) (same_net n).stay (new_parted n))
+
+    are_pins : (design : List Record) (n : List ℕ) → ArePins (pins_by_one library design (scale design) n name)
+    are_pins design n = they_are_pins (net_named library (filter (tells_of n name) design) (scale design) n).parts
+
+    module _ (gone come : List Told) (then_kept : Option (List Net)) (have : HaveComponent library old new name (names_of kept_stars) t.before after then_kept gone come) where
+      out_named : SameThings (map name_of have.out) stars
+      out_named = subst (SameThings (map name_of have.out)) (sym stars_named) have.own.gone_names
+
+      put_named : SameThings (map name_of have.put) stars
+      put_named = subst (SameThings (map name_of have.put)) (sym stars_named) have.own.come_names
+
+      pub exchanged_stars : AreExchanged library old new t.names stars noted.shapes kept.lines gone come
+      exchanged_stars =
+          let e = exchanged_parts (λ n. pins_piece (old_net n) (old_pins n)) (λ n. pins_piece (new_net n) (new_pins n)) (λ n. left_piece (old_net n) (same_net n).stay)
+          (λ n. net_splits (old_net n) (old_pins n) (same_net n).stay (same_net n).exchange.old_is) new_split have.out have.put out_named put_named
+          (λ bars. pins_told pins name_of_layer symmetric_shorts bars library old name (are_pins old) have.out have.own.gone_are)
+          (λ bars. pins_told pins name_of_layer symmetric_shorts bars library new name (are_pins new) have.put have.own.come_are)
+          (near_pins library old noted.shapes followed.nets.shapes_are name (λ n. (same_net n).stay) (λ n. (same_net n).exchange.old_is) have.out have.own.gone_are)
+          (λ shapes all. near_pins library new shapes all name (λ n. (same_net n).stay) new_parted have.put have.own.come_are) in
+          subst (λ (ts : List Told). AreExchanged library old new t.names stars noted.shapes kept.lines ts come) (sym have.gone_are)
+          (subst (λ (ts : List Told). AreExchanged library old new t.names stars noted.shapes kept.lines (t.before ++ have.out) ts) (sym have.come_are) e)
+
+      pub then_stars : IfSome then_kept (AreStars library new)
+      then_stars =
           let names = (are_kept kept_stars (fits.own name is).1).names in
-          record {
-            nets = record {
-              shapes_are = all.shapes_are;
-              common_are = common;
-              stars_are = record {
-                names = record {
-                  apart = subst AreApart (sym are.same_names) names.apart;
-                  all = λ net out. leaves.no_stars net (names.all net (ap (λ (ns : List (List ℕ)). is_one_of ns net) (sym are.same_names) ∙ out));
-                };
-                kept = are.kept;
-              };
+          let same = have.own.same_names in
+          let are : AreStars library new have.stars = record {
+            names = record {
+              apart = subst AreApart (sym same) names.apart;
+              all = λ net out. leaves.no_stars net (names.all net (ap (λ (ns : List (List ℕ)). is_one_of ns net) (sym same) ∙ out));
+              own = λ net there. same_stars net (leaves.but name net is).entries (names.own net (ap (λ (ns : List (List ℕ)). is_one_of ns net) (sym same) ∙ there));
             };
-            lines = all.lines_are;
-          }
+            kept = have.own.kept;
+          } in
+          subst (λ (s : Option (List Net)). IfSome s (AreStars library new)) (sym have.kept_are) are
 
--- what is awaited hangs on what the pins are alone
-pub own_pins : {library : Library} {old new : List Record} {names : List (List ℕ)} {name : List ℕ} {others stars : List Net} {before later : List StarPins} {shapes : List NetShape} {lines : List (List ℕ)} → before ≡ later
-    → AwaitsOwn library old new names name others stars before shapes lines → AwaitsOwn library old new names name others stars later shapes lines
-own_pins {library} {old} {new} {names} {name} {others} {stars} {before} {later} {shapes} {lines} same awaits = subst (λ (ps : List StarPins). AwaitsOwn library old new names name others stars ps shapes lines) same awaits
+  -- after either
+  pub record AllExchanged (gone come : List Told) (then_kept : Option (List Net)) : Type 0 where
+    pub parts : AreExchanged library old new t.names stars noted.shapes kept.lines gone come
+    pub then_stars : IfSome then_kept (AreStars library new)
 
--- nets that are noted are their fields
-pub noted_so : (n : Nets) (common : List StmtId) (stars : Option (List Net)) → n.common ≡ common → n.stars ≡ stars → record { shapes = n.shapes; common = common; stars = stars } ≡ n
-noted_so n common stars a b = ap₂ (λ (c : List StmtId) (s : Option (List Net)). record { shapes = n.shapes; common = c; stars = s }) (sym a) (sym b)
+  pub all_exchanged : {C : Type 0} (component : Option C) (name : C → List ℕ) (own_pins : C → List StarPins) → t.component ≡ option_map name component → ((own : C) → component ≡ Some own → t.stars ≡ own_pins own)
+      → NetsAreTold → PinLinesFollow → OneComponentExchanged → (gone come : List Told) (then_kept : Option (List Net))
+      → IfNone component ((then_kept ≡ noted.stars) × (gone ≡ t.before) × (come ≡ after))
+      → IfSome component (λ own. (d : List Record) (kept_nets : List Net) → noted.stars ≡ Some kept_nets → AwaitsOwn library d new (name own) kept_nets (own_pins own)
+      → HaveComponent library d new (name own) (names_of kept_nets) t.before after then_kept gone come)
+      → AllExchanged gone come then_kept
+  all_exchanged None name own_pins is pins_are law lines_follow exchange gone come then_kept none some = record {
+    parts = exchanged_nets law is gone come none.1 none.2;
+    then_stars = subst (λ (s : Option (List Net)). IfSome s (AreStars library new)) (sym none.0) (still_kept law is noted.stars refl);
+  }
+  all_exchanged (Some own) name own_pins is pins_are law lines_follow exchange gone come then_kept none some =
+      let kept_nets = kept_stars lines_follow exchange (name own) is in
+      let awaits = subst (λ (ps : List StarPins). AwaitsOwn library old new (name own) kept_nets ps) (pins_are own refl) (awaits_own lines_follow exchange (name own) is) in
+      let have = some old kept_nets (fits.own (name own) is).1 awaits in
+      record { parts = exchanged_stars lines_follow exchange (name own) is gone come then_kept have; then_stars = then_stars lines_follow exchange (name own) is gone come then_kept have }
+
+pub if_none_so : {C P Q : Type 0} (o : Option C) → (P → Q) → IfNone o P → IfNone o Q
+if_none_so None f h = f h
+if_none_so (Some x) f h = tt

@@ -1,5 +1,5 @@
 -- The names of nets whose entries list a component.
-use Rattle.std.proofs.Common.{◌≡◌, ◌&&◌, ◌||◌, ℕ, Bool, true, false, List, [], ◌∷◌, ◌++◌, refl, sym, ap, ap₂, ◌∙◌, inl, inr}
+use Rattle.std.proofs.Common.{◌≡◌, ◌&&◌, ◌||◌, ℕ, Bool, true, false, not, List, [], ◌∷◌, ◌++◌, refl, sym, ap, ap₂, ◌∙◌, inl, inr}
 use Rattle.std.specs.Prelude.{filter, flat_map}
 use Rattle.std.specs.List.{list_any}
 use Rattle.std.specs.Str.{bytes_eq}
@@ -8,12 +8,14 @@ use Rattle.std.proofs.lemmas.List.Folds.{list_any-append}
 use Rattle.std.proofs.lemmas.Slice.Eq.{bytes_eq-Decides}
 use Rattle.def_grammar.specs.Nets.{is_net, must_join}
 use Rattle.def_grammar.specs.Records as records
+use Rattle.def_grammar.specs.Terminals.{Terminal, is_of_all, is_of_design, is_virtual}
 use Rattle.def_grammar.specs.Records.{Record, end_section, entry, in_properties, top}
 use Rattle.design_tables.specs.Lookups.{is_of, lists}
 use Rattle.design_text.specs.Listings.{HasListing}
 use Rattle.net_laws.specs.NetChanges.{is_one_of}
+use Rattle.net_laws.specs.NetExchanges.{finds}
 use Rattle.net_laws.specs.NetsTold.{is_of_net, terminals_in, terminals_of}
-use Rattle.followed_nets.specs.Listed.{AreApart, AreListing, is_pin_of}
+use Rattle.followed_nets.specs.Listed.{AllList, AreApart, AreListing, is_pin_of}
 
 or_none : (a : Bool) → (a || false) ≡ a
 or_none true = refl
@@ -24,6 +26,10 @@ swap true true = refl
 swap true false = refl
 swap false true = refl
 swap false false = refl
+
+or_true : (a : Bool) → (a || true) ≡ true
+or_true true = refl
+or_true false = refl
 
 or_parts : (a b : Bool) → (a || b) ≡ false → (a ≡ false) × (b ≡ false)
 or_parts true b h = absurd (cc)
@@ -59,19 +65,48 @@ module _ (component net : List ℕ) where
   each_entry (entry (records.rule r)) = refl
   each_entry (entry (records.skipped s tokens)) = refl
 
-  -- a net of none of the entries that list it has no pin of it
-  none_listed : (design found : List Record) → HasListing component design found → list_any (is_of_net net) found ≡ false → list_any (is_pin_of component) (terminals_in design net) ≡ false
-  none_listed design found same none =
+  -- a net of one of the entries that list it has a pin of it, and no other
+  one_listed : (design found : List Record) → HasListing component design found → list_any (is_pin_of component) (terminals_in design net) ≡ list_any (is_of_net net) found
+  one_listed design found same =
       any_flat (is_pin_of component) terminals_of (filter (is_of_net net) design)
       ∙ any_filter (is_of_net net) (λ r. list_any (is_pin_of component) (terminals_of r)) design
       ∙ any_same (λ r. is_of_net net r && list_any (is_pin_of component) (terminals_of r)) (λ r. lists (is_of component) r && is_of_net net r) each_entry design
       ∙ sym (any_filter (lists (is_of component)) (is_of_net net) design)
       ∙ same (is_of_net net)
-      ∙ none
 
 pub are_listing : (component : List ℕ) (design found : List Record) (nets : List (List ℕ)) → HasListing component design found → ((net : List ℕ) → is_one_of nets net ≡ list_any (is_of_net net) found)
     → AreListing design component nets
-are_listing component design found nets same names net other = none_listed component net design found same (sym (names net) ∙ other)
+are_listing component design found nets same names net other = one_listed component net design found same ∙ sym (names net) ∙ other
+
+-- what passes a test passes another one
+pub any_so : {X : Type 0} (p q : X → Bool) → ((x : X) → p x ≡ true → q x ≡ true) → (xs : List X) → list_any p xs ≡ true → list_any q xs ≡ true
+any_so p q so [] h = h
+any_so p q so (x ∷ xs) h = one (p x) refl h (any_so p q so xs)
+  where
+    one : (b : Bool) → p x ≡ b → (b || list_any p xs) ≡ true → (list_any p xs ≡ true → list_any q xs ≡ true) → (q x || list_any q xs) ≡ true
+    one true is h later = ap (λ (c : Bool). c || list_any q xs) (so x is)
+    one false is h later = ap (λ (c : Bool). q x || c) (later h) ∙ or_true (q x)
+
+second_so : (a b : Bool) → (a && b) ≡ true → b ≡ true
+second_so true b h = h
+second_so false b h = absurd (cc)
+
+pub all_list : (component : List ℕ) (design found : List Record) (nets : List (List ℕ)) → HasListing component design found → ((net : List ℕ) → is_one_of nets net ≡ list_any (is_of_net net) found)
+    → AllList design component nets
+all_list component design found nets same names net is =
+    any_so (is_pin_of component) (finds component)
+    (λ t pin. ap (λ (b : Bool). is_of_all t || b) (second_so (not (is_of_all t || is_virtual t || is_of_design t)) (bytes_eq t.owner component) pin) ∙ or_true (is_of_all t))
+    (terminals_in design net) (one_listed component net design found same ∙ sym (names net) ∙ is)
+
+-- nets that list it by its name, and those that list a pin of all
+pub both_list : (component : List ℕ) (design : List Record) (nets stars : List (List ℕ)) → AllList design component nets
+    → ((net : List ℕ) → is_one_of stars net ≡ true → list_any is_of_all (terminals_in design net) ≡ true) → AllList design component (nets ++ stars)
+both_list component design nets stars by_name by_star net is = one (is_one_of nets net) refl (sym (list_any-append (λ n. bytes_eq n net) nets stars) ∙ is)
+  where
+    one : (b : Bool) → is_one_of nets net ≡ b → (b || is_one_of stars net) ≡ true → list_any (finds component) (terminals_in design net) ≡ true
+    one true first h = by_name net first
+    one false first h =
+        any_so is_of_all (finds component) (λ t all. ap (λ (b : Bool). b || bytes_eq t.owner component) all) (terminals_in design net) (by_star net h)
 
 -- one more name
 one_more : (nets : List (List ℕ)) (name net : List ℕ) → is_one_of (nets ++ name ∷ []) net ≡ (is_one_of nets net || bytes_eq name net)

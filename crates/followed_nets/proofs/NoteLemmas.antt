@@ -11,7 +11,7 @@ use Rattle.std.proofs.lemmas.List.Folds.{list_any-append}
 use Rattle.std.proofs.lemmas.Slice.Eq.{bytes_eq-Decides}
 use Rattle.design_model.specs.declared.identifier.StmtId.{StmtId}
 use Rattle.def_grammar.specs.Records.{Record}
-use Rattle.def_grammar.specs.Terminals.{is_of_all}
+use Rattle.def_grammar.specs.Terminals.{Terminal, is_of_all}
 use Rattle.lef_grammar.specs.Library.{Library}
 use Rattle.connection_rules.specs.NetParts.{Net, all_nets, net_named, net_names}
 use Rattle.design_rules.specs.Boxes.{scale}
@@ -32,29 +32,56 @@ true_and_false false h g = cc
 
 -- one more statement, which lists a pin of all components or none
 module _ (rs : List Record) (r : Record) where
-  more_in : (net : List ℕ) → list_any is_of_all (terminals_in rs net) ≡ false → (is_of_net net r ≡ true → list_any is_of_all (terminals_of r) ≡ false)
-      → list_any is_of_all (terminals_in (rs ++ r ∷ []) net) ≡ false
-  more_in net none own =
+  split : (net : List ℕ) → list_any is_of_all (terminals_in (rs ++ r ∷ []) net) ≡ (list_any is_of_all (terminals_in rs net) || list_any is_of_all (flat_map terminals_of (filter (is_of_net net) (r ∷ []))))
+  split net =
       ap (λ (l : List Record). list_any is_of_all (flat_map terminals_of l)) (filter-append (is_of_net net) rs (r ∷ []))
       ∙ ap (list_any is_of_all) (flat_map-append terminals_of (filter (is_of_net net) rs) (filter (is_of_net net) (r ∷ [])))
       ∙ list_any-append is_of_all (terminals_in rs net) (flat_map terminals_of (filter (is_of_net net) (r ∷ [])))
+
+  more_in : (net : List ℕ) → list_any is_of_all (terminals_in rs net) ≡ false → (is_of_net net r ≡ true → list_any is_of_all (terminals_of r) ≡ false)
+      → list_any is_of_all (terminals_in (rs ++ r ∷ []) net) ≡ false
+  more_in net none own =
+      split net
       ∙ ap₂ (λ (a b : Bool). a || b) none (one (is_of_net net r) refl)
     where
       one : (b : Bool) → is_of_net net r ≡ b → list_any is_of_all (flat_map terminals_of (if b then r ∷ [] else [])) ≡ false
       one true is = ap (list_any is_of_all) (append-nil (terminals_of r)) ∙ own is
       one false is = refl
 
-  pub with_star : (names then_names : List (List ℕ)) → AreApart then_names → ((net : List ℕ) → is_one_of then_names net ≡ (is_one_of names net || is_of_net net r)) → AreStarNames rs names
-      → AreStarNames (rs ++ r ∷ []) then_names
-  with_star names then_names apart all are = record {
+  -- what passed a test passes it also with one more
+  still_in : (net : List ℕ) → list_any is_of_all (terminals_in rs net) ≡ true → list_any is_of_all (terminals_in (rs ++ r ∷ []) net) ≡ true
+  still_in net some =
+      split net
+      ∙ ap (λ (b : Bool). b || list_any is_of_all (flat_map terminals_of (filter (is_of_net net) (r ∷ [])))) some
+
+  own_in : (net : List ℕ) → is_of_net net r ≡ true → list_any is_of_all (terminals_of r) ≡ true → list_any is_of_all (terminals_in (rs ++ r ∷ []) net) ≡ true
+  own_in net is own =
+      split net
+      ∙ ap (λ (b : Bool). list_any is_of_all (terminals_in rs net) || list_any is_of_all (flat_map terminals_of (if b then r ∷ [] else []))) is
+      ∙ ap (λ (l : List Terminal). list_any is_of_all (terminals_in rs net) || list_any is_of_all l) (append-nil (terminals_of r))
+      ∙ ap (λ (b : Bool). list_any is_of_all (terminals_in rs net) || b) own
+      ∙ or_true (list_any is_of_all (terminals_in rs net))
+    where
+      or_true : (b : Bool) → (b || true) ≡ true
+      or_true true = refl
+      or_true false = refl
+
+  pub with_star : (names then_names : List (List ℕ)) → AreApart then_names → ((net : List ℕ) → is_one_of then_names net ≡ (is_one_of names net || is_of_net net r))
+      → list_any is_of_all (terminals_of r) ≡ true → AreStarNames rs names → AreStarNames (rs ++ r ∷ []) then_names
+  with_star names then_names apart all lists are = record {
     apart = apart;
     all = λ net out.
         let both = none_of_both (is_one_of names net) (is_of_net net r) (sym (all net) ∙ out) in
         more_in net (are.all net both.0) (λ is. absurd (true_and_false (is_of_net net r) is both.1));
+    own = λ net out. either net (is_one_of names net) refl (sym (all net) ∙ out);
   }
+    where
+      either : (net : List ℕ) (b : Bool) → is_one_of names net ≡ b → (b || is_of_net net r) ≡ true → list_any is_of_all (terminals_in (rs ++ r ∷ []) net) ≡ true
+      either net true first h = still_in net (are.own net first)
+      either net false first h = own_in net h lists
 
   pub without_star : (names : List (List ℕ)) → list_any is_of_all (terminals_of r) ≡ false → AreStarNames rs names → AreStarNames (rs ++ r ∷ []) names
-  without_star names none are = record { apart = are.apart; all = λ net out. more_in net (are.all net out) (λ is. none) }
+  without_star names none are = record { apart = are.apart; all = λ net out. more_in net (are.all net out) (λ is. none); own = λ net is. still_in net (are.own net is) }
 
 -- a net that stands among those of a design is that of its name
 of_names : (library : Library) (design : List Record) (u : ℕ) (names : List (List ℕ)) (before : List Net) (n : Net) (behind : List Net) → before ++ n ∷ behind ≡ map (net_named library design u) names
@@ -94,6 +121,7 @@ pub record AreOthers (names stars others : List (List ℕ)) : Type 0 where
   pub apart : AreApart others
   pub other : (net : List ℕ) → is_one_of others net ≡ true → is_one_of stars net ≡ false
   pub all : (net : List ℕ) → is_one_of names net ≡ true → is_one_of (others ++ stars) net ≡ true
+  pub only : (net : List ℕ) → is_one_of others net ≡ true → is_one_of names net ≡ true
 
 module _ (names stars : List (List ℕ)) (name : List ℕ) where
   one_last : (net : List ℕ) → is_one_of (names ++ name ∷ []) net ≡ true → (is_one_of names net || bytes_eq name net) ≡ true
@@ -103,9 +131,20 @@ module _ (names stars : List (List ℕ)) (name : List ℕ) where
       or_false true = refl
       or_false false = refl
 
+  -- a name that was there is there with one more
+  one_before : (net : List ℕ) → is_one_of names net ≡ true → is_one_of (names ++ name ∷ []) net ≡ true
+  one_before net is = list_any-append (λ n. bytes_eq n net) names (name ∷ []) ∙ ap (λ (b : Bool). b || is_one_of (name ∷ []) net) is
+
+  the_last : (net : List ℕ) → bytes_eq name net ≡ true → is_one_of (names ++ name ∷ []) net ≡ true
+  the_last net is = list_any-append (λ n. bytes_eq n net) names (name ∷ []) ∙ ap (λ (b : Bool). is_one_of names net || (b || false)) is ∙ or_true (is_one_of names net)
+    where
+      or_true : (b : Bool) → (b || true) ≡ true
+      or_true true = refl
+      or_true false = refl
+
   -- one that is kept is left out
   pub one_kept : (others : List (List ℕ)) → is_one_of stars name ≡ true → AreOthers names stars others → AreOthers (names ++ name ∷ []) stars others
-  one_kept others kept are = record { apart = are.apart; other = are.other; all = λ net is. each net (is_one_of names net) (bytes_eq name net) refl refl (one_last net is) }
+  one_kept others kept are = record { apart = are.apart; other = are.other; all = λ net is. each net (is_one_of names net) (bytes_eq name net) refl refl (one_last net is); only = λ net is. one_before net (are.only net is) }
     where
       each : (net : List ℕ) (a b : Bool) → is_one_of names net ≡ a → bytes_eq name net ≡ b → (a || b) ≡ true → is_one_of (others ++ stars) net ≡ true
       each net true b first this h = are.all net first
@@ -126,8 +165,14 @@ module _ (names stars : List (List ℕ)) (name : List ℕ) where
     apart = apart;
     other = λ net is. alone net (is_one_of others net) (bytes_eq name net) refl refl (sym (put net) ∙ is);
     all = λ net is. each net (is_one_of names net) (bytes_eq name net) refl refl (one_last net is);
+    only = λ net is. came net (is_one_of others net) (bytes_eq name net) refl refl (sym (put net) ∙ is);
   }
     where
+      came : (net : List ℕ) (a b : Bool) → is_one_of others net ≡ a → bytes_eq name net ≡ b → (a || b) ≡ true → is_one_of (names ++ name ∷ []) net ≡ true
+      came net true b first this h = one_before net (are.only net first)
+      came net false true first this h = the_last net this
+      came net false false first this h = absurd (cc)
+
       alone : (net : List ℕ) (a b : Bool) → is_one_of others net ≡ a → bytes_eq name net ≡ b → (a || b) ≡ true → is_one_of stars net ≡ false
       alone net true b first this h = are.other net first
       alone net false true first this h = ap (is_one_of stars) (sym ((bytes_eq-Decides name net).0 this)) ∙ other
@@ -190,6 +235,11 @@ if_some P Q None f h = tt
 pub if_ok_some : {A E : Type 0} (P Q : A → Type 0) (r : Result (Option A) E) → ((a : A) → P a → Q a) → IfOk r (λ o. IfSome o P) → IfOk r (λ o. IfSome o Q)
 if_ok_some P Q (Ok o) f h = if_some P Q o f h
 if_ok_some P Q (Err e) f h = tt
+
+pub if_ok_both : {A E : Type 0} (P Q R : A → Type 0) (r : Result (Option A) E) → ((a : A) → P a → Q a → R a) → IfOk r (λ o. IfSome o P) → IfOk r (λ o. IfSome o Q) → IfOk r (λ o. IfSome o R)
+if_ok_both P Q R (Ok (Some a)) f h k = f a h k
+if_ok_both P Q R (Ok None) f h k = tt
+if_ok_both P Q R (Err e) f h k = tt
 
 pub if_seen : {A B : Type 0} (view : A → B) (P : B → Type 0) (o : Option A) → IfSome o (λ a. P (view a)) → IfSome (option_map view o) P
 if_seen view P (Some a) h = h

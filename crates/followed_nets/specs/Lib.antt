@@ -3,8 +3,10 @@ pub mod FollowedNets
 pub mod Listed
 pub mod Noted
 pub mod Owners
+pub mod Pieces
 pub mod StarExchanges
 pub mod Stars
+pub mod Tests
 pub mod Told
 pub mod ToldViews
 pub mod Touched

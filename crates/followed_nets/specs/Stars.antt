@@ -1,5 +1,5 @@
 -- Nets that list a pin of all components, which are kept with their parts.
-use Rattle.std.specs.Prelude.{◌≡◌, ℕ, false, List, [], ◌∷◌, filter, map}
+use Rattle.std.specs.Prelude.{◌≡◌, ℕ, false, true, List, [], ◌∷◌, filter, map}
 use Rattle.std.specs.List.{AllByRecursion, list_any}
 use Rattle.def_grammar.specs.Records.{Record}
 use Rattle.def_grammar.specs.Terminals.{is_of_all}
@@ -25,10 +25,11 @@ pub record IsStar (library : Library) (design : List Record) (n : Net) : Type 0 
   pub entry : Record
   pub one_entry : filter (is_of_net n.name) design ≡ entry ∷ []
 
--- no other nets of a design than those of some names list a pin of all components
+-- the nets of a design that list a pin of all components are those of some names
 pub record AreStarNames (design : List Record) (names : List (List ℕ)) : Type 0 where
   pub apart : AreApart names
   pub all : (net : List ℕ) → is_one_of names net ≡ false → list_any is_of_all (terminals_in design net) ≡ false
+  pub own : (net : List ℕ) → is_one_of names net ≡ true → list_any is_of_all (terminals_in design net) ≡ true
 
 -- nets of such names are kept
 pub record AreStars (library : Library) (design : List Record) (stars : List Net) : Type 0 where

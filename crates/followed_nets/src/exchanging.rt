@@ -1,30 +1,32 @@
-//! Nets that are exchanged for others, whose shapes and lines are kept.
+//! Nets that are taken out of those whose shapes and lines are kept, and others that are put in.
 
-ghost use Rattle.std.specs.Prelude.{◌≡◌, ◌∷◌, ◌++◌, ℕ, IfOk, IfSome, List, OnOk, map};
-ghost use Rattle.def_grammar.specs.Records.{Record};
-ghost use Rattle.design_rules.specs.Boxes.{scale};
-ghost use Rattle.lef_grammar.specs.Library.{Library as TheLibrary};
-ghost use Rattle.connection_rules.specs.NetLines.{Barrier, barriers, short_of};
-ghost use Rattle.connection_rules.specs.NetParts.{Net};
+ghost use Rattle.std.specs.Prelude.{◌≡◌, ◌∷◌, ◌++◌, ◌+◌, ◌≤◌, IfOk, IfSome, List, OnOk, map};
+ghost use Rattle.connection_rules.specs.NetLines.{Barrier, short_of};
 ghost use Rattle.design_model.specs.Families.{cross_lines};
 ghost use Rattle.line_laws.specs.Lines.{SameLines, SameThings};
 ghost use Rattle.named_shapes.specs.Named.{named};
 ghost use Rattle.net_touches.specs.Barriers.{name_at};
-ghost use Rattle.followed_nets.specs.Exchanging.{AwaitsNet, AwaitsNets, nets_told};
-ghost use Rattle.followed_nets.specs.FollowedNets.{AreOnNets};
+ghost use Rattle.followed_nets.specs.Pieces.{AreAmong, AreOnPieces, ArePieces, IsPiece, Piece};
+ghost use Rattle.followed_nets.specs.Tests.{near_each, near_told};
 ghost use Rattle.followed_nets.specs.ToldViews.{told_view};
 
 use crate::told::ToldNet;
-use following_laws::{net_lines_follow, same_lines_follow};
 use kept_lines::KeptLines;
 use line_laws::sorting::same_lines_sort_alike;
 use named_shapes::NamedShapes;
 use net_queries::short_is_symmetric;
-use report_lines::Lines;
-use std::alloc::{AllocError, Allocator};
+use report_lines::{Checked, Lines};
+use std::alloc::{AllocError, Allocator, Global};
 
-/// How many lines an exchange may move in all: beyond that, making them anew is sooner done.
-pub(crate) const MOST_MOVED: usize = 268435456;
+/// How many lines the exchange of a net may move: beyond that, making them anew is sooner done.
+const MOST_MOVED: usize = 268435456;
+
+/// The lines on nets after an edit, and how many pairs of shapes were compared for them.
+#[derive(Drop)]
+pub struct FollowedOnNets<A: Allocator = Global> {
+    pub lines: KeptLines<A>,
+    pub tests: u64,
+}
 
 /// Takes the shapes of a net out, and gives the lines on it by itself and those of its shapes with the others; `None` where they weren't
 /// all there.
@@ -32,9 +34,10 @@ fn take_out<A: Allocator + Copy>(
     layers: &[&[u8]],
     shapes: &mut NamedShapes<A>,
     net: ToldNet<A>,
-) -> Result<Option<Lines<A>>, AllocError>
+) -> Result<Option<Checked<A>>, AllocError>
     ensures shapes { let told = told_view net in IfOk result (λ found. IfSome found (λ _. SameThings shapes.old (map (named told.name) told.shapes ++ shapes.new))) }
-    ensures lines { let told = told_view net in IfOk result (λ found. IfSome found (λ l. SameLines l (told.lines ++ cross_lines (short_of (name_at (map (λ w. w.now) layers.now))) (map (named told.name) told.shapes) shapes.new))) }
+    ensures lines { let told = told_view net in IfOk result (λ found. IfSome found (λ c. SameLines c.lines (told.lines ++ cross_lines (short_of (name_at (map (λ w. w.now) layers.now))) (map (named told.name) told.shapes) shapes.new))) }
+    ensures tests { IfOk result (λ found. IfSome found (λ c. c.tests ≤ near_each (told_view net).shapes shapes.new)) }
 {
     let ToldNet {
         name,
@@ -44,8 +47,8 @@ fn take_out<A: Allocator + Copy>(
     if !shapes.remove(name.as_slice(), own.as_slice()) {
         return Ok(None);
     }
-    let lines = shapes.put_shorts(layers, name.as_slice(), own.as_slice(), lines)?;
-    Ok(Some(lines))
+    let checked = shapes.put_shorts(layers, name.as_slice(), own.as_slice(), lines)?;
+    Ok(Some(checked))
 }
 
 /// Puts the shapes of a net in, and gives the lines on it by itself and those of its shapes with the others.
@@ -54,71 +57,117 @@ fn put_in<A: Allocator + Copy>(
     layers: &[&[u8]],
     shapes: &mut NamedShapes<A>,
     net: ToldNet<A>,
-) -> Result<Lines<A>, AllocError>
+) -> Result<Checked<A>, AllocError>
     ensures shapes { let told = told_view net in OnOk result (SameThings shapes.new (map (named told.name) told.shapes ++ shapes.old)) }
-    ensures lines { let told = told_view net in IfOk result (λ l. SameLines l (told.lines ++ cross_lines (short_of (name_at (map (λ w. w.now) layers.now))) (map (named told.name) told.shapes) shapes.old)) }
+    ensures lines { let told = told_view net in IfOk result (λ c. SameLines c.lines (told.lines ++ cross_lines (short_of (name_at (map (λ w. w.now) layers.now))) (map (named told.name) told.shapes) shapes.old)) }
+    ensures tests { IfOk result (λ c. c.tests ≤ near_each (told_view net).shapes shapes.old) }
 {
     let ToldNet {
         name,
         lines,
         shapes: own,
     } = net;
-    let lines = shapes.put_shorts(layers, name.as_slice(), own.as_slice(), lines)?;
+    let checked = shapes.put_shorts(layers, name.as_slice(), own.as_slice(), lines)?;
     shapes.insert(alloc, name.as_slice(), own.as_slice())?;
-    Ok(lines)
+    Ok(checked)
 }
 
-/// The lines on nets after one of them went and another came for it, unless they are soon made anew. The shapes follow, too. `layers`
-/// are the names of all layers, from the bottom up.
-fn exchange_net<A: Allocator + Copy>(
+/// The lines on what is left where a net is taken out, unless they are sooner made anew. The shapes follow, too. `layers` are the names of
+/// all layers, from the bottom up.
+fn take_out_net<A: Allocator + Copy>(
     alloc: A,
     layers: &[&[u8]],
     shapes: &mut NamedShapes<A>,
-    before: ToldNet<A>,
-    after: ToldNet<A>,
-    kept: KeptLines<A>,
-) -> Result<Option<KeptLines<A>>, AllocError>
-    requires { (library : TheLibrary) × (bars : List Barrier) × (old : Net) × (new : Net) × (others : List Net) × AwaitsNet library bars (map (λ w. w.now) layers.now) old new others (told_view before) (told_view after) shapes.old kept.lines }
-    ensures { (library : TheLibrary) (bars : List Barrier) (old new : Net) (others : List Net) → AwaitsNet library bars (map (λ w. w.now) layers.now) old new others (told_view before) (told_view after) shapes.old kept.lines
-        → IfOk result (λ found. IfSome found (λ k. AreOnNets library bars (new ∷ others) shapes.new k.lines)) }
+    net: ToldNet<A>,
+    followed: FollowedOnNets<A>,
+) -> Result<Option<FollowedOnNets<A>>, AllocError>
+    requires { (bars : List Barrier) × (piece : Piece) × (rest : List Piece) × IsPiece (name_at (map (λ w. w.now) layers.now)) bars piece (told_view net) × AreOnPieces (name_at (map (λ w. w.now) layers.now)) bars (piece ∷ rest) shapes.old followed.lines.lines }
+    ensures follows { (bars : List Barrier) (piece : Piece) (rest : List Piece) → IsPiece (name_at (map (λ w. w.now) layers.now)) bars piece (told_view net) → AreOnPieces (name_at (map (λ w. w.now) layers.now)) bars (piece ∷ rest) shapes.old followed.lines.lines
+        → IfOk result (λ found. IfSome found (λ f. AreOnPieces (name_at (map (λ w. w.now) layers.now)) bars rest shapes.new f.lines.lines)) }
+    ensures shapes { IfOk result (λ found. IfSome found (λ _. AreAmong shapes.new shapes.old)) }
+    ensures tests { IfOk result (λ found. IfSome found (λ f. f.tests ≤ followed.tests + near_each (told_view net).shapes shapes.new)) }
 {
-    net_lines_follow();
-    same_lines_follow();
-    short_is_symmetric();
-    let Some(out) = take_out(layers, shapes, before)? else {
+    let Some(out) = take_out(layers, shapes, net)? else {
         return Ok(None);
     };
-    let put = put_in(alloc, layers, shapes, after)?;
-    kept.followed(out, put, MOST_MOVED)
+    let tests = followed.tests.saturating_add(out.tests);
+    let none = Lines::new(alloc);
+    let Some(lines) = followed.lines.followed(out.lines, none, MOST_MOVED)? else {
+        return Ok(None);
+    };
+    Ok(Some(FollowedOnNets { lines, tests }))
 }
 
-/// The same of several nets, one after the other.
-pub(crate) fn exchange_nets<A: Allocator + Copy>(
+/// The lines once a net is put in, unless they are sooner made anew. The shapes follow, too. `layers` are the names of all layers, from the
+/// bottom up.
+fn put_in_net<A: Allocator + Copy>(
     alloc: A,
     layers: &[&[u8]],
     shapes: &mut NamedShapes<A>,
-    before: Vec<ToldNet<A>, A>,
-    after: Vec<ToldNet<A>, A>,
-    kept: KeptLines<A>,
-) -> Result<Option<KeptLines<A>>, AllocError>
-    requires { (library : TheLibrary) × (old : List Record) × (new : List Record) × (others : List Net) × AwaitsNets library old new (map (λ w. w.now) layers.now) others (map told_view before.items) (map told_view after.items) shapes.old kept.lines }
-    ensures { (library : TheLibrary) (old new : List Record) (others : List Net) → AwaitsNets library old new (map (λ w. w.now) layers.now) others (map told_view before.items) (map told_view after.items) shapes.old kept.lines
-        → IfOk result (λ found. IfSome found (λ k. AreOnNets library (barriers library new (scale new)) (nets_told library new (map told_view after.items) ++ others) shapes.new k.lines)) }
+    net: ToldNet<A>,
+    followed: FollowedOnNets<A>,
+) -> Result<Option<FollowedOnNets<A>>, AllocError>
+    requires { (bars : List Barrier) × (piece : Piece) × (rest : List Piece) × IsPiece (name_at (map (λ w. w.now) layers.now)) bars piece (told_view net) × AreOnPieces (name_at (map (λ w. w.now) layers.now)) bars rest shapes.old followed.lines.lines }
+    ensures follows { (bars : List Barrier) (piece : Piece) (rest : List Piece) → IsPiece (name_at (map (λ w. w.now) layers.now)) bars piece (told_view net) → AreOnPieces (name_at (map (λ w. w.now) layers.now)) bars rest shapes.old followed.lines.lines
+        → IfOk result (λ found. IfSome found (λ f. AreOnPieces (name_at (map (λ w. w.now) layers.now)) bars (piece ∷ rest) shapes.new f.lines.lines)) }
+    ensures shapes { IfOk result (λ found. IfSome found (λ _. AreAmong shapes.old shapes.new)) }
+    ensures tests { IfOk result (λ found. IfSome found (λ f. f.tests ≤ followed.tests + near_each (told_view net).shapes shapes.old)) }
 {
-    net_lines_follow();
+    let put = put_in(alloc, layers, shapes, net)?;
+    let tests = followed.tests.saturating_add(put.tests);
+    let none = Lines::new(alloc);
+    let Some(lines) = followed.lines.followed(none, put.lines, MOST_MOVED)? else {
+        return Ok(None);
+    };
+    Ok(Some(FollowedOnNets { lines, tests }))
+}
+
+/// The lines on what is left where several nets are taken out.
+pub(crate) fn take_out_nets<A: Allocator + Copy>(
+    alloc: A,
+    layers: &[&[u8]],
+    shapes: &mut NamedShapes<A>,
+    nets: Vec<ToldNet<A>, A>,
+    followed: FollowedOnNets<A>,
+) -> Result<Option<FollowedOnNets<A>>, AllocError>
+    requires { (bars : List Barrier) × (pieces : List Piece) × (rest : List Piece) × ArePieces (name_at (map (λ w. w.now) layers.now)) bars pieces (map told_view nets.items) × AreOnPieces (name_at (map (λ w. w.now) layers.now)) bars (pieces ++ rest) shapes.old followed.lines.lines }
+    ensures follows { (bars : List Barrier) (pieces rest : List Piece) → ArePieces (name_at (map (λ w. w.now) layers.now)) bars pieces (map told_view nets.items) → AreOnPieces (name_at (map (λ w. w.now) layers.now)) bars (pieces ++ rest) shapes.old followed.lines.lines
+        → IfOk result (λ found. IfSome found (λ f. AreOnPieces (name_at (map (λ w. w.now) layers.now)) bars rest shapes.new f.lines.lines)) }
+    ensures tests { IfOk result (λ found. IfSome found (λ f. f.tests ≤ followed.tests + near_told (map told_view nets.items) shapes.old)) }
+{
     short_is_symmetric();
     same_lines_sort_alike();
-    let mut before = before;
-    let mut after = after;
-    let mut kept = kept;
-    while let Some(went) = before.pop() {
-        let Some(came) = after.pop() else {
-            return Ok(None);
-        };
-        match exchange_net(alloc, layers, shapes, went, came, kept)? {
-            Some(lines) => kept = lines,
+    let mut nets = nets;
+    let mut followed = followed;
+    while let Some(net) = nets.pop() {
+        match take_out_net(alloc, layers, shapes, net, followed)? {
+            Some(left) => followed = left,
             None => return Ok(None),
         }
     }
-    Ok(Some(kept))
+    Ok(Some(followed))
+}
+
+/// The lines once several nets are put in.
+pub(crate) fn put_in_nets<A: Allocator + Copy>(
+    alloc: A,
+    layers: &[&[u8]],
+    shapes: &mut NamedShapes<A>,
+    nets: Vec<ToldNet<A>, A>,
+    followed: FollowedOnNets<A>,
+) -> Result<Option<FollowedOnNets<A>>, AllocError>
+    requires { (bars : List Barrier) × (pieces : List Piece) × (rest : List Piece) × ArePieces (name_at (map (λ w. w.now) layers.now)) bars pieces (map told_view nets.items) × AreOnPieces (name_at (map (λ w. w.now) layers.now)) bars rest shapes.old followed.lines.lines }
+    ensures follows { (bars : List Barrier) (pieces rest : List Piece) → ArePieces (name_at (map (λ w. w.now) layers.now)) bars pieces (map told_view nets.items) → AreOnPieces (name_at (map (λ w. w.now) layers.now)) bars rest shapes.old followed.lines.lines
+        → IfOk result (λ found. IfSome found (λ f. AreOnPieces (name_at (map (λ w. w.now) layers.now)) bars (pieces ++ rest) shapes.new f.lines.lines)) }
+    ensures tests { IfOk result (λ found. IfSome found (λ f. f.tests ≤ followed.tests + near_told (map told_view nets.items) shapes.new)) }
+{
+    let mut nets = nets;
+    let mut followed = followed;
+    while let Some(net) = nets.pop() {
+        match put_in_net(alloc, layers, shapes, net, followed)? {
+            Some(more) => followed = more,
+            None => return Ok(None),
+        }
+    }
+    Ok(Some(followed))
 }

@@ -1,35 +1,37 @@
 //! The nets of a text that are noted, and the lines on them that follow.
 
-ghost use Rattle.std.specs.Prelude.{◌≡◌, ◌++◌, ℕ, false, true, IfOk, IfSome, IsTrue, List, Some, map};
+ghost use Rattle.std.specs.Prelude.{◌≡◌, ◌++◌, ◌∷◌, ◌+◌, ◌≤◌, ℕ, [], false, true, IfNone, IfOk, IfSome, IsTrue, List, None, Some, map};
 ghost use Rattle.std.specs.List.{AllByRecursion};
 ghost use Rattle.std.specs.Option.{option_map};
 ghost use Rattle.design_model.specs.declared.identifier.StmtId.{StmtId as Number};
 ghost use Rattle.def_grammar.specs.Records.{Record};
+ghost use Rattle.connection_rules.specs.NetLines.{Barrier, layer_name};
 ghost use Rattle.connection_rules.specs.NetParts.{Net};
 ghost use Rattle.net_laws.specs.NetChanges.{is_one_of};
 ghost use Rattle.net_laws.specs.Within.{NoOtherLists};
 ghost use Rattle.design_text.specs.DesignTexts.{design_of};
 ghost use Rattle.design_text.specs.Exchanges.{AreExchanges, records_in};
 ghost use Rattle.followed_nets.specs.FollowedNets.{HasNets};
-ghost use Rattle.followed_nets.specs.Listed.{AreApart};
+ghost use Rattle.followed_nets.specs.Listed.{AllList, AreApart};
 ghost use Rattle.followed_nets.specs.Noted.{AreCommon, said};
-ghost use Rattle.followed_nets.specs.StarExchanges.{AreStarsThen, AwaitsOwn};
+ghost use Rattle.followed_nets.specs.Pieces.{AreOnPieces, ArePieces, Piece};
+ghost use Rattle.followed_nets.specs.StarExchanges.{AwaitsOwn, HaveComponent};
 ghost use Rattle.followed_nets.specs.Stars.{names_of};
-ghost use Rattle.followed_nets.specs.ToldViews.{star_view, stars_of};
+ghost use Rattle.followed_nets.specs.Tests.{near_pairs, near_told};
+ghost use Rattle.followed_nets.specs.ToldViews.{star_view, stars_of, told_view};
 ghost use Rattle.followed_nets.specs.Touched.{AreFollowed, ArePinsOf, AreTouched, star_names};
 ghost use Rattle.followed_nets.specs.Within.{Fits, LeavesOthers};
 
-use crate::exchanging::exchange_nets;
+use crate::exchanging::{FollowedOnNets, put_in_nets, take_out_nets};
 use crate::listed::{add_name, nets_listing};
 use crate::noted::{common_numbers, drawn_nets, star_names};
-use crate::star_exchange::{StarsFollowed, exchange_stars};
+use crate::star_exchange::{ExchangedStars, ToldExchange, exchange_stars, with_more};
 use crate::touched::{TouchedComponent, TouchedNets, are_named, told_nets, told_stars};
 use crate::within::{exchanges_are_within, is_one_of};
 use cell_library::library::Library;
 use design_model::identifier::StmtId;
 use design_text::made::Made;
 use design_text::text::DesignText;
-use following_laws::net_lines_follow;
 use kept_lines::KeptLines;
 use kept_nets::KeptNet;
 use lefdef_tokens::is_word;
@@ -37,7 +39,10 @@ use line_laws::sorting::same_lines_sort_alike;
 use name_keys::OwnName;
 use named_shapes::NamedShapes;
 use net_checks::layer_names::layer_names;
-use net_laws::{nets_are_told, one_entry_tells, told_nets_are_exchanged};
+use net_laws::{
+    nets_are_told, one_component_exchanged, one_entry_tells, pin_lines_follow,
+    told_nets_are_exchanged,
+};
 use net_queries::short_is_symmetric;
 use net_touches::layers_have_their_names;
 use std::alloc::{AllocError, Allocator, Global};
@@ -111,6 +116,7 @@ fn names_of_others<A: Allocator + Copy>(
 ) -> Result<Vec<OwnName<A>, A>, AllocError>
     ensures apart { AreApart names.now → AreApart (names_of stars.now) → IfOk result (λ v. AreApart (v.items ++ names_of stars.now)) }
     ensures all { IfOk result (λ v. (net : List ℕ) → is_one_of names.now net ≡ true → is_one_of (v.items ++ names_of stars.now) net ≡ true) }
+    ensures only { IfOk result (λ v. (net : List ℕ) → is_one_of v.items net ≡ true → is_one_of names.now net ≡ true) }
 {
     let mut others = Vec::new(alloc);
     for name in names {
@@ -155,7 +161,9 @@ impl<A: Allocator + Copy> FollowedNets<A> {
         requires apart { AreApart (names.items ++ star_names (stars_of component)) }
         requires lists { NoOtherLists (design_of text.now) (names.items ++ star_names (stars_of component)) (option_map (λ c. c.name) component) }
         requires pins { ArePinsOf library.now (design_of text.now) (option_map (λ c. c.name) component) (stars_of component) }
-        ensures { IfOk result (λ found. IfSome found (AreTouched library.now (design_of text.now))) }
+        ensures touched { IfOk result (λ found. IfSome found (AreTouched library.now (design_of text.now))) }
+        ensures names { IfOk result (λ found. IfSome found (λ t. t.names ≡ names.items)) }
+        ensures component { IfOk result (λ found. IfSome found (λ t. (t.component ≡ option_map (λ c. c.name) component) × (t.stars ≡ stars_of component))) }
     {
         let Some(before) = told_nets(alloc, library, text, &self.common, &names)? else {
             return Ok(None);
@@ -176,7 +184,8 @@ impl<A: Allocator + Copy> FollowedNets<A> {
         net: &[u8],
     ) -> Result<Option<TouchedNets<A>>, AllocError>
         requires { HasNets library.now (records_in text.now) self.now }
-        ensures { IfOk result (λ found. IfSome found (AreTouched library.now (design_of text.now))) }
+        ensures touched { IfOk result (λ found. IfSome found (AreTouched library.now (design_of text.now))) }
+        ensures names { IfOk result (λ found. IfSome found (λ t. (t.names ≡ net.now ∷ []) × (t.stars ≡ []) × (t.component ≡ None))) }
     {
         let mut names = Vec::new(alloc);
         names.push(OwnName::copy_of(alloc, net)?)?;
@@ -193,7 +202,8 @@ impl<A: Allocator + Copy> FollowedNets<A> {
         component: &[u8],
     ) -> Result<Option<TouchedNets<A>>, AllocError>
         requires { HasNets library.now (records_in text.now) self.now }
-        ensures { IfOk result (λ found. IfSome found (AreTouched library.now (design_of text.now))) }
+        ensures touched { IfOk result (λ found. IfSome found (AreTouched library.now (design_of text.now))) }
+        ensures names { IfOk result (λ found. IfSome found (λ t. AllList (design_of text.now) component.now (t.names ++ star_names t.stars) × (t.component ≡ Some component.now))) }
     {
         text.statements_are_kept();
         // (pins of the design, and virtual ones, stand under these names in entries of nets)
@@ -232,21 +242,21 @@ impl<A: Allocator + Copy> FollowedNets<A> {
         }
     }
 
-    /// The lines on nets once the pins of a component are exchanged in the nets that are kept with their parts, which follow, too.
-    fn follow_stars(
+    /// What goes and what comes once the pins of a component are exchanged in the nets that are kept with their parts, behind what is told
+    /// of other nets. The nets that are kept follow.
+    fn exchange_own(
         &mut self,
         alloc: A,
         library: &Library<'_, A>,
         text: &DesignText<A>,
-        layers: &[&[u8]],
         own: TouchedComponent<A>,
-        kept: KeptLines<A>,
-    ) -> Result<Option<KeptLines<A>>, AllocError>
-        requires common { AreCommon (records_in text.now) self.old.common }
-        requires awaits { (old : List Record) × (others : List Net) × (stars : List Net) × (self.old.stars ≡ Some stars) × AwaitsOwn library.now old (said (records_in text.now)) (map (λ w. w.now) layers.now) own.name others stars (map star_view own.stars.items) self.old.shapes kept.lines }
+        told: ToldExchange<A>,
+    ) -> Result<Option<ToldExchange<A>>, AllocError>
+        requires { AreCommon (records_in text.now) self.old.common }
+        ensures shapes { self.new.shapes ≡ self.old.shapes }
         ensures common { self.new.common ≡ self.old.common }
-        ensures follows { (old : List Record) (others stars : List Net) → self.old.stars ≡ Some stars → AwaitsOwn library.now old (said (records_in text.now)) (map (λ w. w.now) layers.now) own.name others stars (map star_view own.stars.items) self.old.shapes kept.lines
-            → IfOk result (λ found. IfSome found (λ k. (then : List Net) × (self.new.stars ≡ Some then) × AreStarsThen library.now (said (records_in text.now)) others (names_of stars) then self.new.shapes k.lines)) }
+        ensures own { (old : List Record) (stars : List Net) → self.old.stars ≡ Some stars → AwaitsOwn library.now old (said (records_in text.now)) own.name stars (map star_view own.stars.items)
+            → IfOk result (λ found. IfSome found (λ e. HaveComponent library.now old (said (records_in text.now)) own.name (names_of stars) (map told_view told.gone.items) (map told_view told.come.items) self.new.stars (map told_view e.gone.items) (map told_view e.come.items))) }
     {
         text.statements_are_kept();
         let Some(stars) = self.stars.take() else {
@@ -256,25 +266,72 @@ impl<A: Allocator + Copy> FollowedNets<A> {
         let Some(after) = told_stars(alloc, library, text, &self.common, &stars, name)? else {
             return Ok(None);
         };
-        match exchange_stars(
-            alloc,
-            layers,
-            &mut self.shapes,
-            stars,
-            own.stars,
-            after,
-            kept,
-        )? {
-            Some(StarsFollowed { stars, kept }) => {
-                self.stars = Some(stars);
-                Ok(Some(kept))
-            }
-            None => Ok(None),
+        let Some(exchanged) = exchange_stars(alloc, stars, own.stars, after)? else {
+            return Ok(None);
+        };
+        let ExchangedStars { stars, gone, come } = exchanged;
+        self.stars = Some(stars);
+        let all = with_more(told, gone, come)?;
+        Ok(Some(all))
+    }
+
+    /// The same where the edit was of a component; where it was of none, what is told of other nets.
+    fn exchange_stars(
+        &mut self,
+        alloc: A,
+        library: &Library<'_, A>,
+        text: &DesignText<A>,
+        component: Option<TouchedComponent<A>>,
+        told: ToldExchange<A>,
+    ) -> Result<Option<ToldExchange<A>>, AllocError>
+        requires { AreCommon (records_in text.now) self.old.common }
+        ensures shapes { self.new.shapes ≡ self.old.shapes }
+        ensures common { self.new.common ≡ self.old.common }
+        ensures none { IfNone component (self.new.stars ≡ self.old.stars × IfOk result (λ found. IfSome found (λ e. e ≡ told))) }
+        ensures own { IfSome component (λ own. (old : List Record) (stars : List Net) → self.old.stars ≡ Some stars → AwaitsOwn library.now old (said (records_in text.now)) own.name stars (map star_view own.stars.items)
+            → IfOk result (λ found. IfSome found (λ e. HaveComponent library.now old (said (records_in text.now)) own.name (names_of stars) (map told_view told.gone.items) (map told_view told.come.items) self.new.stars (map told_view e.gone.items) (map told_view e.come.items)))) }
+    {
+        match component {
+            Some(own) => self.exchange_own(alloc, library, text, own, told),
+            None => Ok(Some(told)),
         }
     }
 
-    /// The lines on the nets of a text after an edit, from those before it, where it changed no other nets than those that it touched;
-    /// `None` where they are to be made anew. What is noted then follows, too, and else isn't to be used any more.
+    /// The lines on nets once all that goes is taken out and then all that comes is put in, so that nothing of what went is compared with
+    /// what came. The shapes follow, too.
+    fn exchange(
+        &mut self,
+        alloc: A,
+        library: &Library<'_, A>,
+        told: ToldExchange<A>,
+        kept: KeptLines<A>,
+    ) -> Result<Option<FollowedOnNets<A>>, AllocError>
+        requires { (bars : List Barrier) × (out : List Piece) × (put : List Piece) × (rest : List Piece) × ArePieces (layer_name library.now.layers) bars out (map told_view told.gone.items) × ArePieces (layer_name library.now.layers) bars put (map told_view told.come.items) × AreOnPieces (layer_name library.now.layers) bars (out ++ rest) self.old.shapes kept.lines }
+        ensures common { self.new.common ≡ self.old.common }
+        ensures stars { self.new.stars ≡ self.old.stars }
+        ensures lines { (bars : List Barrier) (out put rest : List Piece) → ArePieces (layer_name library.now.layers) bars out (map told_view told.gone.items) → ArePieces (layer_name library.now.layers) bars put (map told_view told.come.items) → AreOnPieces (layer_name library.now.layers) bars (out ++ rest) self.old.shapes kept.lines
+            → IfOk result (λ found. IfSome found (λ f. AreOnPieces (layer_name library.now.layers) bars (put ++ rest) self.new.shapes f.lines.lines)) }
+        ensures tests { IfOk result (λ found. IfSome found (λ f. f.tests ≤ near_told (map told_view told.gone.items) self.old.shapes + near_told (map told_view told.come.items) self.new.shapes)) }
+    {
+        layers_have_their_names();
+        let layers = layer_names(alloc, library)?;
+        let ToldExchange { gone, come } = told;
+        let start = FollowedOnNets {
+            lines: kept,
+            tests: 0,
+        };
+        let Some(left) = take_out_nets(alloc, &layers, &mut self.shapes, gone, start)? else {
+            return Ok(None);
+        };
+        let Some(followed) = put_in_nets(alloc, &layers, &mut self.shapes, come, left)? else {
+            return Ok(None);
+        };
+        Ok(Some(followed))
+    }
+
+    /// The lines on the nets of a text after an edit, from those before it, where it changed no other nets than those that it touched, and how
+    /// many pairs of shapes were compared; `None` where the lines are to be made anew. What is noted then follows, too, and else isn't to be
+    /// used any more.
     pub fn follow(
         &mut self,
         alloc: A,
@@ -283,18 +340,21 @@ impl<A: Allocator + Copy> FollowedNets<A> {
         made: &Made<A>,
         touched: TouchedNets<A>,
         kept: KeptLines<A>,
-    ) -> Result<Option<KeptLines<A>>, AllocError>
+    ) -> Result<Option<FollowedOnNets<A>>, AllocError>
         requires { (old : List (Number × Record)) × AreExchanges text.now.pieces.table.slots old made.now.exchanges (records_in text.now) × AreTouched library.now (said old) touched × AreFollowed library.now old self.old kept }
-        ensures { (old : List (Number × Record)) → AreExchanges text.now.pieces.table.slots old made.now.exchanges (records_in text.now) → AreTouched library.now (said old) touched → AreFollowed library.now old self.old kept
-            → IfOk result (λ found. IfSome found (AreFollowed library.now (records_in text.now) self.new)) }
+        ensures lines { (old : List (Number × Record)) → AreExchanges text.now.pieces.table.slots old made.now.exchanges (records_in text.now) → AreTouched library.now (said old) touched → AreFollowed library.now old self.old kept
+            → IfOk result (λ found. IfSome found (λ f. AreFollowed library.now (records_in text.now) self.new f.lines)) }
+        ensures tests { (old : List (Number × Record)) → AreExchanges text.now.pieces.table.slots old made.now.exchanges (records_in text.now) → AreTouched library.now (said old) touched → AreFollowed library.now old self.old kept
+            → let names = touched.names ++ star_names touched.stars in
+            IfOk result (λ found. IfSome found (λ f. f.tests ≤ near_pairs library.now (said old) names + near_pairs library.now (said (records_in text.now)) names)) }
     {
         told_nets_are_exchanged();
+        one_component_exchanged();
         one_entry_tells();
         nets_are_told();
-        net_lines_follow();
+        pin_lines_follow();
         short_is_symmetric();
         same_lines_sort_alike();
-        layers_have_their_names();
         text.statements_are_kept();
         if !touched.are_all(alloc, text, made)? {
             return Ok(None);
@@ -310,18 +370,16 @@ impl<A: Allocator + Copy> FollowedNets<A> {
         let Some(after) = told_nets(alloc, library, text, &self.common, &names)? else {
             return Ok(None);
         };
-        let layers = layer_names(alloc, library)?;
-        let exchanged = exchange_nets(alloc, &layers, &mut self.shapes, before, after, kept)?;
-        let Some(kept) = exchanged else {
+        let told = ToldExchange {
+            gone: before,
+            come: after,
+        };
+        let Some(all) = self.exchange_stars(alloc, library, text, component, told)? else {
             return Ok(None);
         };
-        let Some(own) = component else {
-            return Ok(Some(kept));
-        };
-        let followed = self.follow_stars(alloc, library, text, &layers, own, kept)?;
-        let Some(lines) = followed else {
+        let Some(followed) = self.exchange(alloc, library, all, kept)? else {
             return Ok(None);
         };
-        Ok(Some(lines))
+        Ok(Some(followed))
     }
 }

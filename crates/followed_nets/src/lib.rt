@@ -1,11 +1,15 @@
 //! The lines on the nets of a text, which follow its edits.
 //!
 //! Begin with `FollowedNets::of`, which notes the nets of a text. Before an edit, `touched_by_net` and `touched_by_component` tell which nets
-//! it is about to change; after it, `follow` gives the lines from those before, where it changed no others. What is noted follows then,
-//! too, and else isn't to be used any more.
+//! it is about to change; after it, `follow` gives the lines from those before, where it changed no others, and how many pairs of shapes
+//! were compared for them (`specs/Tests`). What is noted follows then, too, and else isn't to be used any more.
 //!
-//! A net is told by few statements of the text (`told`), and exchanged as a whole (`exchanging`). A net that lists a pin of all components
-//! is kept with its parts, and an edit of a component exchanges its pins of that component (`star_pins`, `star_exchange`).
+//! A net is told by few statements of the text (`told`), and exchanged as a whole. A net that lists a pin of all components is kept with
+//! its parts, and an edit of a component exchanges its pins of that component (`star_pins`, `star_exchange`). Both are pieces of
+//! `specs/Pieces`: first all that go are taken out, then all that come are put in (`exchanging`).
+//!
+//! Who follows something else of nets finds the statements that tell one by `common_numbers` and `told_statements`, and whether an edit
+//! leaves all other nets by `exchanges_are_within`.
 #![tactic(auto)]
 
 mod exchanging;
@@ -16,9 +20,12 @@ mod star_exchange;
 mod star_pins;
 mod stars;
 mod told;
-mod told_statements;
+pub mod told_statements;
 mod touched;
 mod within;
 
+pub use exchanging::FollowedOnNets;
 pub use followed::FollowedNets;
+pub use noted::common_numbers;
 pub use touched::TouchedNets;
+pub use within::exchanges_are_within;

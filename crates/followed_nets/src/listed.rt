@@ -9,7 +9,7 @@ ghost use Rattle.def_reader.specs.StatementViews.{record_view};
 ghost use Rattle.net_laws.specs.NetChanges.{is_one_of};
 ghost use Rattle.net_laws.specs.NetsTold.{is_of_net, net_of_record};
 ghost use Rattle.design_text.specs.DesignTexts.{design_of};
-ghost use Rattle.followed_nets.specs.Listed.{AreApart, AreListing};
+ghost use Rattle.followed_nets.specs.Listed.{AllList, AreApart, AreListing};
 
 use crate::within::is_one_of;
 use def_reader::entry::Entry;
@@ -85,6 +85,7 @@ pub(crate) fn nets_listing<A: Allocator + Copy>(
     component: &[u8],
 ) -> Result<Option<Vec<OwnName<A>, A>>, AllocError>
     ensures listing { IfOk result (λ found. IfSome found (λ v. AreListing (design_of text.now) component.now v.items)) }
+    ensures only { IfOk result (λ found. IfSome found (λ v. AllList (design_of text.now) component.now v.items)) }
     ensures apart { IfOk result (λ found. IfSome found (λ v. AreApart v.items)) }
 {
     let Some(entries) = text.entries_listing(alloc, component, MOST_NETS)? else {

@@ -59,7 +59,7 @@ fn is_common(statement: &Statement<'_>) -> bool
 }
 
 /// The numbers of those of these statements that are of what any net may be made of, in their order.
-pub(crate) fn common_numbers<A: Allocator + Copy>(
+pub fn common_numbers<A: Allocator + Copy>(
     alloc: A,
     statements: &[Numbered<'_>],
 ) -> Result<Vec<StmtId, A>, AllocError>

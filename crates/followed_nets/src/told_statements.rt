@@ -122,7 +122,7 @@ fn push_listed<'t, A: Allocator + Copy>(
 
 /// The statements that tell a net of a text: those that any net may be made of, which have these numbers, the components that its
 /// entry lists, and the entry. There are none where the net has no entry, or one in each section, or lists a pin of all components.
-pub(crate) fn told_statements<'t, A: Allocator + Copy>(
+pub fn told_statements<'t, A: Allocator + Copy>(
     alloc: A,
     text: &'t DesignText<A>,
     common: &[StmtId],

@@ -133,7 +133,7 @@ fn exchange_is_within<A: Allocator + Copy>(
 
 /// Whether the statements that an edit exchanged are all entries of these nets, or that component, or of what no net is made of. Then it
 /// leaves the other nets, if none of them lists the component; and so does what is noted.
-pub(crate) fn exchanges_are_within<A: Allocator + Copy>(
+pub fn exchanges_are_within<A: Allocator + Copy>(
     alloc: A,
     text: &DesignText<A>,
     made: &Made<A>,

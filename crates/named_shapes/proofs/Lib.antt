@@ -1,4 +1,5 @@
 mod Gathered
 mod NamedLists
+mod NearShapes
 mod PlacedLists
 mod ShortSteps

@@ -119,7 +119,7 @@ kept_at [] more n h = absurd (grind (arith, h))
 kept_at (m ∷ names) more zero h = refl
 kept_at (m ∷ names) more (suc n) h = kept_at names more n (grind (arith, h))
 
-first_has : (names : List (List ℕ)) (p : ℕ × Shape) (ps : List (ℕ × Shape)) → HaveNames names (p ∷ ps) → (nat_lt p.0 (length names) ≡ true) × HaveNames names ps
+pub first_has : (names : List (List ℕ)) (p : ℕ × Shape) (ps : List (ℕ × Shape)) → HaveNames names (p ∷ ps) → (nat_lt p.0 (length names) ≡ true) × HaveNames names ps
 first_has names p ps o = by (nat_lt p.0 (length names)) refl
   where
     by : (b : Bool) → nat_lt p.0 (length names) ≡ b → (nat_lt p.0 (length names) ≡ true) × HaveNames names ps

@@ -5,4 +5,5 @@ pub mod DensitySteps
 pub mod ExchangeSteps
 pub mod MeasuredSteps
 pub mod NetAnswers
+pub mod OneNet
 pub mod TableLemmas

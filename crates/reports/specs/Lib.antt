@@ -2,3 +2,4 @@ pub mod Answers
 pub mod Densities
 pub mod Exchanges
 pub mod MeasuredNets
+pub mod NetMeasures

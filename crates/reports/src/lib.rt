@@ -6,6 +6,8 @@
 //! what becomes of each answer. The nets come from `design_nets`, components that take part from `place_checks`, the lines of the grid
 //! from `design_grid`, and sums by cells from `cell_sums`.
 //!
+//! `net_measures` measures the one net of a few statements, for such an exchange (`specs/NetMeasures`).
+//!
 //! `Reports` owns what it holds and lends nothing: a name, a length and a box for each net, and the sums of cells that are in use.
 //! While it is made it draws one net after the other, and holds the shapes of that net alone. Making it and following an exchange are
 //! all that takes memory, and their one error is `AllocError`; after one of an exchange the reports are of no use.
@@ -15,6 +17,7 @@ mod cell_densities;
 mod densities;
 mod measured_nets;
 mod net_box;
+pub mod net_measures;
 mod net_table;
 mod reports;
 

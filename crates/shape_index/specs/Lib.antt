@@ -1,4 +1,5 @@
 pub mod GapOrder
+pub mod Near
 pub mod Pushing
 pub mod Shapes
 pub mod TileLaws

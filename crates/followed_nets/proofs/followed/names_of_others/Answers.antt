@@ -1,5 +1,5 @@
 use Rattle.std.proofs.Common.{rules, ◌≡◌, ◌∙◌, ◌++◌, ◌∷◌, [], ◌+◌, List, ℕ, ap, false, subst, sym, take, true}
-use Rattle.std.proofs.lemmas.List.{take_more}
+use Rattle.std.proofs.lemmas.List.{take_all, take_more}
 use Rattle.net_laws.specs.NetChanges.{is_one_of}
 use Rattle.followed_nets.specs.Stars.{names_of}
 use Rattle.followed_nets.proofs.NoteLemmas.{AreOthers, all_others, one_kept, one_other}
@@ -23,3 +23,8 @@ loop-name-preserved g c =
 
 pub returns-clause-apart : goal.returns-clause-apart
 returns-clause-apart g c = λ own apart. all_others _ (names_of c.args.stars.now) c.loop-name.others.items c.loop-name.invariant apart
+
+pub returns-clause-only : goal.returns-clause-only
+returns-clause-only g c = λ net is.
+    let whole : take c.loop-name.name-index c.args.names.now ≡ c.args.names.now = take_all c.loop-name.name-index c.args.names.now c.loop-name-test.false in
+    ap (λ (ns : List (List ℕ)). is_one_of ns net) (sym whole) ∙ c.loop-name.invariant.only net is

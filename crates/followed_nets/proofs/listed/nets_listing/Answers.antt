@@ -5,7 +5,7 @@ use Rattle.net_laws.specs.NetChanges.{is_one_of}
 use Rattle.net_laws.specs.NetsTold.{is_of_net}
 use Rattle.design_text.specs.DesignTexts.{design_of}
 use Rattle.design_text.specs.Listings.{HasListing}
-use Rattle.followed_nets.proofs.ListedNets.{are_listing}
+use Rattle.followed_nets.proofs.ListedNets.{all_list, are_listing}
 use Rattle.followed_nets.proofs.listed.nets_listing.Goals as goal
 
 pub returns-clause-listing : goal.returns-clause-listing
@@ -17,3 +17,13 @@ returns-clause-listing g c =
     let listed : HasListing component design entries = search rules in
     let names : (net : List ℕ) → is_one_of nets net ≡ list_any (is_of_net net) entries = rw (← c.deref.ensures.value) c.in_ok-nets.ensures.all in
     are_listing component design entries nets listed names
+
+pub returns-clause-only : goal.returns-clause-only
+returns-clause-only g c =
+    let component = c.args.component.now in
+    let design = design_of c.args.text.now in
+    let nets = c.in_ok-nets.nets.items in
+    let entries = map record_view c.in-Some.entries.items in
+    let listed : HasListing component design entries = search rules in
+    let names : (net : List ℕ) → is_one_of nets net ≡ list_any (is_of_net net) entries = rw (← c.deref.ensures.value) c.in_ok-nets.ensures.all in
+    all_list component design entries nets listed names

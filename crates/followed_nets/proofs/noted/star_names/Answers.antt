@@ -1,4 +1,4 @@
-use Rattle.std.proofs.Common.{rules, ◌≡◌, ◌∙◌, ◌++◌, ◌∷◌, [], ◌+◌, List, ap, false, map, subst, sym, take}
+use Rattle.std.proofs.Common.{rules, ◌≡◌, ◌∙◌, ◌++◌, ◌∷◌, [], ◌+◌, List, ap, false, true, map, subst, sym, take}
 use Rattle.std.specs.List.{list_any}
 use Rattle.def_grammar.specs.Records.{Record}
 use Rattle.def_grammar.specs.Terminals.{is_of_all}
@@ -17,7 +17,8 @@ loop-numbered-preserved g c =
     let next = said_up_to_next numbered_view c.args.statements.now c.loop-numbered.numbered-index c.numbered-item.result c.loop-numbered-test.true c.numbered-item.is in
     elim c.if-lists_all.branch [
       | then-lists_all+in_ok-add_net w ↦
-          rw (next, w.names-is) (with_star so_far r c.loop-numbered.names.items w.add_net.new.nets.items (w.in_ok-add_net.ensures.apart c.loop-numbered.invariant.apart) w.in_ok-add_net.ensures.all c.loop-numbered.invariant)
+          let lists : list_any is_of_all (terminals_of r) ≡ true = search rules in
+          rw (next, w.names-is) (with_star so_far r c.loop-numbered.names.items w.add_net.new.nets.items (w.in_ok-add_net.ensures.apart c.loop-numbered.invariant.apart) w.in_ok-add_net.ensures.all lists c.loop-numbered.invariant)
       | else-lists_all w ↦
           let none : list_any is_of_all (terminals_of r) ≡ false = search rules in
           rw (next, w.names-is) (without_star so_far r c.loop-numbered.names.items none c.loop-numbered.invariant)

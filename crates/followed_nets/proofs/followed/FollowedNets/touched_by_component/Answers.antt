@@ -1,9 +1,12 @@
-use Rattle.std.proofs.Common.{◌≡◌, ◌∙◌, List, ap, map, subst, sym}
+use Rattle.std.proofs.Common.{◌≡◌, ◌∙◌, ◌++◌, List, Some, ap, map, subst, sym}
 use Rattle.def_grammar.specs.Records.{Record}
 use Rattle.design_text.specs.DesignTexts.{design_of}
+use Rattle.followed_nets.specs.Listed.{AllList}
 use Rattle.followed_nets.specs.Stars.{AreStars, names_of}
 use Rattle.followed_nets.specs.ToldViews.{star_view}
-use Rattle.followed_nets.specs.Touched.{star_names}
+use Rattle.followed_nets.specs.Touched.{Touched, star_names}
+use Rattle.followed_nets.proofs.ListedNets.{both_list}
+use Rattle.followed_nets.proofs.NoteLemmas.{if_ok_both}
 use Rattle.followed_nets.proofs.ToldNets.{no_other_lists}
 use Rattle.followed_nets.proofs.followed.FollowedNets.touched_by_component.Goals as goal
 
@@ -31,3 +34,24 @@ touched-requires-clause-apart g c =
 
 pub touched-requires-clause-pins : goal.touched-requires-clause-pins
 touched-requires-clause-pins g c = rw (c.in_ok-name.ensures) (rw (c.in-Some-3.is) at c.in_ok-stars.ensures.pins)
+
+pub returns-clause-names : goal.returns-clause-names
+returns-clause-names g c =
+    let component = c.args.component.now in
+    let design = design_of c.args.text.now in
+    let library = c.args.library.now in
+    let kept = rw (c.in-Some.is) at (rw (← c.self.view_is) at c.requires.stars_are) in
+    let are = subst (λ (d : List Record). AreStars library d c.in-Some.kept.items) c.statements_are_kept.ensures.said kept in
+    let told = rw (c.in-Some-3.is) at c.in_ok-stars.ensures.named in
+    let named : star_names (map star_view c.in-Some-3.stars.items) ≡ names_of c.in-Some.kept.items = told ∙ ap names_of c.deref-2.ensures.value in
+    let listing = rw (c.in-Some-2.is) at c.in_ok-listing.ensures.only in
+    let only = rw (c.deref-3.ensures.value) at c.in_ok-names.ensures.only in
+    let lists = both_list component design c.in_ok-names.names.items (names_of c.in-Some.kept.items) (λ net is. listing net (only net is)) are.names.own in
+    if_ok_both
+    (λ (t : Touched). t.names ≡ c.in_ok-names.names.items)
+    (λ (t : Touched). (t.component ≡ Some c.in_ok-name.name) × (t.stars ≡ map star_view c.in-Some-3.stars.items))
+    (λ (t : Touched). AllList design component (t.names ++ star_names t.stars) × (t.component ≡ Some component))
+    c.touched.result
+    (λ t names own. (rw (names, own.1, named) lists, own.0 ∙ ap Some c.in_ok-name.ensures))
+    c.touched.ensures.names
+    c.touched.ensures.component

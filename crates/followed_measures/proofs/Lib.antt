@@ -1,0 +1,4 @@
+mod CellLemmas
+mod ExchangeLemmas
+mod FollowLemmas
+mod ToldLemmas
