@@ -12,6 +12,7 @@ use Rattle.net_laws.specs.NetExchanges.{finds}
 use Rattle.net_laws.specs.NetsTold.{terminals_in}
 use Rattle.shape_index.specs.Near.{are_near}
 use Rattle.staying_laws.specs.PlaceStatements.{boxes_among}
+use Rattle.followed_nets.specs.Listed.{AreApart}
 use Rattle.followed_nets.specs.Tests.{near_pairs}
 use Rattle.followed_nets.specs.Touched.{Touched, star_names}
 use Rattle.edit_session.specs.declared.change.Change as session
@@ -36,8 +37,8 @@ is_touched design (Some (one_net net)) name = bytes_eq net name
 is_touched design (Some (one_component c)) name = list_any (finds c) (terminals_in design name)
 
 -- and each of some nets
-abbrev pub AreTouched : List Record → Option Subject → List (List ℕ) → Type 0
-AreTouched design subject nets = (name : List ℕ) → is_one_of nets name ≡ true → is_touched design subject name ≡ true
+abbrev pub TouchesEach : List Record → Option Subject → List (List ℕ) → Type 0
+TouchesEach design subject nets = (name : List ℕ) → is_one_of nets name ≡ true → is_touched design subject name ≡ true
 
 -- each component of a design among some statements, with each whose box is near its own, itself too
 abbrev pub near_boxes : Library → List Record → List Record → ℕ
@@ -68,17 +69,18 @@ FewBoxes library old new tests =
 
 -- an edit that touches these nets touches no others than it says
 abbrev pub TouchesOnly : List Record → Option Subject → Touched → Type 0
-TouchesOnly design subject t = AreTouched design subject (t.names ++ star_names t.stars)
+TouchesOnly design subject t = TouchesEach design subject (t.names ++ star_names t.stars)
 
 -- what a change is of: a text edit of whatever its first byte lies in
 abbrev pub IsSubject : session.Change → Option Subject → Type 0
 IsSubject (Design edit) subject = subject ≡ subject_of (change_of edit.now)
 IsSubject (Text position) subject = Unit {0}
 
--- each of some nets is touched, and so many pairs of shapes are near
+-- each of some nets is touched, none stands twice among them, and so many pairs of shapes are near
 pub record FewShapes (library : Library) (old new : List Record) (subject : Option Subject) (tests : ℕ) : Type 0 where
   pub nets : List (List ℕ)
-  pub are_touched : AreTouched old subject nets
+  pub apart : AreApart nets
+  pub are_touched : TouchesEach old subject nets
   pub few : tests ≤ near_pairs library old nets + near_pairs library new nets
 
 -- Shapes of nets that the edit touches are compared with shapes near them, as they were and as they are then; so are boxes of components
