@@ -29,4 +29,4 @@ returns-in-Ok-Some-clause-noted g c =
     let touched = of_some (AreTouched library (said before)) _ _ (sym c.in_ok-touched.was) t.touched in
     let had = of_some (HasNets library before) _ _ c.in_ok-nets.ensures.value t.had in
     let lines = of_some (AreOnNets library (said before)) _ _ c.in_ok-kept.ensures.value t.knew.nets in
-    (rw (c.in-Ok-Some.field-0-is) at (c.in-Ok-Some.ensures before t.told touched (record { nets = had; lines = lines }))).nets
+    (rw (c.in-Ok-Some.field-0-is) at (c.in-Ok-Some.ensures.lines before t.told touched (record { nets = had; lines = lines }))).nets
