@@ -77,7 +77,7 @@ impl<A: Allocator + Copy> Noted<A> {
         requires { HasNoted library.now (records_in text.now) self.old }
         ensures noted { HasNoted library.now (records_in text.now) self.new }
         ensures told { AreTold library.now (said (records_in text.now)) result }
-        ensures only { (subject : Option Subject) × IsSubject change subject × IfSome result.nets (TouchesOnly (said (records_in text.now)) subject) }
+        ensures only { (subject : Option Subject) × IsSubject change.entry subject × IfSome result.nets (TouchesOnly (said (records_in text.now)) subject) }
     {
         let is_wanted = match change {
             Change::Design(edit) => component_of(edit).is_some(),
