@@ -30,3 +30,13 @@ returns-in-Ok-Some-clause-noted g c =
     let had = of_some (HasNets library before) _ _ c.in_ok-nets.ensures.value t.had in
     let lines = of_some (AreOnNets library (said before)) _ _ c.in_ok-kept.ensures.value t.knew.nets in
     (rw (c.in-Ok-Some.field-0-is) at (c.in-Ok-Some.ensures.lines before t.told touched (record { nets = had; lines = lines }))).nets
+
+pub returns-in-Ok-Some-clause-lines : goal.returns-in-Ok-Some-clause-lines
+returns-in-Ok-Some-clause-lines g c =
+    let library = c.args.library.now in
+    let before = records_in c.requires.0 in
+    let t = c.requires.1 in
+    let touched = of_some (AreTouched library (said before)) _ _ (sym c.in_ok-touched.was) t.touched in
+    let had = of_some (HasNets library before) _ _ c.in_ok-nets.ensures.value t.had in
+    let lines = of_some (AreOnNets library (said before)) _ _ c.in_ok-kept.ensures.value t.knew.nets in
+    (rw (c.in-Ok-Some.field-0-is) at (c.in-Ok-Some.ensures.lines before t.told touched (record { nets = had; lines = lines }))).lines
