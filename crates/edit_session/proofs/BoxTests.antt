@@ -1,6 +1,7 @@
 -- How many pairs of boxes are compared where exchanges are followed one after the other.
 use Rattle.std.proofs.Common.{◌≡◌, ◌≤◌, ◌+◌, ℕ, suc, cond, List, [], ◌∷◌, ◌++◌, map, count_by, sum_by, length, Option, Some, None, refl, sym, ap, ap₂, ◌∙◌, arith}
 use Rattle.std.specs.List.{cons_option, filter_map}
+use Rattle.std.specs.Prelude.{IfSome}
 use Rattle.std.specs.Option.{option_map}
 use Rattle.std.proofs.lemmas.List.{map-append}
 use Rattle.std.proofs.lemmas.List.Sums.{sum_by-cons}
@@ -102,3 +103,8 @@ few_boxes library old between new tests same ahead =
 
 pub no_boxes : (library : Library) (old new : List Record) (tests : ℕ) → tests ≡ 0 → FewBoxes library old new tests
 no_boxes library old new tests none = (0, None, refl, omega (arith, none))
+
+-- where something is found for which none was compared
+pub some_boxes : {A : Type 0} (library : Library) (old new : List Record) (count : A → ℕ) (found : Option A) → IfSome found (λ a. count a ≡ 0) → IfSome found (λ a. FewBoxes library old new (count a))
+some_boxes library old new count None none = tt
+some_boxes library old new count (Some a) none = no_boxes library old new (count a) none

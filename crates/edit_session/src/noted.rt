@@ -25,11 +25,21 @@ use std::alloc::{Allocator, Global};
 
 /// The components and the nets of a text, each once an edit changed one while the lines on them were known, and what was measured of it,
 /// once that was asked for.
-#[derive(Drop)]
 pub(crate) struct Noted<A: Allocator + Copy = Global> {
     pub(crate) places: Option<FollowedPlaces<A>>,
     pub(crate) nets: Option<FollowedNets<A>>,
     pub(crate) measures: Option<FollowedMeasures<A>>,
+}
+
+// (written out, so that who owns this is proved over one call in the place of all that it keeps)
+impl<A: Allocator + Copy> Drop for Noted<A> {
+    fn drop(self) {
+        let Noted {
+            places: _,
+            nets: _,
+            measures: _,
+        } = self;
+    }
 }
 
 /// What an edit is about to change, as it is before it.
