@@ -1,6 +1,6 @@
 //! The nets that an edit is about to change.
 
-ghost use Rattle.std.specs.Prelude.{◌≡◌, IfOk, IfSome, IsTrue, List, map};
+ghost use Rattle.std.specs.Prelude.{◌≡◌, [], IfOk, IfSome, IsTrue, List, None, map};
 ghost use Rattle.def_grammar.specs.Records.{Record};
 ghost use Rattle.lef_grammar.specs.Library.{Library as TheLibrary};
 ghost use Rattle.design_rules.specs.Boxes.{scale};
@@ -59,7 +59,8 @@ impl<A: Allocator> Model for TouchedNets<A> {
 impl<A: Allocator + Copy> TouchedNets<A> {
     /// None, for an edit that is about to change none. It takes no memory.
     pub fn none(alloc: A) -> TouchedNets<A>
-        ensures { (library : TheLibrary) (design : List Record) → AreTouched library design result }
+        ensures touched { (library : TheLibrary) (design : List Record) → AreTouched library design result }
+        ensures none { (result.names ≡ []) × (result.stars ≡ []) × (result.component ≡ None) }
     {
         TouchedNets {
             names: Vec::new(alloc),

@@ -3,6 +3,6 @@ use Rattle.followed_nets.specs.ToldViews.{told_view}
 use Rattle.followed_nets.proofs.ToldNets.{none_touched}
 use Rattle.followed_nets.proofs.touched.TouchedNets.none.Goals as goal
 
-pub returns : goal.returns
-returns g c library design =
+pub returns-clause-touched : goal.returns-clause-touched
+returns-clause-touched g c library design =
     none_touched library design c.new.result.items (map told_view c.new-2.result.items) c.new.ensures.items (ap (map told_view) c.new-2.ensures.items)
