@@ -30,10 +30,19 @@ use std::alloc::{AllocError, Allocator, Global};
 use std::marker::Model;
 
 /// What was measured of a text, and the numbers of its statements that any net may be made of, once they were asked for.
-#[derive(Drop)]
 pub struct FollowedMeasures<A: Allocator = Global> {
     reports: Reports<A>,
     common: Option<Vec<StmtId, A>>,
+}
+
+// (written out, so that who owns this is proved over one call in the place of all that it keeps)
+impl<A: Allocator> Drop for FollowedMeasures<A> {
+    fn drop(self) {
+        let FollowedMeasures {
+            reports: _,
+            common: _,
+        } = self;
+    }
 }
 
 impl<A: Allocator> Model for FollowedMeasures<A> {
