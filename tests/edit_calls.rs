@@ -94,6 +94,51 @@ fn few_statements_are_read(rt: HostRuntime) -> Result<(), Fail> {
     Ok(())
 }
 
+/// Puts a number of five digits behind a text.
+fn push_number(text: &mut Vec<u8>, number: usize) -> Result<(), Fail> {
+    for place in [10000, 1000, 100, 10, 1] {
+        text.push(b'0' + (number / place % 10) as u8)?;
+    }
+    Ok(())
+}
+
+/// A design of 100 by 100 components that touch, in no rows and without nets.
+fn touching(alloc: Global) -> Result<Vec<u8>, Fail> {
+    let mut text = Vec::new(alloc);
+    text.extend_from_slice(b"UNITS DISTANCE MICRONS 1000 ;\nCOMPONENTS 10000 ;\n")?;
+    for number in 0..10000 {
+        text.extend_from_slice(b"- c")?;
+        push_number(&mut text, number)?;
+        text.extend_from_slice(b" INV + PLACED ( ")?;
+        push_number(&mut text, number % 100 * 920)?;
+        text.push(b' ')?;
+        push_number(&mut text, number / 100 * 272)?;
+        text.extend_from_slice(b"0 ) N ;\n")?;
+    }
+    text.extend_from_slice(b"END COMPONENTS\nEND DESIGN\n")?;
+    Ok(text)
+}
+
+#[test]
+fn few_boxes_are_compared(rt: HostRuntime) -> Result<(), Fail> {
+    let alloc = rt.alloc();
+    let mut lefs = LefTexts::new(alloc);
+    lefs.push(INVERTER)?;
+    let library = Library::read(alloc, RandomState::new(&rt)?, &lefs)?;
+    let text = touching(alloc)?;
+    let mut session = Session::open(alloc, &library, &text)?;
+    // without lines that are known nothing is compared
+    let done = session.edit(&Edit::Place { component: b"c05050", x: 46000, y: 136000, orient: Orient::N })?;
+    assert_eq!(rt; done.tests, 0);
+    let before = session.diagnostics()?.len();
+    for (component, x, y) in [(b"c05050", 920, 2720), (b"c05050", 46000, 136000), (b"c00000", 91080, 269280)] {
+        let done = session.edit(&Edit::Place { component, x, y, orient: Orient::N })?;
+        assert!(rt; done.tests > 0 && done.tests <= 300, "{}", done.tests);
+    }
+    assert_eq!(rt; session.diagnostics()?.len(), before + 1);
+    Ok(())
+}
+
 /// What a session tells of a net, of all nets, and of a cell.
 #[derive(Clone, Copy, PartialEq, Eq, Debug)]
 struct Told {

@@ -1,5 +1,5 @@
 -- Lines that are made by putting parts behind one another.
-use Rattle.std.proofs.Common.{◌≡◌, ℕ, List, [], ◌++◌, Option, Some, None, Result, Ok, Err, ap, ◌∙◌, append-nil, subst, sym, arith, cond}
+use Rattle.std.proofs.Common.{◌≡◌, ℕ, List, [], ◌++◌, Option, Some, None, Result, Ok, Err, ap, ◌∙◌, subst, arith, cond}
 use Rattle.std.specs.Prelude.{IfOk, IfSome, IsPermutation, IsSome, MatchOption}
 use Rattle.std.specs.Str.{bytes_eq}
 use Rattle.std.proofs.lemmas.List.Sorted.{All-permutation, sum_by-IsPermutation}

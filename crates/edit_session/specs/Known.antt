@@ -10,6 +10,9 @@ use Rattle.kept_lines.specs.Kept.{Kept}
 use Rattle.staying_laws.specs.Staying.{lines_on_places, lines_on_statements}
 use Rattle.design_text.specs.DesignTexts.{Content, text_of}
 use Rattle.design_text.specs.Exchanges.{AreExchanges, Exchanged, records_in}
+use Rattle.followed_measures.specs.FollowedMeasures.{HasMeasures}
+use Rattle.followed_measures.specs.Told.{IsToldIn}
+use Rattle.followed_measures.specs.ToldViews.{told_view}
 use Rattle.followed_nets.specs.FollowedNets.{HasNets, Nets}
 use Rattle.followed_nets.specs.Touched.{AreTouched, Touched}
 use Rattle.followed_places.specs.Places.{AreOnPlaces, HasPlaces, Places, said}
@@ -18,6 +21,7 @@ use Rattle.design_model.specs.declared.identifier.StmtId.{StmtId}
 use Rattle.edit_session.specs.declared.known_lines.KnownLines.{KnownLines}
 use Rattle.edit_session.specs.declared.noted.FollowedLines.{FollowedLines}
 use Rattle.edit_session.specs.declared.noted.Noted.{Noted}
+use Rattle.edit_session.specs.declared.noted.Told.{Told}
 
 -- lines that are kept are these, in the order of their bytes
 abbrev pub AreKept : List (List ℕ) → Kept → Type 0
@@ -47,6 +51,12 @@ IsDrawingOfText library text nets = (design : List Record) → read_def text ≡
 pub record HasNoted {A : Type 0} (library : Library) (records : List (StmtId × Record)) (n : Noted A) : Type 0 where
   pub places : IfSome n.places (HasPlaces library records)
   pub nets : IfSome n.nets (HasNets library records)
+  pub measures : IfSome n.measures (HasMeasures library records)
+
+-- what is told of a design before an edit, as far as it is
+pub record AreTold {A : Type 0} (library : Library) (design : List Record) (t : Told A) : Type 0 where
+  pub nets : IfSome t.nets (AreTouched library design)
+  pub measures : IfSome t.measures (λ m. IsToldIn library design (told_view m))
 
 -- kept lines are those on the nets of a design, in the order of their bytes
 abbrev pub AreOnNets : Library → List Record → Kept → Type 0
@@ -73,10 +83,10 @@ pub record Touches {A : Type 0} (library : Library) (old new : Content) (exchang
   pub had : IfSome noted (HasNets library (records_in old))
   pub knew : AreKnown library (said (records_in old)) known
 
--- And of both.
-pub record Followed {A : Type 0} (library : Library) (old new : Content) (exchanges : List Exchanged) (some : Option Touched) (noted : Noted A) (known : KnownLines A) : Type 0 where
+-- And of all that is noted.
+pub record Followed {A : Type 0} (library : Library) (old new : Content) (exchanges : List Exchanged) (before : Told A) (noted : Noted A) (known : KnownLines A) : Type 0 where
   pub told : AreExchanges new.pieces.table.slots (records_in old) exchanges (records_in new)
   pub reads : read_def (text_of old) ≡ Ok (said (records_in old))
-  pub touched : IfSome some (AreTouched library (said (records_in old)))
+  pub told_before : AreTold library (said (records_in old)) before
   pub had : HasNoted library (records_in old) noted
   pub knew : AreKnown library (said (records_in old)) known

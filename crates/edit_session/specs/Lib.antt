@@ -1,3 +1,4 @@
 pub mod Contents
 pub mod Known
 pub mod Sessions
+pub mod Tests

@@ -80,6 +80,7 @@ impl<A: Allocator + Copy> KnownLines<A> {
             statements,
             places,
             nets,
+            tests: _,
         } = lines;
         if statements.is_some() {
             self.statements = statements;
@@ -105,6 +106,8 @@ impl<A: Allocator + Copy> KnownLines<A> {
         put_copies(alloc, &self.statements, &mut lines)?;
         put_copies(alloc, &self.places, &mut lines)?;
         put_copies(alloc, &self.nets, &mut lines)?;
+        // The parts are in order, and a stable sort merges them. Behind it all are in order, which the other one sees in one pass.
+        lines.sort_by(|a, b| a.text.as_slice().cmp(b.text.as_slice()))?;
         sort_lines(&mut lines);
         Ok(Sequence::from_vec(lines))
     }

@@ -1,46 +1,134 @@
-//! What is measured of a text.
+//! What is measured of a text, which follows an edit of one net.
 
 ghost use Rattle.std.specs.Prelude.{IfOk, IfSome};
-ghost use Rattle.design_text.specs.DesignTexts.{text_of};
+ghost use Rattle.design_text.specs.DesignTexts.{Content, text_of};
+ghost use Rattle.design_text.specs.Exchanges.{AreExchanges, records_in};
+ghost use Rattle.followed_measures.specs.FollowedMeasures.{HasMeasures};
+ghost use Rattle.followed_measures.specs.Told.{IsToldIn};
+ghost use Rattle.followed_measures.specs.ToldViews.{told_view};
+ghost use Rattle.followed_places.specs.Places.{said};
+ghost use Rattle.edit_session.specs.Known.{HasNoted};
 ghost use Rattle.edit_session.specs.Sessions.{AnswersOn};
 
+use crate::change::Change;
+use crate::nets::net_of;
+use crate::noted::Noted;
 use cell_library::library::Library;
-use design_names::names::names_of;
+use def_reader::entry::Entry;
+use def_reader::statement::Statement;
+use design_text::made::Made;
 use design_text::text::DesignText;
-use line_laws::scales::scales_are_good;
-use measure_laws::lengths::lengths_fit;
-use measure_laws::ranges::lines_fit;
-use reports::Reports;
+use followed_measures::{FollowedMeasures, ToldMeasures};
 use std::alloc::{AllocError, Allocator};
-
-/// The lengths and boxes of all nets of a text, and its cells. Each statement is read once, from its piece.
-fn reports_on<'t, A: Allocator + Copy>(
-    alloc: A,
-    library: &'t Library<'_, A>,
-    text: &'t DesignText<A>,
-) -> Result<Reports<A>, AllocError>
-    ensures { IfOk result (AnswersOn library.now (text_of text.now)) }
-{
-    scales_are_good();
-    lengths_fit();
-    lines_fit();
-    let records = text.statements(alloc)?;
-    let names = names_of(alloc, library.hash_builder(), &records)?;
-    Reports::open(alloc, library, &names)
-}
+use wire_parts::nets::NetEntry;
 
 /// What was measured of a text, if that is kept, and else what is measured of it now.
-pub(crate) fn kept_or_made<A: Allocator + Copy>(
+fn kept_or_made<A: Allocator + Copy>(
     alloc: A,
     library: &Library<'_, A>,
     text: &DesignText<A>,
-    kept: Option<Reports<A>>,
-) -> Result<Reports<A>, AllocError>
-    requires { IfSome kept (AnswersOn library.now (text_of text.now)) }
-    ensures { IfOk result (AnswersOn library.now (text_of text.now)) }
+    kept: Option<FollowedMeasures<A>>,
+) -> Result<FollowedMeasures<A>, AllocError>
+    requires { IfSome kept (HasMeasures library.now (records_in text.now)) }
+    ensures { IfOk result (HasMeasures library.now (records_in text.now)) }
 {
     match kept {
-        Some(reports) => Ok(reports),
-        None => reports_on(alloc, library, text),
+        Some(measures) => Ok(measures),
+        None => FollowedMeasures::of(alloc, library, text),
+    }
+}
+
+/// What is measured of a text, which is no longer noted then.
+pub(crate) fn take_measures<A: Allocator + Copy>(
+    alloc: A,
+    library: &Library<'_, A>,
+    text: &DesignText<A>,
+    noted: &mut Noted<A>,
+) -> Result<FollowedMeasures<A>, AllocError>
+    requires { HasNoted library.now (records_in text.now) noted.old }
+    ensures noted { HasNoted library.now (records_in text.now) noted.new }
+    ensures measures { IfOk result (HasMeasures library.now (records_in text.now)) }
+    ensures answers { IfOk result (λ m. AnswersOn library.now (text_of text.now) m.answers) }
+{
+    text.statements_are_kept();
+    text.design_is_read();
+    let kept = noted.measures.take();
+    kept_or_made(alloc, library, text, kept)
+}
+
+/// The net of the entry in which a position of a text lies, if it lies in one of a net.
+fn net_at<A: Allocator + Copy>(text: &DesignText<A>, position: usize) -> Option<&[u8]> {
+    match text.statement_at(position) {
+        Some(Statement::Entry(Entry::Net(NetEntry::Net(net)))) => Some(net.name.bytes),
+        Some(Statement::Entry(Entry::SpecialNet(net))) => Some(net.name.bytes),
+        _ => None,
+    }
+}
+
+/// What is measured of the net that an edit is of.
+fn told_of<A: Allocator + Copy>(
+    alloc: A,
+    library: &Library<'_, A>,
+    text: &DesignText<A>,
+    change: Change<'_, '_>,
+    measures: &mut FollowedMeasures<A>,
+) -> Result<Option<ToldMeasures<A>>, AllocError>
+    requires { HasMeasures library.now (records_in text.now) measures.old }
+    ensures told { IfOk result (λ found. IfSome found (λ t. IsToldIn library.now (said (records_in text.now)) (told_view t))) }
+    ensures measures { HasMeasures library.now (records_in text.now) measures.new }
+{
+    text.statements_are_kept();
+    match change {
+        Change::Design(edit) => match net_of(edit) {
+            Some(net) => measures.told(alloc, library, text, net),
+            None => Ok(None),
+        },
+        Change::Text(position) => match net_at(text, position) {
+            Some(net) => measures.told(alloc, library, text, net),
+            None => Ok(None),
+        },
+    }
+}
+
+/// What is measured of the net that an edit is about to change, where measures are noted and can follow it.
+pub(crate) fn tell_measures<A: Allocator + Copy>(
+    alloc: A,
+    library: &Library<'_, A>,
+    text: &DesignText<A>,
+    change: Change<'_, '_>,
+    noted: &mut Option<FollowedMeasures<A>>,
+) -> Option<ToldMeasures<A>>
+    requires { IfSome noted.old (HasMeasures library.now (records_in text.now)) }
+    ensures noted { IfSome noted.new (HasMeasures library.now (records_in text.now)) }
+    ensures told { IfSome result (λ t. IsToldIn library.now (said (records_in text.now)) (told_view t)) }
+{
+    let mut measures = noted.take()?;
+    let told = told_of(alloc, library, text, change, &mut measures);
+    *noted = Some(measures);
+    match told {
+        Ok(found) => found,
+        Err(_) => None,
+    }
+}
+
+/// Lets measures that are noted follow an edit, where the net that it is of was told before it. Else they are forgotten.
+pub(crate) fn follow_measures<A: Allocator + Copy>(
+    alloc: A,
+    library: &Library<'_, A>,
+    text: &DesignText<A>,
+    made: &Made<A>,
+    told: Option<ToldMeasures<A>>,
+    noted: &mut Option<FollowedMeasures<A>>,
+)
+    requires { (old : Content) × AreExchanges text.now.pieces.table.slots (records_in old) made.now.exchanges (records_in text.now) × IfSome told (λ t. IsToldIn library.now (said (records_in old)) (told_view t)) × IfSome noted.old (HasMeasures library.now (records_in old)) }
+    ensures { IfSome noted.new (HasMeasures library.now (records_in text.now)) }
+{
+    let kept = noted.take();
+    let (Some(measures), Some(told)) = (kept, told) else {
+        return;
+    };
+    let mut measures = measures;
+    if let Ok(true) = measures.follow(alloc, library, text, made, told) {
+        *noted = Some(measures);
     }
 }

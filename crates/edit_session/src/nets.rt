@@ -1,17 +1,20 @@
 //! The lines on nets, which follow an edit by the nets that it touches.
 
-ghost use Rattle.std.specs.Prelude.{IfOk, IfSome, List};
+ghost use Rattle.std.specs.Prelude.{◌≡◌, IfOk, IfSome, List, Option, Some};
 ghost use Rattle.def_grammar.specs.Records.{Record};
 ghost use Rattle.design_text.specs.DesignTexts.{Content};
 ghost use Rattle.design_text.specs.Exchanges.{records_in};
 ghost use Rattle.followed_nets.specs.FollowedNets.{HasNets};
 ghost use Rattle.followed_nets.specs.Touched.{AreTouched};
 ghost use Rattle.followed_places.specs.Places.{said};
+ghost use Rattle.edit_rules.specs.Edits.{change_of};
 ghost use Rattle.edit_session.specs.Known.{AreKnown, AreOnNets, Touches};
+ghost use Rattle.edit_session.specs.Tests.{FewShapes, IsSubject, Subject, TouchesOnly, one_component, one_net, subject_of};
 
 use crate::change::Change;
 use crate::known_lines::KnownLines;
 use crate::no_nets::has_nets;
+use crate::part::FollowedPart;
 use crate::places::component_of;
 use cell_library::library::Library;
 use def_reader::entry::Entry;
@@ -19,13 +22,14 @@ use def_reader::statement::Statement;
 use design_text::made::Made;
 use design_text::text::DesignText;
 use edit_model::edit::Edit;
-use followed_nets::{FollowedNets, TouchedNets};
-use kept_lines::KeptLines;
+use followed_nets::{FollowedNets, FollowedOnNets, TouchedNets};
 use std::alloc::{AllocError, Allocator};
 use wire_parts::nets::NetEntry;
 
 /// The net that an edit is of, if it is one of a net.
-fn net_of<'e>(edit: &Edit<'e>) -> Option<&'e [u8]> {
+pub(crate) fn net_of<'e>(edit: &Edit<'e>) -> Option<&'e [u8]>
+    ensures { IfSome result (λ n. subject_of (change_of edit.now) ≡ Some (one_net n.now)) }
+{
     match edit {
         Edit::Connect { net, .. } => Some(*net),
         Edit::Disconnect { net, .. } => Some(*net),
@@ -49,7 +53,8 @@ fn touched_by_edit<A: Allocator + Copy>(
     nets: &FollowedNets<A>,
 ) -> Result<Option<TouchedNets<A>>, AllocError>
     requires { HasNets library.now (records_in text.now) nets.now }
-    ensures { IfOk result (λ found. IfSome found (AreTouched library.now (said (records_in text.now)))) }
+    ensures touched { IfOk result (λ found. IfSome found (AreTouched library.now (said (records_in text.now)))) }
+    ensures only { IfOk result (λ found. IfSome found (TouchesOnly (said (records_in text.now)) (subject_of (change_of edit.now)))) }
 {
     text.statements_are_kept();
     if let Some(net) = net_of(edit) {
@@ -70,7 +75,8 @@ fn touched_by_entry<A: Allocator + Copy>(
     nets: &FollowedNets<A>,
 ) -> Result<Option<TouchedNets<A>>, AllocError>
     requires { HasNets library.now (records_in text.now) nets.now }
-    ensures { IfOk result (λ found. IfSome found (AreTouched library.now (said (records_in text.now)))) }
+    ensures touched { IfOk result (λ found. IfSome found (AreTouched library.now (said (records_in text.now)))) }
+    ensures only { (subject : Option Subject) × IfOk result (λ found. IfSome found (TouchesOnly (said (records_in text.now)) subject)) }
 {
     text.statements_are_kept();
     match entry {
@@ -94,7 +100,8 @@ fn touched_by_text<A: Allocator + Copy>(
     nets: &FollowedNets<A>,
 ) -> Result<Option<TouchedNets<A>>, AllocError>
     requires { HasNets library.now (records_in text.now) nets.now }
-    ensures { IfOk result (λ found. IfSome found (AreTouched library.now (said (records_in text.now)))) }
+    ensures touched { IfOk result (λ found. IfSome found (AreTouched library.now (said (records_in text.now)))) }
+    ensures only { (subject : Option Subject) × IfOk result (λ found. IfSome found (TouchesOnly (said (records_in text.now)) subject)) }
 {
     match text.statement_at(position) {
         Some(Statement::Entry(entry)) => touched_by_entry(alloc, library, text, &entry, nets),
@@ -111,7 +118,8 @@ fn touched<A: Allocator + Copy>(
     nets: &FollowedNets<A>,
 ) -> Result<Option<TouchedNets<A>>, AllocError>
     requires { HasNets library.now (records_in text.now) nets.now }
-    ensures { IfOk result (λ found. IfSome found (AreTouched library.now (said (records_in text.now)))) }
+    ensures touched { IfOk result (λ found. IfSome found (AreTouched library.now (said (records_in text.now)))) }
+    ensures only { (subject : Option Subject) × IsSubject change.entry subject × IfOk result (λ found. IfSome found (TouchesOnly (said (records_in text.now)) subject)) }
 {
     match change {
         Change::Design(edit) => touched_by_edit(alloc, library, text, edit, nets),
@@ -162,6 +170,7 @@ pub(crate) fn note_nets<A: Allocator + Copy>(
     requires { IfSome noted.old (HasNets library.now (records_in text.now)) }
     ensures noted { IfSome noted.new (HasNets library.now (records_in text.now)) }
     ensures touched { IfSome result (AreTouched library.now (said (records_in text.now))) }
+    ensures only { (subject : Option Subject) × IsSubject change.entry subject × IfSome result (TouchesOnly (said (records_in text.now)) subject) }
 {
     if known.nets.is_none() || !has_nets(text) || !is_followed(text, change) {
         return None;
@@ -176,6 +185,35 @@ pub(crate) fn note_nets<A: Allocator + Copy>(
 
 /// The lines on nets after an edit, from those that were known, which are so no longer, where nets are noted and the edit touched only
 /// some that were told. What is noted is then that of the new text, and else forgotten.
+fn follow_known<A: Allocator + Copy>(
+    alloc: A,
+    library: &Library<'_, A>,
+    text: &DesignText<A>,
+    made: &Made<A>,
+    touched: Option<TouchedNets<A>>,
+    noted: &mut Option<FollowedNets<A>>,
+    known: &mut KnownLines<A>,
+) -> Option<FollowedOnNets<A>>
+    requires { (old : Content) × Touches library.now old text.now made.now.exchanges touched noted.old known.old }
+    ensures lines { IfSome result (λ f. AreOnNets library.now (said (records_in text.now)) f.lines) }
+    ensures tests { (old : Content) (subject : Option Subject) → Touches library.now old text.now made.now.exchanges touched noted.old known.old → IfSome touched (TouchesOnly (said (records_in old)) subject)
+        → IfSome result (λ f. FewShapes library.now (said (records_in old)) (said (records_in text.now)) subject f.tests) }
+    ensures noted { IfSome noted.new (HasNets library.now (records_in text.now)) }
+    ensures known { (design : List Record) → AreKnown library.now design known.old → AreKnown library.now design known.new }
+{
+    let mut nets = noted.take()?;
+    let kept = known.nets.take()?;
+    let touched = touched?;
+    match nets.follow(alloc, library, text, made, touched, kept) {
+        Ok(Some(found)) => {
+            *noted = Some(nets);
+            Some(found)
+        }
+        _ => None,
+    }
+}
+
+/// The lines on nets after an edit, as far as they follow, and how many shapes were compared for them.
 pub(crate) fn follow_nets<A: Allocator + Copy>(
     alloc: A,
     library: &Library<'_, A>,
@@ -184,20 +222,19 @@ pub(crate) fn follow_nets<A: Allocator + Copy>(
     touched: Option<TouchedNets<A>>,
     noted: &mut Option<FollowedNets<A>>,
     known: &mut KnownLines<A>,
-) -> Option<KeptLines<A>>
+) -> FollowedPart<A>
     requires { (old : Content) × Touches library.now old text.now made.now.exchanges touched noted.old known.old }
-    ensures lines { IfSome result (AreOnNets library.now (said (records_in text.now))) }
+    ensures lines { IfSome result.lines (AreOnNets library.now (said (records_in text.now))) }
+    ensures tests { (old : Content) (subject : Option Subject) → Touches library.now old text.now made.now.exchanges touched noted.old known.old → IfSome touched (TouchesOnly (said (records_in old)) subject)
+        → FewShapes library.now (said (records_in old)) (said (records_in text.now)) subject result.tests }
     ensures noted { IfSome noted.new (HasNets library.now (records_in text.now)) }
     ensures known { (design : List Record) → AreKnown library.now design known.old → AreKnown library.now design known.new }
 {
-    let mut nets = noted.take()?;
-    let kept = known.nets.take()?;
-    let touched = touched?;
-    match nets.follow(alloc, library, text, made, touched, kept) {
-        Ok(Some(followed)) => {
-            *noted = Some(nets);
-            Some(followed.lines)
-        }
-        _ => None,
+    match follow_known(alloc, library, text, made, touched, noted, known) {
+        Some(found) => FollowedPart {
+            lines: Some(found.lines),
+            tests: found.tests,
+        },
+        None => FollowedPart::none(),
     }
 }

@@ -1,6 +1,6 @@
 //! The session: a library and the present text of a design.
 
-ghost use Rattle.std.specs.Prelude.{◌≡◌, ◌+◌, ◌≤◌, ◌<◌, ◌^◌, OnErr, OnOk, IfOk, IfSome, IsOk, length};
+ghost use Rattle.std.specs.Prelude.{◌≡◌, ◌+◌, ◌≤◌, ◌<◌, ◌^◌, OnErr, OnOk, IfOk, IfSome, IsOk, Option, length};
 ghost use Rattle.std.specs.Io.KnownBytes.{Appends};
 ghost use Rattle.counted_devices.specs.Counting.{HasFailed};
 ghost use Rattle.counted_devices.specs.Known.{WritesPart};
@@ -18,11 +18,12 @@ ghost use Rattle.measure_rules.specs.NetBoxes.{net_box};
 ghost use Rattle.design_text.specs.DesignTexts.{text_of};
 ghost use Rattle.design_text.specs.Editing.{KeepsTheRest, ReadsEdited};
 ghost use Rattle.design_text.specs.FewReads.{ReadsFew, new_in};
-ghost use Rattle.edit_session.specs.Sessions.{AnswersOn, AreDiagnostics, HasParts, Measures, OpensAs, Views};
+ghost use Rattle.edit_session.specs.Tests.{Subject, TestsFewIn, subject_of};
+ghost use Rattle.edit_session.specs.Sessions.{AreDiagnostics, HasParts, Measures, OpensAs, Views};
 
 use crate::change::Change;
 use crate::known_lines::KnownLines;
-use crate::measures::kept_or_made;
+use crate::measures::take_measures;
 use crate::noted::Noted;
 use crate::report::know_lines;
 use crate::view::{View, view_of};
@@ -36,7 +37,6 @@ use design_model::identifier::LayerId;
 use design_model::mode::Section;
 use design_text::text::DesignText;
 use edit_model::edit::{Done, Edit, EditRefusal};
-use reports::Reports;
 use std::alloc::{AllocError, Allocator, Global};
 use std::io::Write;
 use std::marker::Model;
@@ -46,11 +46,9 @@ pub struct Session<'s, 'l, A: Allocator + Copy = Global> {
     alloc: A,
     library: &'s Library<'l, A>,
     text: DesignText<A>,
-    /// What was measured of the present text, if that was asked since it was last edited.
-    reports: Option<Reports<A>>,
     /// The lines on the present text that are known.
     known: KnownLines<A>,
-    /// What is noted of the present text, so that lines follow an edit.
+    /// What is noted of the present text, so that lines follow an edit, and what was measured of it.
     noted: Noted<A>,
 }
 
@@ -61,13 +59,12 @@ impl<'s, 'l, A: Allocator + Copy> Model for Session<'s, 'l, A> {
     ghost use Rattle.design_text.specs.Exchanges.{records_in};
     ghost use Rattle.edit_session.specs.Contents.{Content};
     ghost use Rattle.edit_session.specs.Known.{AreKnownOf, HasNoted};
-    ghost use Rattle.edit_session.specs.Sessions.{AnswersOn};
 
     ghost Value = { Content };
 
     ghost view = { λ s. record { library = s.library.now; text = text_of s.text } };
 
-    ghost invariant = { λ s. IsOk (read_def (text_of s.text)) × IfSome s.reports (AnswersOn s.library.now (text_of s.text)) × AreKnownOf s.library.now (text_of s.text) s.known × HasNoted s.library.now (records_in s.text) s.noted };
+    ghost invariant = { λ s. IsOk (read_def (text_of s.text)) × AreKnownOf s.library.now (text_of s.text) s.known × HasNoted s.library.now (records_in s.text) s.noted };
 }
 
 // (written out, so that who owns a session is proved over one call in the place of all that it keeps)
@@ -77,7 +74,6 @@ impl<A: Allocator + Copy> Drop for Session<'_, '_, A> {
             alloc: _,
             library: _,
             text: _,
-            reports: _,
             known: _,
             noted: _,
         } = self;
@@ -115,7 +111,6 @@ impl<'s, 'l, A: Allocator + Copy> Session<'s, 'l, A> {
             alloc,
             library,
             text,
-            reports: None,
             known: KnownLines::none(),
             noted: Noted::none(),
         })
@@ -129,7 +124,6 @@ impl<'s, 'l, A: Allocator + Copy> Session<'s, 'l, A> {
             alloc,
             library: _,
             text,
-            reports: _,
             known: _,
             noted: _,
         } = self;
@@ -144,7 +138,6 @@ impl<'s, 'l, A: Allocator + Copy> Session<'s, 'l, A> {
             alloc: _,
             library: _,
             text,
-            reports: _,
             known: _,
             noted: _,
         } = self;
@@ -156,12 +149,12 @@ impl<'s, 'l, A: Allocator + Copy> Session<'s, 'l, A> {
         ensures answer { Answers self.old.library self.old.text (design_edit (change_of edit.now)) result self.new.text }
         ensures applied { IfOk result (λ _. ReadsEdited self.old.text (change_of edit.now) self.new.text) }
         ensures keeps { IfOk result (λ _. KeepsTheRest self.old.library self.old.text (change_of edit.now) self.new.text) }
-        ensures untested { IfOk result (λ done. done.tests ≡ 0) }
+        ensures tests { IfOk result (λ done. TestsFewIn self.old.library self.old.text self.new.text (subject_of (change_of edit.now)) done.tests) }
         ensures few { IfOk result (λ done. ReadsFew self.old.library self.old.text (change_of edit.now) done.reads) }
         ensures library { self.new.library ≡ self.old.library }
         ensures reads { IsOk (read_def self.new.text) }
     {
-        let touched = self.noted.note(
+        let told = self.noted.note(
             self.alloc,
             self.library,
             &self.text,
@@ -174,32 +167,32 @@ impl<'s, 'l, A: Allocator + Copy> Session<'s, 'l, A> {
         self.text.text_reads();
         let made = edited?;
         let reads = made.reads();
-        self.reports = None;
         let followed = self.noted.follow(
             self.alloc,
             self.library,
             &self.text,
             &made,
-            touched,
+            told,
             &mut self.known,
         );
         self.text.let_go(made);
         self.text.statements_are_kept();
         self.text.design_is_read();
         self.known = KnownLines::none();
+        let tests = followed.tests;
         self.known.put(followed);
-        Ok(Done { reads, tests: 0 })
+        Ok(Done { reads, tests })
     }
 
     /// Puts bytes in the place of those from `a` up to `b`, or refuses it and leaves the text as it was.
     pub fn text_edit(&mut self, a: usize, b: usize, new: &[u8]) -> Result<Done, EditRefusal>
         ensures answer { Answers self.old.library self.old.text (text_edit a b new.now) result self.new.text }
-        ensures untested { IfOk result (λ done. done.tests ≡ 0) }
+        ensures tests { IfOk result (λ done. (subject : Option Subject) × TestsFewIn self.old.library self.old.text self.new.text subject done.tests) }
         ensures few { IfOk result (λ done. done.reads ≤ new_in self.old.text (record { lo = a; hi = b; put = new.now })) }
         ensures library { self.new.library ≡ self.old.library }
         ensures reads { IsOk (read_def self.new.text) }
     {
-        let touched = self.noted.note(
+        let told = self.noted.note(
             self.alloc,
             self.library,
             &self.text,
@@ -212,21 +205,21 @@ impl<'s, 'l, A: Allocator + Copy> Session<'s, 'l, A> {
         self.text.text_reads();
         let made = edited?;
         let reads = made.reads();
-        self.reports = None;
         let followed = self.noted.follow(
             self.alloc,
             self.library,
             &self.text,
             &made,
-            touched,
+            told,
             &mut self.known,
         );
         self.text.let_go(made);
         self.text.statements_are_kept();
         self.text.design_is_read();
         self.known = KnownLines::none();
+        let tests = followed.tests;
         self.known.put(followed);
-        Ok(Done { reads, tests: 0 })
+        Ok(Done { reads, tests })
     }
 
     /// The entry of a section that has this name, of the present text. There is none of BLOCKAGES and of sections whose
@@ -249,24 +242,15 @@ impl<'s, 'l, A: Allocator + Copy> Session<'s, 'l, A> {
         self.known.joined(self.alloc)
     }
 
-    /// What is measured of the present text, which no field has then.
-    fn take_reports(&mut self) -> Result<Reports<A>, AllocError>
-        ensures reports { IfOk result (AnswersOn self.old.library self.old.text) }
-        ensures same { self.new ≡ self.old }
-    {
-        let kept = self.reports.take();
-        kept_or_made(self.alloc, self.library, &self.text, kept)
-    }
-
     /// The length of the wires of a net, in database units; `None` where there is no such net. Measures are made at the first
-    /// question after an edit, and kept up to the next.
+    /// question, follow an edit of one net, and are made anew after others.
     pub fn net_length(&mut self, net: &[u8]) -> Result<Option<u64>, AllocError>
         ensures length { IfOk result (Measures self.old.text (λ design. net_length self.old.library design (scale design) net.now)) }
         ensures same { self.new ≡ self.old }
     {
-        let reports = self.take_reports()?;
-        let length = reports.net_length(net);
-        self.reports = Some(reports);
+        let measures = take_measures(self.alloc, self.library, &self.text, &mut self.noted)?;
+        let length = measures.reports().net_length(net);
+        self.noted.measures = Some(measures);
         Ok(length)
     }
 
@@ -275,9 +259,9 @@ impl<'s, 'l, A: Allocator + Copy> Session<'s, 'l, A> {
         ensures bounds { IfOk result (λ b. Measures self.old.text (λ design. net_box self.old.library design (scale design) net.now) (option_map (option_map rectangle_of) b)) }
         ensures same { self.new ≡ self.old }
     {
-        let reports = self.take_reports()?;
-        let bounds = reports.net_box(net);
-        self.reports = Some(reports);
+        let measures = take_measures(self.alloc, self.library, &self.text, &mut self.noted)?;
+        let bounds = measures.reports().net_box(net);
+        self.noted.measures = Some(measures);
         Ok(bounds)
     }
 
@@ -286,9 +270,9 @@ impl<'s, 'l, A: Allocator + Copy> Session<'s, 'l, A> {
         ensures total { IfOk result (Measures self.old.text (λ design. total_length self.old.library design (scale design))) }
         ensures same { self.new ≡ self.old }
     {
-        let reports = self.take_reports()?;
-        let total = reports.total_length();
-        self.reports = Some(reports);
+        let measures = take_measures(self.alloc, self.library, &self.text, &mut self.noted)?;
+        let total = measures.reports().total_length();
+        self.noted.measures = Some(measures);
         Ok(total)
     }
 
@@ -303,9 +287,9 @@ impl<'s, 'l, A: Allocator + Copy> Session<'s, 'l, A> {
         ensures density { IfOk result (Measures self.old.text (λ design. cell_density self.old.library design column row layer.0)) }
         ensures same { self.new ≡ self.old }
     {
-        let reports = self.take_reports()?;
-        let density = reports.cell(column, row, layer);
-        self.reports = Some(reports);
+        let measures = take_measures(self.alloc, self.library, &self.text, &mut self.noted)?;
+        let density = measures.reports().cell(column, row, layer);
+        self.noted.measures = Some(measures);
         Ok(density)
     }
 
@@ -314,9 +298,9 @@ impl<'s, 'l, A: Allocator + Copy> Session<'s, 'l, A> {
         ensures density { IfOk result (Measures self.old.text (λ design. place_density self.old.library design column row)) }
         ensures same { self.new ≡ self.old }
     {
-        let reports = self.take_reports()?;
-        let density = reports.place_cell(column, row);
-        self.reports = Some(reports);
+        let measures = take_measures(self.alloc, self.library, &self.text, &mut self.noted)?;
+        let density = measures.reports().place_cell(column, row);
+        self.noted.measures = Some(measures);
         Ok(density)
     }
 

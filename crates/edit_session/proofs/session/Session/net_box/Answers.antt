@@ -1,14 +1,14 @@
-use Rattle.std.proofs.Common.{◌∙◌, rules}
-use Rattle.std.specs.Prelude.{IsOk}
-use Rattle.def_grammar.specs.Records.{read_def}
+use Rattle.std.proofs.Common.{List, ap, ◌∙◌}
+use Rattle.def_grammar.specs.Records.{Record}
 use Rattle.design_rules.specs.Boxes.{scale}
+use Rattle.design_text.specs.DesignTexts.{text_of}
 use Rattle.measure_rules.specs.NetBoxes.{net_box}
+use Rattle.reports.specs.Answers.{Answers, box_in}
 use Rattle.edit_session.proofs.MeasureLemmas.{measured}
 use Rattle.edit_session.proofs.session.Session.net_box.Goals as goal
 
 pub returns-clause-bounds : goal.returns-clause-bounds
 returns-clause-bounds g c =
-    let text = c.args.self.now.text in
-    let library = c.args.self.now.library in
-    let reads : IsOk (read_def text) = search rules in
-    measured text (λ design. net_box library design (scale design) c.args.net.now) _ reads (λ design is. c.net_box-bounds.ensures ∙ (c.in_ok-reports.ensures.reports design is).net_box c.args.net.now)
+    let text = text_of c.self.inside.text in
+    let library = c.self.inside.library.now in
+    rw (← c.self.view_is) (measured text (λ (design : List Record). net_box library design (scale design) c.args.net.now) _ c.self.invariant.0 (λ design is. c.net_box-bounds.ensures ∙ ap (λ (a : Answers). box_in a c.args.net.now) c.reports.ensures ∙ (c.in_ok-measures.ensures.answers design is).net_box c.args.net.now))
