@@ -55,6 +55,26 @@ each_once seen (p ∷ ps) = if is_among seen p.words then each_once seen ps else
 abbrev pub net_pins : PinsByName → List ℕ → List Terminal → List NetPin
 net_pins pins net listed = each_once [] (flat_map (pins_of pins) listed ++ pins.naming net)
 
+-- the pins of a design
+abbrev pub pin_of : Record → Option Pin
+pin_of (entry (records.pin p)) = Some p
+pin_of _ = None
+
+abbrev pub design_pins : List Record → List Pin
+design_pins design = filter_map pin_of design
+
+-- the first of a name
+abbrev pub design_pin_named : List Record → List ℕ → Option Pin
+design_pin_named design name = find_named (λ (p : Pin). p.name) (design_pins design) name
+
+-- a pin's net is that of its first NET, whatever port that stands in
+abbrev pub names_net : List ℕ → Pin → Bool
+names_net net p = is_same net (first_of net_of_clause p.clauses)
+
+-- those of a net
+abbrev pub pins_naming : List Record → List ℕ → List Pin
+pins_naming design net = filter (names_net net) (design_pins design)
+
 module _ (library : Library) (u : ℕ) where
   abbrev pub component_pin : Component → Macro → lef.Pin → NetPin
   component_pin c m p =
@@ -73,21 +93,10 @@ module _ (library : Library) (design : List Record) (u : ℕ) where
     shapes = checked_named library.layers (flat_map (port_shapes (via_shapes library design u)) (ports_of p));
   }
 
-  abbrev pub pin_of : Record → Option Pin
-  pin_of (entry (records.pin p)) = Some p
-  pin_of _ = None
-
-  abbrev pub design_pins : List Pin
-  design_pins = filter_map pin_of design
-
-  -- a pin's net is that of its first NET, whatever port that stands in
-  abbrev pub names_net : List ℕ → Pin → Bool
-  names_net net p = is_same net (first_of net_of_clause p.clauses)
-
   abbrev pub pins_by_name : PinsByName
   pins_by_name = record {
     of_all = λ pin. filter_map (pin_of_component library u pin) (filter_map component_of design);
     of_component = λ c pin. option_to_list (component_named design c >>= pin_of_component library u pin);
-    of_design = λ pin. option_to_list (option_map design_pin (find_named (λ (p : Pin). p.name) design_pins pin));
-    naming = λ net. map design_pin (filter (names_net net) design_pins);
+    of_design = λ pin. option_to_list (option_map design_pin (design_pin_named design pin));
+    naming = λ net. map design_pin (pins_naming design net);
   }

@@ -1,14 +1,15 @@
 -- The nets of a design, where statements go out of it and others come in at their place.
-use Rattle.std.specs.Prelude.{◌≡◌, ℕ, Bool, false, not, ◌||◌, List, [], ◌++◌, filter, length, map}
+use Rattle.std.specs.Prelude.{◌≡◌, ℕ, Bool, false, not, ◌&&◌, ◌||◌, List, [], ◌++◌, filter, length, map}
 use Rattle.std.specs.List.{list_any}
 use Rattle.std.specs.Str.{bytes_eq}
 use Rattle.design_model.specs.declared.mode.Section.TheVariants.{Nets, SpecialNets}
 use Rattle.def_grammar.specs.Records as records
 use Rattle.def_grammar.specs.Records.{Record, entry}
-use Rattle.def_grammar.specs.Terminals.{Terminal, is_of_all}
+use Rattle.def_grammar.specs.Terminals.{Terminal, is_of_all, is_of_design}
 use Rattle.lef_grammar.specs.Library.{Library}
 use Rattle.connection_rules.specs.NetLines.{net_lines}
 use Rattle.connection_rules.specs.NetParts.{Net, all_nets, net_named, net_names}
+use Rattle.connection_rules.specs.Terminals.{names_net}
 use Rattle.design_rules.specs.Boxes.{scale}
 use Rattle.edit_rules.specs.SectionEdits.{entries_in}
 use Rattle.following_laws.specs.Following.{Exchange}
@@ -22,9 +23,14 @@ nets_where library design u test = map (net_named library design u) (filter test
 abbrev pub finds : List ℕ → Terminal → Bool
 finds name t = is_of_all t || bytes_eq t.owner name
 
--- a statement touches a net of a design: it is an entry of the net, or a component that the net lists
+-- a terminal finds the pin of the design of a name
+abbrev pub finds_pin : List ℕ → Terminal → Bool
+finds_pin name t = is_of_design t && bytes_eq t.pin name
+
+-- a statement touches a net of a design: it is an entry of the net, a component or a pin that the net lists, or a pin that names it
 abbrev pub touches : List Record → List ℕ → Record → Bool
 touches design net (entry (records.component c)) = list_any (finds c.name) (terminals_in design net)
+touches design net (entry (records.pin p)) = names_net net p || list_any (finds_pin p.name) (terminals_in design net)
 touches design net r = is_of_net net r
 
 -- none of some statements is common to all nets, and a test passes each net of a design that one of them touches

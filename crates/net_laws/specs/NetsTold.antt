@@ -1,20 +1,21 @@
--- What a net of a design is told by: its entries, the components that these list, and what all nets may be made of.
+-- What a net of a design is told by: its entries, the components and the pins of the design that these list, the pins that name it, and
+-- what all nets may be made of.
 use Rattle.std.specs.Prelude.{◌≡◌, ℕ, Bool, true, false, List, [], filter, flat_map, Option, Some, None}
 use Rattle.std.specs.List.{AllByRecursion, filter_map}
 use Rattle.std.specs.Str.{bytes_eq}
 use Rattle.def_grammar.specs.Nets.{is_net}
 use Rattle.def_grammar.specs.Records as records
 use Rattle.def_grammar.specs.Records.{Record, component_of, entry, top}
-use Rattle.def_grammar.specs.Terminals.{Terminal, is_of_all}
+use Rattle.def_grammar.specs.Terminals.{Terminal, is_of_all, is_of_design}
 use Rattle.def_grammar.specs.Top.{units}
 use Rattle.lef_grammar.specs.Library.{Library}
 use Rattle.entry_rules.specs.Unknown.{component_named}
 use Rattle.connection_rules.specs.NetParts.{net_named}
+use Rattle.connection_rules.specs.Terminals.{design_pin_named, pins_naming}
 
--- a statement of what any net may be made of: UNITS, a via, a nondefault rule, or a pin of the design; or of where its wires may not run
+-- a statement of what any net may be made of: UNITS, a via, or a nondefault rule; or of where its wires may not run
 abbrev pub is_common : Record → Bool
 is_common (top (units n)) = true
-is_common (entry (records.pin p)) = true
 is_common (entry (records.blockage b)) = true
 is_common (entry (records.via v)) = true
 is_common (entry (records.rule r)) = true
@@ -41,16 +42,18 @@ terminals_of _ = []
 abbrev pub terminals_in : List Record → List ℕ → List Terminal
 terminals_in design name = flat_map terminals_of (filter (is_of_net name) design)
 
--- a terminal finds the same components in two designs: the one that it names, or all
+-- a terminal finds the same in two designs: the component that it names, all components, or the pin of the design that it names
 pub record FindsAlike (a b : List Record) (t : Terminal) : Type 0 where
   pub named : component_named a t.owner ≡ component_named b t.owner
   pub all : is_of_all t ≡ true → filter_map component_of a ≡ filter_map component_of b
+  pub pin : is_of_design t ≡ true → design_pin_named a t.pin ≡ design_pin_named b t.pin
 
 -- two designs agree on what tells a net
 pub record AgreeOnNet (a b : List Record) (name : List ℕ) : Type 0 where
   pub common : filter is_common a ≡ filter is_common b
   pub entries : filter (is_of_net name) a ≡ filter (is_of_net name) b
-  pub components : AllByRecursion (FindsAlike a b) (terminals_in a name)
+  pub found : AllByRecursion (FindsAlike a b) (terminals_in a name)
+  pub naming : pins_naming a name ≡ pins_naming b name
 
 -- Then the net is the same in both.
 abbrev pub NetsAreTold : Type 0

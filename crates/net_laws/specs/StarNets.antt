@@ -1,5 +1,5 @@
 -- A net of which one component is exchanged, as one that lists a pin of all components.
-use Rattle.std.specs.Prelude.{◌≡◌, ℕ, Bool, not, ◌||◌, List, [], ◌∷◌, ◌++◌, filter, Some}
+use Rattle.std.specs.Prelude.{◌≡◌, ℕ, Bool, not, ◌||◌, List, [], ◌∷◌, ◌++◌, filter}
 use Rattle.std.specs.List.{filter_map}
 use Rattle.std.specs.Str.{bytes_eq}
 use Rattle.def_grammar.specs.Components.{Component}
@@ -7,13 +7,15 @@ use Rattle.def_grammar.specs.Records as records
 use Rattle.def_grammar.specs.Records.{Record, component_of, entry}
 use Rattle.lef_grammar.specs.Library.{Library}
 use Rattle.connection_rules.specs.NetParts.{Net, Part, all_nets, net_named}
+use Rattle.connection_rules.specs.Terminals.{design_pins}
 use Rattle.design_rules.specs.Boxes.{scale}
 use Rattle.following_laws.specs.Following.{Exchange}
 use Rattle.net_laws.specs.NetsTold.{is_common, is_of_net, net_of_record}
 use Rattle.net_laws.specs.OneNet.{TellNet}
-use Rattle.net_laws.specs.Within.{AreWithin}
+use Rattle.net_laws.specs.Within.{AreWithin, one_component}
 
--- a statement tells what a component is to a net: it is the component, an entry of the net, or of what any net may be made of
+-- a statement tells what a component is to a net: it is the component, an entry of the net, or of what any net may be made of; no pin of
+-- the design does
 abbrev pub tells_of : List ℕ → List ℕ → Record → Bool
 tells_of net component (entry (records.component c)) = bytes_eq c.name component
 tells_of net component r = is_common r || is_of_net net r
@@ -22,7 +24,7 @@ tells_of net component r = is_common r || is_of_net net r
 abbrev pub pins_in : List Part → List Part
 pins_in parts = filter (λ (p : Part). p.is_pin) parts
 
--- the pins of a net by these statements alone: of components it has those of the one
+-- the pins of a net by these statements alone: those of the one component
 abbrev pub pins_by_one : Library → List Record → ℕ → List ℕ → List ℕ → List Part
 pins_by_one library design u net component = pins_in (net_named library (filter (tells_of net component) design) u net).parts
 
@@ -38,6 +40,7 @@ pub record AgreeBut (a b : List Record) (net component : List ℕ) : Type 0 wher
   pub common : filter is_common a ≡ filter is_common b
   pub entries : filter (is_of_net net) a ≡ filter (is_of_net net) b
   pub components : all_but component a ≡ all_but component b
+  pub pins : design_pins a ≡ design_pins b
 
 -- Then of the net's parts those pins are exchanged, and the others stay.
 pub record PinsAreExchanged (library : Library) (a b : List Record) (u : ℕ) (net component : List ℕ) : Type 0 where
@@ -50,7 +53,7 @@ OneComponentExchanged = (library : Library) (a b : List Record) (u : ℕ) (net c
 
 -- Designs agree so where statements of that component are exchanged, and others of which no net is made,
 abbrev pub OneExchangedAgree : Type 0
-OneExchangedAgree = (front out put behind : List Record) (component : List ℕ) → AreWithin [] (Some component) out → AreWithin [] (Some component) put
+OneExchangedAgree = (front out put behind : List Record) (component : List ℕ) → AreWithin [] (one_component component) out → AreWithin [] (one_component component) put
     → (net : List ℕ) → AgreeBut (front ++ (out ++ behind)) (front ++ (put ++ behind)) net component
 
 -- also after several such exchanges.
@@ -62,6 +65,7 @@ pub record TellOne (some design : List Record) (net component : List ℕ) : Type
   pub common : filter is_common some ≡ filter is_common design
   pub entries : filter (is_of_net net) some ≡ filter (is_of_net net) design
   pub components : filter_map component_of some ≡ those_named component design
+  pub pins : design_pins some ≡ []
   pub only : filter_map net_of_record some ≡ net ∷ []
 
 -- Then that net is their only one, in the same scale, and its pins are those by the component.
