@@ -17,11 +17,6 @@ abbrev pub is_own : List ℕ → Key → Bool
 is_own name (c ∷ p ∷ []) = bytes_eq c name
 is_own name _ = false
 
--- the words of a pin of any component
-abbrev pub is_paired : Key → Bool
-is_paired (c ∷ p ∷ []) = true
-is_paired _ = false
-
 module _ (library : Library) (u : ℕ) (name : List ℕ) where
   abbrev pub its : Component → Bool
   its c = bytes_eq c.name name
@@ -31,9 +26,6 @@ module _ (library : Library) (u : ℕ) (name : List ℕ) where
 
   abbrev pub not_own : NetPin → Bool
   not_own p = not (own p)
-
-  abbrev pub unpaired : NetPin → Bool
-  unpaired p = not (is_paired p.words)
 
   abbrev pub others : List Component → List Component
   others cs = filter (λ (c : Component). not (its c)) cs
@@ -79,15 +71,6 @@ module _ (library : Library) (u : ℕ) (name : List ℕ) where
         in_macro None = none (its c)
         in_macro (Some p) = refl
 
-    paired_found : (m : Option Macro) → filter unpaired (cons_option (m >>= λ (m : Macro). option_map (component_pin library u c m) (pin_named m pin)) left)
-        ≡ filter unpaired left
-    paired_found None = refl
-    paired_found (Some m) = in_macro (pin_named m pin)
-      where
-        in_macro : (p : Option lef.Pin) → filter unpaired (cons_option (option_map (component_pin library u c m) p) left) ≡ filter unpaired left
-        in_macro None = refl
-        in_macro (Some p) = refl
-
   -- a choice with the list of what is chosen
   chosen : {A B : Type 0} (select : A → Option B) (b : Bool) (a : A) (left : List A) → (if b then cons_option (select a) (filter_map select left) else filter_map select left) ≡ filter_map select (if b then a ∷ left else left)
   chosen select true a left = refl
@@ -108,18 +91,14 @@ module _ (library : Library) (u : ℕ) (name : List ℕ) where
       ∙ ap (λ (l : List NetPin). if not (its c) then cons_option (pin_in pin c) l else l) (others_of_all pin cs)
       ∙ chosen (pin_in pin) (not (its c)) c (others cs)
 
-  pub paired_of_all : (pin : List ℕ) (cs : List Component) → filter unpaired (filter_map (pin_in pin) cs) ≡ []
-  paired_of_all pin [] = refl
-  paired_of_all pin (c ∷ cs) = paired_found pin c (filter_map (pin_in pin) cs) (macro_named library c.cell) ∙ paired_of_all pin cs
-
   -- the pin of the component of a name
   abbrev pub named : List Component → List ℕ → Option Component
   named cs owner = find_named (λ (c : Component). c.name) cs owner
 
-  abbrev pub pin_of : Option Component → List ℕ → List NetPin
-  pin_of c pin = option_to_list (c >>= pin_in pin)
+  abbrev pub pins_of_one : Option Component → List ℕ → List NetPin
+  pins_of_one c pin = option_to_list (c >>= pin_in pin)
 
-  one_pin : (c : Component) (pin : List ℕ) → pin_of (Some c) pin ≡ cons_option (pin_in pin c) []
+  one_pin : (c : Component) (pin : List ℕ) → pins_of_one (Some c) pin ≡ cons_option (pin_in pin c) []
   one_pin c pin = one (pin_in pin c)
     where
       one : (p : Option NetPin) → option_to_list p ≡ cons_option p []
@@ -127,66 +106,62 @@ module _ (library : Library) (u : ℕ) (name : List ℕ) where
       one (Some p) = refl
 
   -- of another component the one has no pins
-  own_of_another : (c : Component) (pin : List ℕ) → its c ≡ false → filter own (pin_of (Some c) pin) ≡ []
+  own_of_another : (c : Component) (pin : List ℕ) → its c ≡ false → filter own (pins_of_one (Some c) pin) ≡ []
   own_of_another c pin h =
       ap (filter own) (one_pin c pin)
       ∙ own_found pin c [] (macro_named library c.cell)
       ∙ ap (λ (b : Bool). if b then cons_option (pin_in pin c) [] else []) h
 
-  others_of_it : (c : Component) (pin : List ℕ) → its c ≡ true → filter not_own (pin_of (Some c) pin) ≡ []
+  others_of_it : (c : Component) (pin : List ℕ) → its c ≡ true → filter not_own (pins_of_one (Some c) pin) ≡ []
   others_of_it c pin h =
       ap (filter not_own) (one_pin c pin)
       ∙ others_found pin c [] (macro_named library c.cell)
       ∙ ap (λ (b : Bool). if not b then cons_option (pin_in pin c) [] else []) h
 
-  pub paired_of_one : (pin : List ℕ) (c : Option Component) → filter unpaired (pin_of c pin) ≡ []
-  paired_of_one pin None = refl
-  paired_of_one pin (Some c) = ap (filter unpaired) (one_pin c pin) ∙ paired_found pin c [] (macro_named library c.cell)
-
   -- a component of a name has it
   its_by_owner : (c : Component) (owner : List ℕ) (b : Bool) → bytes_eq c.name owner ≡ true → bytes_eq owner name ≡ b → its c ≡ b
   its_by_owner c owner b h g = ap (λ (n : List ℕ). bytes_eq n name) ((bytes_eq-Decides c.name owner).0 h) ∙ g
 
-  own_elsewhere : (owner pin : List ℕ) (cs : List Component) → bytes_eq owner name ≡ false → filter own (pin_of (named cs owner) pin) ≡ []
+  own_elsewhere : (owner pin : List ℕ) (cs : List Component) → bytes_eq owner name ≡ false → filter own (pins_of_one (named cs owner) pin) ≡ []
   own_elsewhere owner pin [] h = refl
   own_elsewhere owner pin (c ∷ cs) h = one (bytes_eq c.name owner) refl (own_elsewhere owner pin cs h)
     where
-      one : (b : Bool) → bytes_eq c.name owner ≡ b → filter own (pin_of (named cs owner) pin) ≡ [] → filter own (pin_of (if b then Some c else named cs owner) pin) ≡ []
+      one : (b : Bool) → bytes_eq c.name owner ≡ b → filter own (pins_of_one (named cs owner) pin) ≡ [] → filter own (pins_of_one (if b then Some c else named cs owner) pin) ≡ []
       one true is later = own_of_another c pin (its_by_owner c owner false is h)
       one false is later = later
 
-  others_there : (owner pin : List ℕ) (cs : List Component) → bytes_eq owner name ≡ true → filter not_own (pin_of (named cs owner) pin) ≡ []
+  others_there : (owner pin : List ℕ) (cs : List Component) → bytes_eq owner name ≡ true → filter not_own (pins_of_one (named cs owner) pin) ≡ []
   others_there owner pin [] h = refl
   others_there owner pin (c ∷ cs) h = one (bytes_eq c.name owner) refl (others_there owner pin cs h)
     where
-      one : (b : Bool) → bytes_eq c.name owner ≡ b → filter not_own (pin_of (named cs owner) pin) ≡ []
-          → filter not_own (pin_of (if b then Some c else named cs owner) pin) ≡ []
+      one : (b : Bool) → bytes_eq c.name owner ≡ b → filter not_own (pins_of_one (named cs owner) pin) ≡ []
+          → filter not_own (pins_of_one (if b then Some c else named cs owner) pin) ≡ []
       one true is later = others_of_it c pin (its_by_owner c owner true is h)
       one false is later = later
 
-  pub own_of_named : (owner pin : List ℕ) (cs : List Component) → filter own (pin_of (named cs owner) pin) ≡ filter own (pin_of (named (filter its cs) owner) pin)
+  pub own_of_named : (owner pin : List ℕ) (cs : List Component) → filter own (pins_of_one (named cs owner) pin) ≡ filter own (pins_of_one (named (filter its cs) owner) pin)
   own_of_named owner pin [] = refl
   own_of_named owner pin (c ∷ cs) = one (bytes_eq c.name owner) (its c) refl refl (own_of_named owner pin cs)
     where
-      one : (b e : Bool) → bytes_eq c.name owner ≡ b → its c ≡ e → filter own (pin_of (named cs owner) pin) ≡ filter own (pin_of (named (filter its cs) owner) pin)
-          → filter own (pin_of (if b then Some c else named cs owner) pin) ≡ filter own (pin_of (named (if e then c ∷ filter its cs else filter its cs) owner) pin)
-      one true true is it later = ap (λ (b : Bool). filter own (pin_of (if b then Some c else named (filter its cs) owner) pin)) (sym is)
+      one : (b e : Bool) → bytes_eq c.name owner ≡ b → its c ≡ e → filter own (pins_of_one (named cs owner) pin) ≡ filter own (pins_of_one (named (filter its cs) owner) pin)
+          → filter own (pins_of_one (if b then Some c else named cs owner) pin) ≡ filter own (pins_of_one (named (if e then c ∷ filter its cs else filter its cs) owner) pin)
+      one true true is it later = ap (λ (b : Bool). filter own (pins_of_one (if b then Some c else named (filter its cs) owner) pin)) (sym is)
       one true false is it later =
           own_of_another c pin it
           ∙ sym (own_elsewhere owner pin (filter its cs) (sym (its_by_owner c owner (bytes_eq owner name) is refl) ∙ it))
-      one false true is it later = later ∙ ap (λ (b : Bool). filter own (pin_of (if b then Some c else named (filter its cs) owner) pin)) (sym is)
+      one false true is it later = later ∙ ap (λ (b : Bool). filter own (pins_of_one (if b then Some c else named (filter its cs) owner) pin)) (sym is)
       one false false is it later = later
 
   pub others_of_named : (owner pin : List ℕ) (cs : List Component)
-      → filter not_own (pin_of (named cs owner) pin) ≡ filter not_own (pin_of (named (others cs) owner) pin)
+      → filter not_own (pins_of_one (named cs owner) pin) ≡ filter not_own (pins_of_one (named (others cs) owner) pin)
   others_of_named owner pin [] = refl
   others_of_named owner pin (c ∷ cs) = one (bytes_eq c.name owner) (its c) refl refl (others_of_named owner pin cs)
     where
-      one : (b e : Bool) → bytes_eq c.name owner ≡ b → its c ≡ e → filter not_own (pin_of (named cs owner) pin) ≡ filter not_own (pin_of (named (others cs) owner) pin)
-          → filter not_own (pin_of (if b then Some c else named cs owner) pin) ≡ filter not_own (pin_of (named (if not e then c ∷ others cs else others cs) owner) pin)
-      one true false is it later = ap (λ (b : Bool). filter not_own (pin_of (if b then Some c else named (others cs) owner) pin)) (sym is)
+      one : (b e : Bool) → bytes_eq c.name owner ≡ b → its c ≡ e → filter not_own (pins_of_one (named cs owner) pin) ≡ filter not_own (pins_of_one (named (others cs) owner) pin)
+          → filter not_own (pins_of_one (if b then Some c else named cs owner) pin) ≡ filter not_own (pins_of_one (named (if not e then c ∷ others cs else others cs) owner) pin)
+      one true false is it later = ap (λ (b : Bool). filter not_own (pins_of_one (if b then Some c else named (others cs) owner) pin)) (sym is)
       one true true is it later =
           others_of_it c pin it
           ∙ sym (others_there owner pin (others cs) (sym (its_by_owner c owner (bytes_eq owner name) is refl) ∙ it))
-      one false false is it later = later ∙ ap (λ (b : Bool). filter not_own (pin_of (if b then Some c else named (others cs) owner) pin)) (sym is)
+      one false false is it later = later ∙ ap (λ (b : Bool). filter not_own (pins_of_one (if b then Some c else named (others cs) owner) pin)) (sym is)
       one false true is it later = later

@@ -33,15 +33,16 @@ touched_apart front out put behind test goes comes = record {
 module _ (a b c : List Record) where
   find_on : (ts : List Terminal) → AllByRecursion (FindsAlike a b) ts → AllByRecursion (FindsAlike b c) ts → AllByRecursion (FindsAlike a c) ts
   find_on [] g h = tt
-  find_on (t ∷ ts) g h = (record { named = g.0.named ∙ h.0.named; all = λ star. g.0.all star ∙ h.0.all star }, find_on ts g.1 h.1)
+  find_on (t ∷ ts) g h = (record { named = g.0.named ∙ h.0.named; all = λ star. g.0.all star ∙ h.0.all star; pin = λ is. g.0.pin is ∙ h.0.pin is }, find_on ts g.1 h.1)
 
   agree_on : (net : List ℕ) → AgreeOnNet a b net → AgreeOnNet b c net → AgreeOnNet a c net
   agree_on net g h = record {
     common = g.common ∙ h.common;
     entries = g.entries ∙ h.entries;
-    components =
-        find_on (flat_map terminals_of (filter (is_of_net net) a)) g.components
-        (subst (λ (es : List Record). AllByRecursion (FindsAlike b c) (flat_map terminals_of es)) (sym g.entries) h.components);
+    found =
+        find_on (flat_map terminals_of (filter (is_of_net net) a)) g.found
+        (subst (λ (es : List Record). AllByRecursion (FindsAlike b c) (flat_map terminals_of es)) (sym g.entries) h.found);
+    naming = g.naming ∙ h.naming;
   }
 
 pub apart_on : ApartOnAndOn

@@ -1,13 +1,15 @@
--- A net of one entry is told by that, by all components, and by what any net may be made of.
+-- A net of one entry is told by that, by all components and all pins of the design, and by what any net may be made of.
 use Rattle.std.proofs.Common.{◌≡◌, ◌∙◌, ℕ, Bool, true, false, ◌||◌, List, [], ◌∷◌, filter, Option, Some, None, refl, sym, ap, if◌then◌else◌}
 use Rattle.std.specs.List.{AllByRecursion, cons_option, filter_map}
 use Rattle.std.proofs.lemmas.Slice.Eq.{bytes_eq-Decides}
 use Rattle.form_meanings.specs.Firsts.{find_named}
 use Rattle.def_grammar.specs.Components.{Component}
 use Rattle.def_grammar.specs.Nets.{is_net, must_join}
+use Rattle.def_grammar.specs.Pins.{Pin}
 use Rattle.def_grammar.specs.Records as records
 use Rattle.def_grammar.specs.Records.{Record, component_of, end_section, entry, in_properties, top}
 use Rattle.def_grammar.specs.Terminals.{Terminal}
+use Rattle.connection_rules.specs.Terminals.{design_pins, names_net, pin_of}
 use Rattle.net_laws.specs.NetsTold.{FindsAlike, is_common, is_of_net, net_of_record, terminals_in}
 use Rattle.net_laws.specs.StarNets.{OneEntryTells}
 use Rattle.net_laws.proofs.Selecting.{selected_of_those}
@@ -16,6 +18,7 @@ use Rattle.net_laws.proofs.StarNets.{within}
 module _ (net : List ℕ) where
   tells_all : Record → Bool
   tells_all (entry (records.component c)) = true
+  tells_all (entry (records.pin p)) = true
   tells_all r = is_common r || is_of_net net r
 
   or_true : (b : Bool) → (b || true) ≡ true
@@ -69,6 +72,11 @@ module _ (net : List ℕ) where
   no_component (entry (records.via x)) h = refl
   no_component (entry (records.rule x)) h = refl
   no_component (entry (records.skipped s x)) h = refl
+
+  no_pin : (r : Record) → tells_all r ≡ false → pin_of r ≡ None
+  unfolding tells_all
+  no_pin (entry (records.pin x)) h = absurd (cc)
+  no_pin _ h = refl
 
   -- the nets among them are that one
   kept_so : (t p : Bool) (r : Record) (left those : List Record) → (t ≡ true → p ≡ false → net_of_record r ≡ None) → (p ≡ true → t ≡ true)
@@ -124,21 +132,30 @@ module _ (net : List ℕ) where
       one true is g later = let same : r ≡ e = cc in ap (is_of_net net) (sym same) ∙ is
       one false is g later = later g
 
-  found_alike : (some design : List Record) → filter_map component_of some ≡ filter_map component_of design → (ts : List Terminal) → AllByRecursion (FindsAlike some design) ts
-  found_alike some design same [] = tt
-  found_alike some design same (t ∷ ts) =
-      (record { named = ap (λ (cs : List Component). find_named (λ (c : Component). c.name) cs t.owner) same; all = λ star. same }, found_alike some design same ts)
+  found_alike : (some design : List Record) → filter_map component_of some ≡ filter_map component_of design → design_pins some ≡ design_pins design → (ts : List Terminal)
+      → AllByRecursion (FindsAlike some design) ts
+  found_alike some design same alike [] = tt
+  found_alike some design same alike (t ∷ ts) = (
+    record {
+      named = ap (λ (cs : List Component). find_named (λ (c : Component). c.name) cs t.owner) same;
+      all = λ star. same;
+      pin = λ is. ap (λ (ps : List Pin). find_named (λ (p : Pin). p.name) ps t.pin) alike;
+    },
+    found_alike some design same alike ts,
+  )
 
 pub one_entry_tells : OneEntryTells
 one_entry_tells design net e one =
     let some = filter (tells_all net) design in
-    let components = selected_of_those (tells_all net) component_of (no_component net) design in (
+    let components = selected_of_those (tells_all net) component_of (no_component net) design in
+    let pins = selected_of_those (tells_all net) pin_of (no_pin net) design in (
       some,
       record {
         agree = record {
           common = within is_common (tells_all net) (common_told net) design;
           entries = within (is_of_net net) (tells_all net) (net_told net) design;
-          components = found_alike net some design components (terminals_in some net);
+          found = found_alike net some design components pins (terminals_in some net);
+          naming = ap (filter (names_net net)) pins;
         };
         only = its_names net design ∙ ap (filter_map net_of_record) one ∙ ap (λ (n : Option (List ℕ)). cons_option n []) (named_so net e (first_passes net design e [] one));
       },

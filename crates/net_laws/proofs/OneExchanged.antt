@@ -1,17 +1,18 @@
 -- Statements of one component are exchanged.
-use Rattle.std.proofs.Common.{◌≡◌, ◌∙◌, ℕ, Bool, true, false, ◌||◌, not, List, [], ◌∷◌, ◌++◌, filter, Some, refl, sym, ap, if◌then◌else◌}
+use Rattle.std.proofs.Common.{◌≡◌, ◌∙◌, ℕ, Bool, true, false, ◌||◌, not, List, [], ◌∷◌, ◌++◌, filter, Option, None, refl, sym, ap, ap₂, if◌then◌else◌}
 use Rattle.std.specs.List.{cons_option, filter_map, list_any}
 use Rattle.std.specs.Str.{bytes_eq}
-use Rattle.std.proofs.lemmas.List.Elements.{filter-append, filter_map-append}
 use Rattle.std.proofs.lemmas.Slice.Eq.{bytes_eq-Decides}
 use Rattle.def_grammar.specs.Components.{Component}
 use Rattle.def_grammar.specs.Nets.{is_net, must_join}
+use Rattle.def_grammar.specs.Pins.{Pin}
 use Rattle.def_grammar.specs.Records as records
 use Rattle.def_grammar.specs.Records.{Record, component_of, end_section, entry, in_properties, top}
+use Rattle.connection_rules.specs.Terminals.{design_pins, pin_of}
 use Rattle.net_laws.specs.NetsTold.{is_common, is_of_net}
 use Rattle.net_laws.specs.StarNets.{AgreeOnAndOn, OneExchangedAgree, all_but}
-use Rattle.net_laws.specs.Within.{AreWithin, is_within}
-use Rattle.net_laws.proofs.Selecting.{exchanged_alike, none_of_both}
+use Rattle.net_laws.specs.Within.{AreWithin, is_within, one_component}
+use Rattle.net_laws.proofs.Selecting.{exchanged_alike, none_of_both, selected_exchanged, selected_parts}
 use Rattle.net_laws.proofs.Within.{none_common}
 
 turned : (x y : List ℕ) → bytes_eq y x ≡ bytes_eq x y
@@ -25,7 +26,7 @@ turned x y = one (bytes_eq x y) (bytes_eq y x) refl refl
 
 module _ (name : List ℕ) where
   abbrev inside : Record → Bool
-  inside r = is_within [] (Some name) r
+  inside r = is_within [] (one_component name) r
 
   -- no entry of a net is among them
   no_net : (net : List ℕ) (r : Record) → not (inside r) ≡ false → is_of_net net r ≡ false
@@ -44,7 +45,7 @@ module _ (name : List ℕ) where
   no_net net (entry (records.rule x)) h = refl
   no_net net (entry (records.skipped s x)) h = refl
 
-  no_nets : (net : List ℕ) (some : List Record) → AreWithin [] (Some name) some → list_any (is_of_net net) some ≡ false
+  no_nets : (net : List ℕ) (some : List Record) → AreWithin [] (one_component name) some → list_any (is_of_net net) some ≡ false
   no_nets net [] all = refl
   no_nets net (r ∷ some) all =
       let both = none_of_both (not (inside r)) (list_any (λ (x : Record). not (inside x)) some) all in
@@ -73,26 +74,33 @@ module _ (name : List ℕ) where
   one_more (entry (records.rule x)) left h none = none
   one_more (entry (records.skipped s x)) left h none = none
 
-  none_but : (some : List Record) → AreWithin [] (Some name) some → all_but name some ≡ []
+  none_but : (some : List Record) → AreWithin [] (one_component name) some → all_but name some ≡ []
   none_but [] all = refl
   none_but (r ∷ some) all =
       let both = none_of_both (not (inside r)) (list_any (λ (x : Record). not (inside x)) some) all in
       one_more r (filter_map component_of some) both.0 (none_but some both.1)
 
-  others-append : (xs ys : List Record) → all_but name (xs ++ ys) ≡ all_but name xs ++ all_but name ys
-  others-append xs ys = ap (filter another) (filter_map-append component_of xs ys) ∙ filter-append another (filter_map component_of xs) (filter_map component_of ys)
+  -- nor is a pin of the design
+  no_pin : (r : Record) → not (inside r) ≡ false → pin_of r ≡ None
+  no_pin (entry (records.pin x)) h = absurd (cc)
+  no_pin _ h = refl
 
-  others_around : (front some behind : List Record) → AreWithin [] (Some name) some → all_but name (front ++ (some ++ behind)) ≡ all_but name front ++ all_but name behind
-  others_around front some behind all =
-      others-append front (some ++ behind)
-      ∙ ap (λ (l : List Component). all_but name front ++ l) (others-append some behind ∙ ap (λ (l : List Component). l ++ all_but name behind) (none_but some all))
+  no_pins : (some : List Record) → AreWithin [] (one_component name) some → design_pins some ≡ []
+  no_pins [] all = refl
+  no_pins (r ∷ some) all =
+      let both = none_of_both (not (inside r)) (list_any (λ (x : Record). not (inside x)) some) all in
+      ap₂ (λ (o : Option Pin) (ps : List Pin). cons_option o ps) (no_pin r both.0) (no_pins some both.1)
+
+  pins_around : (front some behind : List Record) → AreWithin [] (one_component name) some → design_pins (front ++ (some ++ behind)) ≡ design_pins front ++ design_pins behind
+  pins_around front some behind all = selected_parts pin_of front some behind ∙ ap (λ (ps : List Pin). design_pins front ++ (ps ++ design_pins behind)) (no_pins some all)
 
 pub one_exchanged_agree : OneExchangedAgree
 one_exchanged_agree front out put behind name goes comes net = record {
-  common = exchanged_alike is_common front out put behind (none_common [] (Some name) out goes) (none_common [] (Some name) put comes);
+  common = exchanged_alike is_common front out put behind (none_common [] (one_component name) out goes) (none_common [] (one_component name) put comes);
   entries = exchanged_alike (is_of_net net) front out put behind (no_nets name net out goes) (no_nets name net put comes);
-  components = others_around name front out behind goes ∙ sym (others_around name front put behind comes);
+  components = selected_exchanged component_of (λ (c : Component). not (bytes_eq c.name name)) front out put behind (none_but name out goes) (none_but name put comes);
+  pins = pins_around name front out behind goes ∙ sym (pins_around name front put behind comes);
 }
 
 pub agree_on_and_on : AgreeOnAndOn
-agree_on_and_on a b c net name f g = record { common = f.common ∙ g.common; entries = f.entries ∙ g.entries; components = f.components ∙ g.components }
+agree_on_and_on a b c net name f g = record { common = f.common ∙ g.common; entries = f.entries ∙ g.entries; components = f.components ∙ g.components; pins = f.pins ∙ g.pins }

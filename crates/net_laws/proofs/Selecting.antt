@@ -2,7 +2,7 @@
 use Rattle.std.proofs.Common.{◌≡◌, Bool, true, false, ◌||◌, List, [], ◌∷◌, ◌++◌, filter, Option, None, refl, sym, ap, ◌∙◌, if◌then◌else◌}
 use Rattle.std.specs.Prelude.{flat_map}
 use Rattle.std.specs.List.{cons_option, filter_map, list_any}
-use Rattle.std.proofs.lemmas.List.Elements.{filter-append}
+use Rattle.std.proofs.lemmas.List.Elements.{filter-append, filter_map-append}
 
 -- what is selected of those that say something is selected of all
 module _ {A B : Type 0} (says : A → Bool) (select : A → Option B) where
@@ -60,3 +60,25 @@ module _ {A : Type 0} (test : A → Bool) where
   pub exchanged_alike : (front out put behind : List A) → list_any test out ≡ false → list_any test put ≡ false
       → filter test (front ++ (out ++ behind)) ≡ filter test (front ++ (put ++ behind))
   exchanged_alike front out put behind g h = passes_around front out behind g ∙ sym (passes_around front put behind h)
+
+-- what is selected of some and of those around them
+pub selected_parts : {A B : Type 0} (select : A → Option B) (front some behind : List A)
+    → filter_map select (front ++ (some ++ behind)) ≡ filter_map select front ++ (filter_map select some ++ filter_map select behind)
+selected_parts {B = B} select front some behind =
+    filter_map-append select front (some ++ behind) ∙ ap (λ (l : List B). filter_map select front ++ l) (filter_map-append select some behind)
+
+-- where nothing that is selected of some passes a test, what passes is of those around them
+module _ {A B : Type 0} (select : A → Option B) (test : B → Bool) where
+  abbrev selected : List A → List B
+  selected all = filter test (filter_map select all)
+
+  selected-append : (xs ys : List A) → selected (xs ++ ys) ≡ selected xs ++ selected ys
+  selected-append xs ys = ap (filter test) (filter_map-append select xs ys) ∙ filter-append test (filter_map select xs) (filter_map select ys)
+
+  pub selected_around : (front some behind : List A) → selected some ≡ [] → selected (front ++ (some ++ behind)) ≡ selected front ++ selected behind
+  selected_around front some behind none =
+      selected-append front (some ++ behind)
+      ∙ ap (λ (l : List B). selected front ++ l) (selected-append some behind ∙ ap (λ (l : List B). l ++ selected behind) none)
+
+  pub selected_exchanged : (front out put behind : List A) → selected out ≡ [] → selected put ≡ [] → selected (front ++ (out ++ behind)) ≡ selected (front ++ (put ++ behind))
+  selected_exchanged front out put behind g h = selected_around front out behind g ∙ sym (selected_around front put behind h)

@@ -19,14 +19,14 @@ use Rattle.wire_rules.specs.ViaShapes.{NamedShape}
 use Rattle.design_rules.specs.Boxes.{scale}
 use Rattle.line_laws.specs.Lines.{SameThings}
 use Rattle.connection_rules.specs.NetParts.{Part, Wired, all_wired, drawn, drawn_part, drawn_parts, has_shapes, is_named, net_named, pin_part}
-use Rattle.connection_rules.specs.Terminals.{NetPin, PinsByName, design_pin, design_pins, each_once, names_net, pins_by_name, pins_of}
+use Rattle.connection_rules.specs.Terminals.{NetPin, PinsByName, design_pin, design_pins, each_once, names_net, pin_of, pins_by_name, pins_of}
 use Rattle.net_laws.specs.NetsTold.{FindsAlike, is_common, is_of_net, terminals_in}
 use Rattle.net_laws.specs.OneNet.{TellNet}
 use Rattle.net_laws.specs.StarNets.{OneComponentExchanged, OneComponentIsTold, pins_by_one, pins_in, tells_of, those_named}
-use Rattle.net_laws.proofs.ComponentPins.{is_own, is_paired, its, named, not_own, others, others_of_all, others_of_named, own, own_of_all, own_of_named, paired_of_all, paired_of_one, pin_in, pin_of, unpaired}
+use Rattle.net_laws.proofs.ComponentPins.{is_own, its, named, not_own, others, others_of_all, others_of_named, own, own_of_all, own_of_named, pin_in, pins_of_one}
 use Rattle.net_laws.proofs.OneNet.{same_scale, told}
 use Rattle.net_laws.proofs.PinsOnce.{counted, counted_parts, parted}
-use Rattle.net_laws.proofs.ToldNets.{named_wired_same, same_design, same_naming}
+use Rattle.net_laws.proofs.ToldNets.{named_wired_same, same_pin}
 
 -- lists of which elements are left out twice
 module _ {A : Type 0} where
@@ -46,16 +46,13 @@ module _ {A : Type 0} where
       one true is left later = ap (λ (b : Bool). if not b then a ∷ filter (λ a. not (test a)) left else filter (λ a. not (test a)) left) is ∙ later
       one false is left later = later
 
-  both_ways : (p q : A → Bool) (all : List A) → filter p (filter q all) ≡ filter q (filter p all)
-  both_ways p q [] = refl
-  both_ways p q (a ∷ all) = one (p a) (q a) refl refl (filter q all) (filter p all) (both_ways p q all)
+  none_kept : {B : Type 0} (test : A → Bool) (select : A → Option B) → ((a : A) → test a ≡ true → select a ≡ None) → (all : List A) → filter_map select (filter test all) ≡ []
+  none_kept test select none [] = refl
+  none_kept {B = B} test select none (a ∷ all) = one (test a) refl (filter test all) (none_kept test select none all)
     where
-      one : (b c : Bool) → p a ≡ b → q a ≡ c → (xs ys : List A) → filter p xs ≡ filter q ys → filter p (if c then a ∷ xs else xs) ≡ filter q (if b then a ∷ ys else ys)
-      one true true h g xs ys later =
-          ap (λ (b : Bool). if b then a ∷ filter p xs else filter p xs) h ∙ ap (λ (l : List A). a ∷ l) later ∙ ap (λ (b : Bool). if b then a ∷ filter q ys else filter q ys) (sym g)
-      one true false h g xs ys later = later ∙ ap (λ (b : Bool). if b then a ∷ filter q ys else filter q ys) (sym g)
-      one false true h g xs ys later = ap (λ (b : Bool). if b then a ∷ filter p xs else filter p xs) h ∙ later
-      one false false h g xs ys later = later
+      one : (b : Bool) → test a ≡ b → (left : List A) → filter_map select left ≡ [] → filter_map select (if b then a ∷ left else left) ≡ []
+      one true is left later = ap (λ (o : Option B). cons_option o (filter_map select left)) (none a is) ∙ later
+      one false is left later = later
 
   pub within : (p t : A → Bool) → ((a : A) → p a ≡ true → t a ≡ true) → (all : List A) → filter p (filter t all) ≡ filter p all
   within p t follows [] = refl
@@ -91,20 +88,23 @@ kinds_alike f false false true x x' y y' z z' g h i = h
 kinds_alike f false false false x x' y y' z z' g h i = i
 
 module _ (library : Library) (design : List Record) (u : ℕ) (net name : List ℕ) (ts : List Terminal) where
-  abbrev by_design : PinsByName
-  by_design = pins_by_name library design u
+  abbrev pub of_name : List Pin → List ℕ → List NetPin
+  of_name ps pin = option_to_list (option_map (design_pin library design u) (find_named (λ (p : Pin). p.name) ps pin))
 
-  -- with other components
-  abbrev among : List Component → PinsByName
-  among cs = record {
+  abbrev pub of_net : List Pin → List NetPin
+  of_net ps = map (design_pin library design u) (filter (names_net net) ps)
+
+  -- with other pins of the design, and other components
+  abbrev among : List Pin → List Component → PinsByName
+  among ps cs = record {
     of_all = λ pin. filter_map (pin_in library u name pin) cs;
-    of_component = λ owner pin. pin_of library u name (named library u name cs owner) pin;
-    of_design = by_design.of_design;
-    naming = by_design.naming;
+    of_component = λ owner pin. pins_of_one library u name (named library u name cs owner) pin;
+    of_design = of_name ps;
+    naming = λ other. map (design_pin library design u) (filter (names_net other) ps);
   }
 
-  abbrev listed : List Component → List NetPin
-  listed cs = flat_map (pins_of (among cs)) ts ++ by_design.naming net
+  abbrev listed : List Pin → List Component → List NetPin
+  listed ps cs = flat_map (pins_of (among ps cs)) ts ++ of_net ps
 
   abbrev ours : NetPin → Bool
   ours = own library u name
@@ -112,86 +112,70 @@ module _ (library : Library) (design : List Record) (u : ℕ) (net name : List �
   abbrev theirs : NetPin → Bool
   theirs = not_own library u name
 
-  abbrev single : NetPin → Bool
-  single = unpaired library u name
-
-  abbrev double : NetPin → Bool
-  double p = is_paired p.words
-
   abbrev the_one : List Component → List Component
   the_one cs = filter (its library u name) cs
 
   abbrev rest : List Component → List Component
   rest cs = others library u name cs
 
-  of_terminals : (test : NetPin → Bool) (cs ds : List Component) → ((t : Terminal) → filter test (pins_of (among cs) t) ≡ filter test (pins_of (among ds) t))
-      → filter test (listed cs) ≡ filter test (listed ds)
-  of_terminals test cs ds same =
-      filter-append test (flat_map (pins_of (among cs)) ts) (by_design.naming net)
-      ∙ ap (λ (l : List NetPin). l ++ filter test (by_design.naming net)) (flat_alike test (pins_of (among cs)) (pins_of (among ds)) same ts)
-      ∙ sym (filter-append test (flat_map (pins_of (among ds)) ts) (by_design.naming net))
+  of_terminals : (test : NetPin → Bool) (ps qs : List Pin) (cs ds : List Component)
+      → ((t : Terminal) → filter test (pins_of (among ps cs) t) ≡ filter test (pins_of (among qs ds) t)) → filter test (of_net ps) ≡ filter test (of_net qs)
+      → filter test (listed ps cs) ≡ filter test (listed qs ds)
+  of_terminals test ps qs cs ds same alike =
+      filter-append test (flat_map (pins_of (among ps cs)) ts) (of_net ps)
+      ∙ ap₂ (λ (xs ys : List NetPin). xs ++ ys) (flat_alike test (pins_of (among ps cs)) (pins_of (among qs ds)) same ts) alike
+      ∙ sym (filter-append test (flat_map (pins_of (among qs ds)) ts) (of_net qs))
 
-  pub ours_listed : (cs : List Component) → filter ours (listed cs) ≡ filter ours (listed (the_one cs))
-  ours_listed cs = of_terminals ours cs (the_one cs) (λ t.
+  -- no pin of the design is one of a component
+  not_ours : (p : Option Pin) → filter ours (option_to_list (option_map (design_pin library design u) p)) ≡ []
+  not_ours None = refl
+  not_ours (Some p) = refl
+
+  none_ours : (ps : List Pin) → filter ours (map (design_pin library design u) ps) ≡ []
+  none_ours [] = refl
+  none_ours (p ∷ ps) = none_ours ps
+
+  pub ours_listed : (ps : List Pin) (cs : List Component) → filter ours (listed ps cs) ≡ filter ours (listed [] (the_one cs))
+  ours_listed ps cs = of_terminals ours ps [] cs (the_one cs) (λ t.
       kinds_alike (filter ours) (is_virtual t) (is_of_all t) (is_of_design t)
       (filter_map (pin_in library u name t.pin) cs) (filter_map (pin_in library u name t.pin) (the_one cs))
-      (by_design.of_design t.pin) (by_design.of_design t.pin)
-      (pin_of library u name (named library u name cs t.owner) t.pin) (pin_of library u name (named library u name (the_one cs) t.owner) t.pin)
+      (of_name ps t.pin) []
+      (pins_of_one library u name (named library u name cs t.owner) t.pin) (pins_of_one library u name (named library u name (the_one cs) t.owner) t.pin)
       (own_of_all library u name t.pin cs ∙ ap (filter_map (pin_in library u name t.pin)) (sym (kept_twice (its library u name) cs)) ∙ sym (own_of_all library u name t.pin (the_one cs)))
-      refl
+      (not_ours (find_named (λ (p : Pin). p.name) ps t.pin))
       (own_of_named library u name t.owner t.pin cs))
+      (none_ours (filter (names_net net) ps))
 
-  pub theirs_listed : (cs : List Component) → filter theirs (listed cs) ≡ filter theirs (listed (rest cs))
-  theirs_listed cs = of_terminals theirs cs (rest cs) (λ t.
+  pub theirs_listed : (ps : List Pin) (cs : List Component) → filter theirs (listed ps cs) ≡ filter theirs (listed ps (rest cs))
+  theirs_listed ps cs = of_terminals theirs ps ps cs (rest cs) (λ t.
       kinds_alike (filter theirs) (is_virtual t) (is_of_all t) (is_of_design t)
       (filter_map (pin_in library u name t.pin) cs) (filter_map (pin_in library u name t.pin) (rest cs))
-      (by_design.of_design t.pin) (by_design.of_design t.pin)
-      (pin_of library u name (named library u name cs t.owner) t.pin) (pin_of library u name (named library u name (rest cs) t.owner) t.pin)
+      (of_name ps t.pin) (of_name ps t.pin)
+      (pins_of_one library u name (named library u name cs t.owner) t.pin) (pins_of_one library u name (named library u name (rest cs) t.owner) t.pin)
       (others_of_all library u name t.pin cs
       ∙ ap (filter_map (pin_in library u name t.pin)) (sym (kept_twice (λ (c : Component). not (its library u name c)) cs))
       ∙ sym (others_of_all library u name t.pin (rest cs)))
       refl
       (others_of_named library u name t.owner t.pin cs))
-
-  pub single_listed : (cs : List Component) → filter single (listed cs) ≡ filter single (listed [])
-  single_listed cs = of_terminals single cs [] (λ t.
-      kinds_alike (filter single) (is_virtual t) (is_of_all t) (is_of_design t)
-      (filter_map (pin_in library u name t.pin) cs) []
-      (by_design.of_design t.pin) (by_design.of_design t.pin)
-      (pin_of library u name (named library u name cs t.owner) t.pin) []
-      (paired_of_all library u name t.pin cs)
       refl
-      (paired_of_one library u name t.pin (named library u name cs t.owner)))
 
-  no_double : (p : Option Pin) → filter double (option_to_list (option_map (design_pin library design u) p)) ≡ []
-  no_double None = refl
-  no_double (Some p) = refl
-
-  no_doubles : (ps : List Pin) → filter double (map (design_pin library design u) ps) ≡ []
-  no_doubles [] = refl
-  no_doubles (p ∷ ps) = no_doubles ps
-
-  pub double_listed : filter double (listed []) ≡ []
-  double_listed =
-      filter-append double (flat_map (pins_of (among [])) ts) (by_design.naming net)
-      ∙ ap₂ (λ (xs ys : List NetPin). xs ++ ys)
-      (none_flat double (pins_of (among [])) (λ t.
-      kinds_alike (filter double) (is_virtual t) (is_of_all t) (is_of_design t) [] [] (by_design.of_design t.pin) [] [] []
-      refl
-      (no_double (find_named (λ (p : Pin). p.name) (design_pins library design u) t.pin))
-      refl
-      ∙ nothing (is_virtual t) (is_of_all t) (is_of_design t)) ts)
-      (no_doubles (filter (names_net library design u net) (design_pins library design u)))
+  -- where the one is the only component, and there is no pin of the design, there are no others
+  no_theirs : (cs : List Component) → filter theirs (listed [] (the_one cs)) ≡ []
+  no_theirs cs =
+      theirs_listed [] (the_one cs)
+      ∙ ap (λ (ds : List Component). filter theirs (listed [] ds)) (none_of_those (its library u name) cs)
+      ∙ filter-append theirs (flat_map (pins_of (among [] [])) ts) []
+      ∙ ap (λ (l : List NetPin). l ++ []) (none_flat theirs (pins_of (among [] [])) (λ t. nothing (is_virtual t) (is_of_all t) (is_of_design t)) ts)
     where
-      nothing : (v a d : Bool) → filter double (if v then [] else (if a then [] else (if d then [] else []))) ≡ []
+      nothing : (v a d : Bool) → filter theirs (if v then [] else (if a then [] else (if d then [] else []))) ≡ []
       nothing true a d = refl
       nothing false true d = refl
       nothing false false true = refl
       nothing false false false = refl
 
-  -- the pins of other components
-  abbrev pub rest_pins : List Component → List NetPin
-  rest_pins cs = each_once [] (filter double (filter theirs (listed cs)))
+  -- the pins of other components and of the design
+  abbrev pub rest_pins : List Pin → List Component → List NetPin
+  rest_pins ps cs = each_once [] (filter theirs (listed ps cs))
 
   module _ (w : NetPin → ℕ) where
     abbrev sum_of : List NetPin → ℕ
@@ -201,22 +185,12 @@ module _ (library : Library) (design : List Record) (u : ℕ) (net name : List �
     unfolding Rattle.connection_rules.specs.Terminals.each_once
     no_pins = refl
 
-    in_three : (cs : List Component) → sum_of (listed cs) ≡ sum_of (filter ours (listed cs)) + (sum_by w (rest_pins cs) + sum_of (filter theirs (filter single (listed []))))
-    in_three cs =
-        let halves = parted (is_own name) w [] (listed cs) in
-        let quarters = parted is_paired w [] (filter theirs (listed cs)) in
-        let alone = ap sum_of (both_ways single theirs (listed cs) ∙ ap (filter theirs) (single_listed cs)) in
-        omega (arith, halves, quarters, alone)
-
-    pub rest_beside : (cs : List Component) → sum_of (listed cs) ≡ sum_of (listed (the_one cs)) + sum_by w (rest_pins cs)
-    rest_beside cs =
-        let all = in_three cs in
-        let few = in_three (the_one cs) in
-        let same = ap sum_of (ours_listed cs) in
-        let none = ap sum_of (
-        ap (filter double) (theirs_listed (the_one cs) ∙ ap (λ (ds : List Component). filter theirs (listed ds)) (none_of_those (its library u name) cs))
-        ∙ both_ways double theirs (listed [])
-        ∙ ap (filter theirs) double_listed) in
+    pub rest_beside : (ps : List Pin) (cs : List Component) → sum_of (listed ps cs) ≡ sum_of (listed [] (the_one cs)) + sum_by w (rest_pins ps cs)
+    rest_beside ps cs =
+        let all = parted (is_own name) w [] (listed ps cs) in
+        let few = parted (is_own name) w [] (listed [] (the_one cs)) in
+        let same = ap sum_of (ours_listed ps cs) in
+        let none = ap sum_of (no_theirs cs) in
         omega (arith, all, few, same, none, no_pins)
 
 -- statements that tell what a component is to a net
@@ -230,7 +204,7 @@ module _ (net name : List ℕ) where
   common_tells (in_properties p) h = ap (λ (b : Bool). b || is_of_net net (in_properties p)) h
   common_tells (end_section s) h = ap (λ (b : Bool). b || is_of_net net (end_section s)) h
   common_tells (entry (records.component x)) h = absurd (cc)
-  common_tells (entry (records.pin x)) h = refl
+  common_tells (entry (records.pin x)) h = absurd (cc)
   common_tells (entry (records.region x)) h = absurd (cc)
   common_tells (entry (records.group x)) h = absurd (cc)
   common_tells (entry (records.blockage x)) h = refl
@@ -282,7 +256,15 @@ module _ (net name : List ℕ) where
   components_told (entry (records.rule x) ∷ all) = components_told all
   components_told (entry (records.skipped s x) ∷ all) = components_told all
 
--- the net of a design that agrees with another on all but components
+  -- and no pin of the design
+  no_pin : (r : Record) → tells_of net name r ≡ true → pin_of r ≡ None
+  no_pin (entry (records.pin x)) h = absurd (cc)
+  no_pin _ h = refl
+
+  no_pins_told : (all : List Record) → design_pins (filter (tells_of net name) all) ≡ []
+  no_pins_told all = none_kept (tells_of net name) pin_of no_pin all
+
+-- the net of a design that agrees with another on all but components and pins of the design
 module _ (library : Library) (a : List Record) (u : ℕ) (net name : List ℕ) where
   abbrev wired : List Record → List Wired
   wired design = filter (is_named library design u net) (all_wired library design u)
@@ -290,8 +272,8 @@ module _ (library : Library) (a : List Record) (u : ℕ) (net name : List ℕ) w
   abbrev terminals : List Wired → List Terminal
   terminals ws = flat_map (λ (w : Wired). w.terminals) ws
 
-  abbrev pins_with : List Component → List NetPin
-  pins_with cs = listed library a u net name (terminals (wired a)) cs
+  abbrev pins_with : List Pin → List Component → List NetPin
+  pins_with ps cs = listed library a u net name (terminals (wired a)) ps cs
 
   abbrev parts_by : List NetPin → List Wired → List Part
   parts_by ps ws = map pin_part (filter (λ (p : NetPin). p.counts) (each_once [] ps)) ++ drawn_parts library.layers ws
@@ -312,32 +294,32 @@ module _ (library : Library) (a : List Record) (u : ℕ) (net name : List ℕ) w
       one true left h = h
       one false left h = h
 
-  abbrev others_with : List Component → List Part
-  others_with cs = map pin_part (filter (λ (p : NetPin). p.counts) (rest_pins library a u net name (terminals (wired a)) cs))
+  abbrev others_with : List Pin → List Component → List Part
+  others_with ps cs = map pin_part (filter (λ (p : NetPin). p.counts) (rest_pins library a u net name (terminals (wired a)) ps cs))
 
-  module _ (x : List Record) (cs : List Component) (common : filter is_common x ≡ filter is_common a) (entries : filter (is_of_net net) x ≡ filter (is_of_net net) a)
-      (components : filter_map component_of x ≡ cs) where
+  module _ (x : List Record) (ps : List Pin) (cs : List Component) (common : filter is_common x ≡ filter is_common a) (entries : filter (is_of_net net) x ≡ filter (is_of_net net) a)
+      (components : filter_map component_of x ≡ cs) (pins : design_pins x ≡ ps) where
     same_wired : wired x ≡ wired a
     same_wired = named_wired_same library x a u common net entries
 
-    same_terminal : (t : Terminal) → pins_of (pins_by_name library x u) t ≡ pins_of (among library a u net name (terminals (wired a)) cs) t
+    same_terminal : (t : Terminal) → pins_of (pins_by_name library x u) t ≡ pins_of (among library a u net name (terminals (wired a)) ps cs) t
     same_terminal t =
         kinds_alike (λ (l : List NetPin). l) (is_virtual t) (is_of_all t) (is_of_design t)
         (filter_map (pin_in library u name t.pin) (filter_map component_of x)) (filter_map (pin_in library u name t.pin) cs)
-        ((pins_by_name library x u).of_design t.pin) ((pins_by_name library a u).of_design t.pin)
-        (pin_of library u name (named library u name (filter_map component_of x) t.owner) t.pin) (pin_of library u name (named library u name cs t.owner) t.pin)
+        ((pins_by_name library x u).of_design t.pin) (of_name library a u net name (terminals (wired a)) ps t.pin)
+        (pins_of_one library u name (named library u name (filter_map component_of x) t.owner) t.pin) (pins_of_one library u name (named library u name cs t.owner) t.pin)
         (ap (filter_map (pin_in library u name t.pin)) components)
-        (same_design library x a u common t.pin)
-        (ap (λ (ds : List Component). pin_of library u name (named library u name ds t.owner) t.pin) components)
+        (ap₂ (λ (f : Pin → NetPin) (qs : List Pin). option_to_list (option_map f (find_named (λ (p : Pin). p.name) qs t.pin))) (same_pin library x a u common) pins)
+        (ap (λ (ds : List Component). pins_of_one library u name (named library u name ds t.owner) t.pin) components)
 
-    same_listed : flat_map (pins_of (pins_by_name library x u)) (terminals (wired x)) ++ (pins_by_name library x u).naming net ≡ pins_with cs
+    same_listed : flat_map (pins_of (pins_by_name library x u)) (terminals (wired x)) ++ (pins_by_name library x u).naming net ≡ pins_with ps cs
     same_listed =
         ap₂ (λ (xs ys : List NetPin). xs ++ ys)
-        (flat_same (pins_of (pins_by_name library x u)) (pins_of (among library a u net name (terminals (wired a)) cs)) same_terminal (terminals (wired x))
-        ∙ ap (λ (ws : List Wired). flat_map (pins_of (among library a u net name (terminals (wired a)) cs)) (terminals ws)) same_wired)
-        (same_naming library x a u common net)
+        (flat_same (pins_of (pins_by_name library x u)) (pins_of (among library a u net name (terminals (wired a)) ps cs)) same_terminal (terminals (wired x))
+        ∙ ap (λ (ws : List Wired). flat_map (pins_of (among library a u net name (terminals (wired a)) ps cs)) (terminals ws)) same_wired)
+        (ap₂ (λ (f : Pin → NetPin) (qs : List Pin). map f (filter (names_net net) qs)) (same_pin library x a u common) pins)
 
-    based : (net_named library x u net).parts ≡ parts_by (pins_with cs) (wired a)
+    based : (net_named library x u net).parts ≡ parts_by (pins_with ps cs) (wired a)
     based = ap₂ parts_by same_listed same_wired
 
     power_based : (net_named library x u net).is_power ≡ list_any (λ (w : Wired). w.is_power) (wired a)
@@ -357,18 +339,18 @@ module _ (library : Library) (a : List Record) (u : ℕ) (net name : List ℕ) w
   abbrev those : List Component → List Component
   those cs = filter (λ (c : Component). bytes_eq c.name name) cs
 
-  abbrev staying : List Component → List Part
-  staying cs = others_with cs ++ drawn_parts library.layers (wired a)
+  abbrev staying : List Pin → List Component → List Part
+  staying ps cs = others_with ps cs ++ drawn_parts library.layers (wired a)
 
-  beside : (cs : List Component) → SameThings (parts_by (pins_with cs) (wired a)) (counting (pins_with (those cs)) ++ staying cs)
-  beside cs = record {
+  beside : (ps : List Pin) (cs : List Component) → SameThings (parts_by (pins_with ps cs) (wired a)) (counting (pins_with [] (those cs)) ++ staying ps cs)
+  beside ps cs = record {
     sums = λ w.
         let drawn = drawn_parts library.layers (wired a) in
-        let all = pins_sum w (pins_with cs) in
-        let few = counted_parts w (each_once [] (pins_with (those cs))) in
-        let pins = rest_beside library a u net name (terminals (wired a)) (counted w) cs in
-        let more = counted_parts w (rest_pins library a u net name (terminals (wired a)) cs) in
-        omega (arith, all, few, pins, more, sum_by-append w (counting (pins_with (those cs))) (staying cs), sum_by-append w (others_with cs) drawn);
+        let all = pins_sum w (pins_with ps cs) in
+        let few = counted_parts w (each_once [] (pins_with [] (those cs))) in
+        let pins = rest_beside library a u net name (terminals (wired a)) (counted w) ps cs in
+        let more = counted_parts w (rest_pins library a u net name (terminals (wired a)) ps cs) in
+        omega (arith, all, few, pins, more, sum_by-append w (counting (pins_with [] (those cs))) (staying ps cs), sum_by-append w (others_with ps cs) drawn);
   }
 
   -- a design that agrees so has these parts
@@ -379,17 +361,17 @@ module _ (library : Library) (a : List Record) (u : ℕ) (net name : List ℕ) w
     told_entries : filter (is_of_net net) (filter (tells_of net name) x) ≡ filter (is_of_net net) a
     told_entries = within (is_of_net net) (tells_of net name) (net_tells net name) x ∙ entries
 
-    by_one : pins_by_one library x u net name ≡ counting (pins_with (those (filter_map component_of x)))
+    by_one : pins_by_one library x u net name ≡ counting (pins_with [] (those (filter_map component_of x)))
     by_one =
-        ap pins_in (based (filter (tells_of net name) x) (those (filter_map component_of x)) told_common told_entries (components_told net name x))
-        ∙ pins_are (pins_with (those (filter_map component_of x)))
+        ap pins_in (based (filter (tells_of net name) x) [] (those (filter_map component_of x)) told_common told_entries (components_told net name x) (no_pins_told net name x))
+        ∙ pins_are (pins_with [] (those (filter_map component_of x)))
 
-    parted_beside : SameThings (net_named library x u net).parts (pins_by_one library x u net name ++ staying (filter_map component_of x))
+    parted_beside : SameThings (net_named library x u net).parts (pins_by_one library x u net name ++ staying (design_pins x) (filter_map component_of x))
     parted_beside = record {
       sums = λ w.
-          ap (sum_by w) (based x (filter_map component_of x) common entries refl)
-          ∙ (beside (filter_map component_of x)).sums w
-          ∙ ap (λ (ps : List Part). sum_by w (ps ++ staying (filter_map component_of x))) (sym by_one);
+          ap (sum_by w) (based x (design_pins x) (filter_map component_of x) common entries refl refl)
+          ∙ (beside (design_pins x) (filter_map component_of x)).sums w
+          ∙ ap (λ (ps : List Part). sum_by w (ps ++ staying (design_pins x) (filter_map component_of x))) (sym by_one);
     }
 
 pub one_component_exchanged : OneComponentExchanged
@@ -398,23 +380,23 @@ one_component_exchanged library a b u net name agree =
     let cs = filter_map component_of a in
     let ds = filter_map component_of b in
     let drawn = drawn_parts library.layers (wired library a u net name a) in
-    let same : staying library a u net name ds ≡ staying library a u net name cs = ap (λ (l : List NetPin). map pin_part (filter (λ (p : NetPin). p.counts) (each_once [] (filter (λ (p : NetPin). is_paired p.words) l))) ++ drawn)
-    (theirs_listed library a u net name ts ds
-    ∙ ap (λ (l : List Component). filter (not_own library u name) (listed library a u net name ts l)) (sym agree.components)
-    ∙ sym (theirs_listed library a u net name ts cs)) in
+    let same : staying library a u net name (design_pins b) ds ≡ staying library a u net name (design_pins a) cs = ap (λ (l : List NetPin). map pin_part (filter (λ (p : NetPin). p.counts) (each_once [] l)) ++ drawn)
+    (theirs_listed library a u net name ts (design_pins b) ds
+    ∙ ap₂ (λ (ps : List Pin) (l : List Component). filter (not_own library u name) (listed library a u net name ts ps l)) (sym agree.pins) (sym agree.components)
+    ∙ sym (theirs_listed library a u net name ts (design_pins a) cs)) in
     record {
-      stay = staying library a u net name cs;
+      stay = staying library a u net name (design_pins a) cs;
       exchange = record {
         old_is = parted_beside library a u net name a refl refl;
         new_is = subst (λ (l : List Part). SameThings (net_named library b u net).parts (pins_by_one library b u net name ++ l)) same (parted_beside library a u net name b (sym agree.common) (sym agree.entries));
       };
-      same_power = sym (power_based library a u net name b ds (sym agree.common) (sym agree.entries) refl);
+      same_power = sym (power_based library a u net name b (design_pins b) ds (sym agree.common) (sym agree.entries) refl refl);
     }
 
 -- few statements that tell of the component tell its pins
 pub one_component_is_told : OneComponentIsTold
 one_component_is_told library some design net name tell =
-    let alone : TellNet some some net = record { agree = record { common = refl; entries = refl; components = found_alike some (terminals_in some net) }; only = tell.only } in
+    let alone : TellNet some some net = record { agree = record { common = refl; entries = refl; found = found_alike some (terminals_in some net); naming = refl }; only = tell.only } in
     let is = told library some some net alone in
     let scales = same_scale library some design tell.common in
     record {
@@ -422,12 +404,12 @@ one_component_is_told library some design net name tell =
       told = net_named library some (scale some) net;
       nets = is.nets;
       pins =
-          ap pins_in (based library design (scale some) net name some (those_named name design) tell.common tell.entries tell.components)
-          ∙ pins_are library design (scale some) net name (listed library design (scale some) net name (terminals library design (scale some) net name (wired library design (scale some) net name design)) (those_named name design))
+          ap pins_in (based library design (scale some) net name some [] (those_named name design) tell.common tell.entries tell.components tell.pins)
+          ∙ pins_are library design (scale some) net name (listed library design (scale some) net name (terminals library design (scale some) net name (wired library design (scale some) net name design)) [] (those_named name design))
           ∙ sym (by_one library design (scale some) net name design refl refl)
           ∙ ap (λ (u : ℕ). pins_by_one library design u net name) scales;
     }
   where
     found_alike : (ds : List Record) (ts : List Terminal) → AllByRecursion (FindsAlike ds ds) ts
     found_alike ds [] = tt
-    found_alike ds (t ∷ ts) = (record { named = refl; all = λ star. refl }, found_alike ds ts)
+    found_alike ds (t ∷ ts) = (record { named = refl; all = λ star. refl; pin = λ is. refl }, found_alike ds ts)

@@ -1,10 +1,10 @@
 //! Laws of what the nets of a design hang on, and which of them an edit leaves.
 //!
-//! Each law is an empty function that ensures it; call it to use it. A net is told by its entries, by the components that these list,
-//! and by UNITS, vias, nondefault rules and pins of the design (`specs/NetsTold`). So where statements are exchanged for others, only
-//! those nets change of which one of these is an entry, or which list a component among them (`specs/NetExchanges`). One net is told by
-//! few statements (`specs/OneNet`), and where designs agree on all nets but some which are so told, these alone are exchanged
-//! (`specs/NetChanges`).
+//! Each law is an empty function that ensures it; call it to use it. A net is told by its entries, by the components and the pins of the
+//! design that these list, by the pins of the design that name it, and by UNITS, vias, nondefault rules and blockages
+//! (`specs/NetsTold`). So where statements are exchanged for others, only those nets change of which one of these is an entry or a pin
+//! that names the net, or which list a component or a pin among them (`specs/NetExchanges`). One net is told by few statements
+//! (`specs/OneNet`), and where designs agree on all nets but some which are so told, these alone are exchanged (`specs/NetChanges`).
 #![tactic(auto)]
 
 ghost use Rattle.net_laws.specs.NetsTold.{NetsAreTold};
@@ -45,7 +45,7 @@ pub fn apart_on_and_on()
     ensures { ApartOnAndOn }
 {}
 
-/// An exchange of entries of some nets, and of a component that no other net lists, leaves the other nets.
+/// An exchange of entries of some nets, and of a component or a pin of the design that no other net lists, leaves the other nets.
 pub fn within_apart()
     ensures { WithinApart }
 {}
