@@ -16,14 +16,14 @@ use Rattle.def_grammar.specs.Terminals.{Terminal}
 use Rattle.lef_grammar.specs.Library.{Library}
 use Rattle.entry_rules.specs.Unknown.{is_same}
 use Rattle.connection_rules.specs.NetParts.{Net, Wired, pin_part, pin_parts, wired_of}
-use Rattle.connection_rules.specs.Terminals.{NetPin, design_pin, each_once, pins_by_name, pins_of}
+use Rattle.connection_rules.specs.Terminals.{NetPin, design_pin, design_pins, each_once, pins_by_name, pins_of}
 use Rattle.name_groups.specs.Groups.{Group, grouped, members_named, of_name, seen, with_member}
 use Rattle.name_groups.proofs.GroupLaws.{found_are_seen, grouped_none, named, one_more_seen}
 use Rattle.net_lists.specs.Building.{with_parts}
 use Rattle.net_pins.specs.declared.lent_pin.LentPin.{LentPin}
 use Rattle.net_pins.specs.Counting.{State, with_pins}
 use Rattle.net_pins.specs.EntryPins.{all_pins, lent_pin, listed, names_some, net_groups, net_name, net_of, or_no_name, pin_of_entry}
-use Rattle.net_pins.proofs.PinNames.{pin_is, pins_in}
+use Rattle.net_pins.proofs.PinNames.{pin_is}
 use Rattle.net_pins.proofs.PutLemmas.{all_put_once, with_more_pins}
 
 -- pins with one record more
@@ -70,14 +70,14 @@ module _ (name : List ℕ) where
   naming_so [] = refl
   naming_so (p ∷ ps) = named_if (net_of p) p (filter names_some ps) (filter (λ (q : Pin). is_same name (net_of q)) ps) refl (naming_so ps)
 
-module _ (library : Library) (all : List Record) (u : ℕ) where
-  pins_are : (design : List Record) → all_pins design ≡ pins_in library all u design
-  pins_are [] = refl
-  pins_are (top t ∷ rest) = pins_are rest
-  pins_are (in_properties p ∷ rest) = pins_are rest
-  pins_are (end_section s ∷ rest) = pins_are rest
-  pins_are (entry e ∷ rest) = ap₂ (λ (o : Option Pin) (ps : List Pin). cons_option o ps) (sym (pin_is library all u e)) (pins_are rest)
+pins_are : (design : List Record) → all_pins design ≡ design_pins design
+pins_are [] = refl
+pins_are (top t ∷ rest) = pins_are rest
+pins_are (in_properties p ∷ rest) = pins_are rest
+pins_are (end_section s ∷ rest) = pins_are rest
+pins_are (entry e ∷ rest) = ap₂ (λ (o : Option Pin) (ps : List Pin). cons_option o ps) (sym (pin_is e)) (pins_are rest)
 
+module _ (library : Library) (all : List Record) (u : ℕ) where
   one_listed : (e : Entry) (es : List Entry) → flat_map (λ (w : Wired). w.terminals) (filter_map (wired_of library all u) es) ≡ flat_map listed es
       → flat_map (λ (w : Wired). w.terminals) (filter_map (wired_of library all u) (e ∷ es)) ≡ listed e ++ flat_map listed es
   one_listed (component c) es h = h
@@ -107,7 +107,7 @@ found_naming library design u name table found is e =
     ∙ ap (members_named name) is
     ∙ named net_name (filter names_some (all_pins design)) name
     ∙ naming_so name (all_pins design)
-    ∙ ap (filter (λ (p : Pin). is_same name (net_of p))) (pins_are library design u design))
+    ∙ ap (filter (λ (p : Pin). is_same name (net_of p))) (pins_are design))
 
 -- pins that are put behind others
 pub both_put : (xs ys : List NetPin) (seen_first seen_now seen_last : List Key) (old now last : List Net) → seen_first ≡ [] → (seen_now, now) ≡ with_pins xs (seen_first, old) → (seen_last, last) ≡ with_pins ys (seen_now, now)

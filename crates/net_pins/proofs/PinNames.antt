@@ -1,6 +1,6 @@
 -- Pins of the design by their names.
 use Rattle.std.proofs.Common.{◌≡◌, ℕ, Bool, true, false, cond, ◌&&◌, List, [], ◌∷◌, refl, sym, ap, ◌∙◌, Option, Some, None, if◌then◌else◌}
-use Rattle.std.specs.List.{cons_option, filter_map}
+use Rattle.std.specs.List.{cons_option}
 use Rattle.std.specs.Str.{bytes_eq}
 use Rattle.form_meanings.specs.Firsts.{find_named}
 use Rattle.form_meanings.specs.Words.{◌>>=◌}
@@ -8,10 +8,9 @@ use Rattle.design_model.specs.EnumWords.{section_word}
 use Rattle.design_model.specs.declared.mode.Section.TheVariants.{Pins}
 use Rattle.def_grammar.specs.Pins.{Pin}
 use Rattle.def_grammar.specs.Records.{Record, Entry, top, in_properties, end_section, entry, component, pin, region, group, blockage, net, special_net, via, rule, skipped}
-use Rattle.lef_grammar.specs.Library.{Library}
 use Rattle.entry_rules.specs.EntryNames.{entry_named}
 use Rattle.entry_rules.specs.Unknown.{is_in}
-use Rattle.connection_rules.specs.Terminals.{design_pins, pin_of}
+use Rattle.connection_rules.specs.Terminals.{design_pin_named, design_pins, pin_of}
 use Rattle.net_pins.specs.EntryPins.{pin_of_entry}
 
 abbrev name_of : Pin → List ℕ
@@ -49,31 +48,24 @@ first_picked : (name : List ℕ) (e : Entry) (o : Option Pin) (test : Bool) (ps 
 first_picked name e None test ps later is one h = rw is h
 first_picked name e (Some p) test ps later is one h = chosen name (bytes_eq p.name name) test e p ps later is one h
 
-module _ (library : Library) (all : List Record) (u : ℕ) where
-  pub pin_is : (e : Entry) → pin_of library all u (entry e) ≡ pin_of_entry e
-  pin_is (component c) = refl
-  pin_is (pin p) = refl
-  pin_is (region r) = refl
-  pin_is (group g) = refl
-  pin_is (blockage b) = refl
-  pin_is (net n) = refl
-  pin_is (special_net n) = refl
-  pin_is (via v) = refl
-  pin_is (rule r) = refl
-  pin_is (skipped s tokens) = refl
+pub pin_is : (e : Entry) → pin_of (entry e) ≡ pin_of_entry e
+pin_is (component c) = refl
+pin_is (pin p) = refl
+pin_is (region r) = refl
+pin_is (group g) = refl
+pin_is (blockage b) = refl
+pin_is (net n) = refl
+pin_is (special_net n) = refl
+pin_is (via v) = refl
+pin_is (rule r) = refl
+pin_is (skipped s tokens) = refl
 
-  abbrev pub pins_in : List Record → List Pin
-  pins_in design = filter_map (pin_of library all u) design
-
-  -- The first pin of a name is that of the first entry of PINS that has it.
-  picked : (design : List Record) (name : List ℕ) → find_named name_of (pins_in design) name ≡ (entry_named design Pins name >>= pin_of_entry)
-  picked [] name = refl
-  picked (top t ∷ rest) name = picked rest name
-  picked (in_properties p ∷ rest) name = picked rest name
-  picked (end_section t ∷ rest) name = picked rest name
-  picked (entry e ∷ rest) name =
-      ap (λ (o : Option Pin). find_named name_of (cons_option o (pins_in rest)) name) (pin_is e)
-      ∙ first_picked name e (pin_of_entry e) (is_in Pins name e) (pins_in rest) (entry_named rest Pins name) (agrees e name) refl (picked rest name)
-
-pub pin_picked : (library : Library) (design : List Record) (u : ℕ) (name : List ℕ) → find_named name_of (design_pins library design u) name ≡ (entry_named design Pins name >>= pin_of_entry)
-pin_picked library design u name = picked library design u design name
+-- The first pin of a name is that of the first entry of PINS that has it.
+pub pin_picked : (design : List Record) (name : List ℕ) → design_pin_named design name ≡ (entry_named design Pins name >>= pin_of_entry)
+pin_picked [] name = refl
+pin_picked (top t ∷ rest) name = pin_picked rest name
+pin_picked (in_properties p ∷ rest) name = pin_picked rest name
+pin_picked (end_section t ∷ rest) name = pin_picked rest name
+pin_picked (entry e ∷ rest) name =
+    ap (λ (o : Option Pin). find_named name_of (cons_option o (design_pins rest)) name) (pin_is e)
+    ∙ first_picked name e (pin_of_entry e) (is_in Pins name e) (design_pins rest) (entry_named rest Pins name) (agrees e name) refl (pin_picked rest name)

@@ -1,13 +1,11 @@
 //! The pins that the terminals of entries stand for (LEF/DEF 5.8 Language Reference, "Nets" and "Special Nets").
 
-ghost use Rattle.std.specs.Prelude.{◌≡◌, ◌<◌, ◌∷◌, [], ℕ, OnOk, false, flat_map, length, true};
+ghost use Rattle.std.specs.Prelude.{◌≡◌, ◌<◌, ◌∷◌, [], OnOk, false, flat_map, length, true};
 ghost use Rattle.std.specs.List.{filter_map};
 ghost use Rattle.std.specs.Option.{option_map, option_to_list};
-ghost use Rattle.form_meanings.specs.Firsts.{find_named};
-ghost use Rattle.def_grammar.specs.Pins.{Pin};
 ghost use Rattle.def_grammar.specs.Records.{component_of, entry_of};
-ghost use Rattle.lef_grammar.specs.Library.{Library as TheLibrary, Macro as TheMacro};
-ghost use Rattle.connection_rules.specs.Terminals.{component_pin, design_pin, design_pins, pin_of_component, pins_of};
+ghost use Rattle.lef_grammar.specs.Library.{Macro as TheMacro};
+ghost use Rattle.connection_rules.specs.Terminals.{component_pin, design_pin, design_pin_named, pin_of_component, pins_of};
 ghost use Rattle.cell_library.specs.PinViews.{pin_view as macro_pin_view};
 ghost use Rattle.place_parts.specs.ComponentViews.{component_view};
 ghost use Rattle.place_parts.specs.PinViews.{pin_view};
@@ -188,7 +186,7 @@ fn pin_named<'r, 't, A: Allocator + Copy>(
     names: &Names<'r, 't, A>,
     name: &[u8],
 ) -> Option<&'r PinParts<'t>>
-    ensures { (library : TheLibrary) (u : ℕ) → option_map borrowed_pin result ≡ find_named (λ (p : Pin). p.name) (design_pins library names.now u) name.now }
+    ensures { option_map borrowed_pin result ≡ design_pin_named names.now name.now }
 {
     pin_of(names.entry(Section::Pins, name)?)
 }

@@ -7,8 +7,8 @@ use Rattle.net_pins.proofs.PinNames.{pin_picked}
 use Rattle.net_pins.proofs.listed_pins.pin_named.Goals as goal
 
 pub returns-in_err-entry : goal.returns-in_err-entry
-returns-in_err-entry g c = λ library u.
-    ap (option_map borrowed_pin) c.from_residual.ensures ∙ ap (λ (o : Option Entry). o >>= pin_of_entry) c.in_err-entry.ensures ∙ sym (pin_picked library c.args.names.now u c.args.name.now)
+returns-in_err-entry g c =
+    ap (option_map borrowed_pin) c.from_residual.ensures ∙ ap (λ (o : Option Entry). o >>= pin_of_entry) c.in_err-entry.ensures ∙ sym (pin_picked c.args.names.now c.args.name.now)
 
 pub returns : goal.returns
-returns g c = λ library u. c.pin_of.ensures ∙ ap (λ (o : Option Entry). o >>= pin_of_entry) c.in_ok-entry.ensures ∙ sym (pin_picked library c.args.names.now u c.args.name.now)
+returns g c = c.pin_of.ensures ∙ ap (λ (o : Option Entry). o >>= pin_of_entry) c.in_ok-entry.ensures ∙ sym (pin_picked c.args.names.now c.args.name.now)
