@@ -2,7 +2,7 @@
 use Rattle.std.proofs.Common.{◌≡◌, ◌+◌, ℕ, List, [], ◌∷◌, ◌++◌, refl, sym, ap, ap₂, ◌∙◌, append-nil, sum_by, if◌then◌else◌}
 use Rattle.std.specs.List.{flat_map}
 use Rattle.design_model.specs.declared.mode.Section.{Section}
-use Rattle.design_model.specs.declared.mode.Section.TheVariants.{Vias, NonDefaultRules, Regions, Components, Pins, Blockages, SpecialNets, Nets, Groups, ScanChains, PinProperties, Slots, Fills, Styles}
+use Rattle.design_model.specs.declared.mode.Section.TheVariants.{Components}
 use Rattle.design_model.specs.EnumWords.{section_word}
 use Rattle.def_grammar.specs.Numbers.{int_of}
 use Rattle.def_grammar.specs.Records.{Record, top, in_properties, end_section, entry}

@@ -1,5 +1,5 @@
 -- In a text that reads a section's header has the entries behind it that the section has.
-use Rattle.std.proofs.Common.{◌≡◌, ◌+◌, ℕ, true, false, List, [], ◌∷◌, ◌++◌, length, arith, Option, Some, None, Ok, refl, sym, ap, ap₂, subst, ◌∙◌, ⊎_elim, append-nil}
+use Rattle.std.proofs.Common.{◌≡◌, ℕ, true, false, List, [], ◌∷◌, ◌++◌, length, arith, Option, Some, None, Ok, refl, sym, ap, ap₂, subst, ◌∙◌, ⊎_elim, append-nil}
 use Rattle.design_model.specs.declared.mode.Mode.{Mode}
 use Rattle.design_model.specs.declared.mode.Mode.TheVariants.{Top, In, Props, After}
 use Rattle.design_model.specs.declared.mode.Section.{Section}
@@ -30,6 +30,16 @@ module _ (s : Section) where
   lines_passed [] ys none = refl
   lines_passed (x ∷ xs) ys none = line_passed x.1 (records (xs ++ ys)) none.0 ∙ lines_passed xs ys none.1
 
+  no_lines : (xs : Located) → NoneOf (is_header s) xs → own_lines (records xs) s ≡ []
+  no_lines xs none = ap (λ (ys : Located). own_lines (records ys) s) (sym (append-nil xs)) ∙ lines_passed xs [] none
+
+  -- the only header of the section
+  header_line : (first others : Located) (ps : List Token) (n : List ℕ) → NoneOf (is_header s) first → NoneOf (is_header s) others
+      → own_lines (records (first ++ (ps, top (header s n)) ∷ others)) s ≡ count_of s (int_of n) (entries (records others))
+  header_line first others ps n none none_later =
+      let later = no_lines others none_later in
+      lines_passed first ((ps, top (header s n)) ∷ others) none ∙ rw (section_itself s) (rw later (append-nil (count_of s (int_of n) (entries (records others)))))
+
   number_passed : (r : Record) (rs : List Record) → is_header s r ≡ false → header_number s (r ∷ rs) ≡ header_number s rs
   number_passed (top (header t n)) rs other = rw other refl
   number_passed (top (plain p)) rs other = refl
@@ -40,6 +50,12 @@ module _ (s : Section) where
   numbers_passed : (xs ys : Located) → NoneOf (is_header s) xs → header_number s (records (xs ++ ys)) ≡ header_number s (records ys)
   numbers_passed [] ys none = refl
   numbers_passed (x ∷ xs) ys none = number_passed x.1 (records (xs ++ ys)) none.0 ∙ numbers_passed xs ys none.1
+
+  no_number : (xs : Located) → NoneOf (is_header s) xs → header_number s (records xs) ≡ None
+  no_number xs none = ap (λ (ys : Located). header_number s (records ys)) (sym (append-nil xs)) ∙ numbers_passed xs [] none
+
+  number_said : (first others : Located) (ps : List Token) (n : List ℕ) → NoneOf (is_header s) first → header_number s (records (first ++ (ps, top (header s n)) ∷ others)) ≡ Some n
+  number_said first others ps n none = numbers_passed first ((ps, top (header s n)) ∷ others) none ∙ rw (section_itself s) refl
 
   -- outside of the section no entry is one of it
   entry_passed : (m : Mode) (r : Record) (rs : List Record) → is_in s m ≡ false → MayStand m r → entries_in s (r ∷ rs) ≡ entries_in s rs
@@ -78,35 +94,24 @@ module _ (s : Section) where
 
     -- a text without the section's header
     without_header : NoneOf (is_header s) all → own_lines (records all) s ≡ section_lines (records all) s
-    without_header none =
-        let whole = append-nil all in
-        let lines : own_lines (records all) s ≡ [] = ap (λ (xs : Located). own_lines (records xs) s) (sym whole) ∙ lines_passed all [] none in
-        let number : header_number s (records all) ≡ None = ap (λ (xs : Located). header_number s (records xs)) (sym whole) ∙ numbers_passed all [] none in
-        lines ∙ sym (ap (header_lines s (length (entries_in s (records all)))) number)
+    without_header none = no_lines all none ∙ sym (ap (header_lines s (length (entries_in s (records all)))) (no_number all none))
 
     -- and one with it
     with_header : Opened s all → own_lines (records all) s ≡ section_lines (records all) s
     with_header o =
-        let head : List Token × Record = (o.tokens, top (header s o.number)) in
         let h = headed s text design reads o in
-        let st = stood text design reads o.tokens (top (header s o.number)) (record { first = o.first; others = o.others; all_are = o.is }) in
-        let here = entries (records o.others) in
-        let none_later : own_lines (records o.others) s ≡ [] =
-            ap (λ (xs : Located). own_lines (records xs) s) (sym (append-nil o.others)) ∙ lines_passed o.others [] h.no_head in
-        let itself = section_itself s in
-        let lines : own_lines (records all) s ≡ count_of s (int_of o.number) here =
-            ap (λ (xs : Located). own_lines (records xs) s) o.is
-            ∙ (lines_passed o.first (head ∷ o.others) o.none
-            ∙ rw itself (rw none_later (append-nil (count_of s (int_of o.number) here)))) in
-        let number : header_number s (records all) ≡ Some o.number =
-            ap (λ (xs : Located). header_number s (records xs)) o.is ∙ (numbers_passed o.first (head ∷ o.others) o.none ∙ rw itself refl) in
-        let found : entries_in s (records all) ≡ entries_in s (records o.others) =
-            ap (λ (xs : Located). entries_in s (records xs)) o.is ∙ entries_passed Top st.at o.first (head ∷ o.others) refl st.before o.none in
-        let counted : length (entries_in s (records all)) ≡ here = ap length found ∙ sym (entries_inside h.last o.others h.over h.behind h.no_head) in
-        lines ∙ sym (ap₂ (λ (k : ℕ) (n : Option (List ℕ)). header_lines s k n) counted number)
+        let rec = top (header s o.number) in
+        let st = stood text design reads o.tokens rec (record { first = o.first; others = o.others; all_are = o.is }) in
+        let behind : Located = (o.tokens, rec) ∷ o.others in
+        let before = entries_passed Top st.at o.first behind refl st.before o.none in
+        let found = ap length before ∙ sym (entries_inside h.last o.others h.over h.behind h.no_head) in
+        let line = header_line o.first o.others o.tokens o.number o.none h.no_head in
+        let number = number_said o.first o.others o.tokens o.number o.none in
+        subst (λ (xs : Located). own_lines (records xs) s ≡ section_lines (records xs) s) (sym o.is)
+        (line ∙ sym (ap₂ (λ (k : ℕ) (n : Option (List ℕ)). header_lines s k n) found number))
 
-    own_lines_are : own_lines design s ≡ section_lines design s
-    own_lines_are = subst (λ (rs : List Record). own_lines rs s ≡ section_lines rs s) (records_are text design reads).0 (⊎_elim without_header with_header (opened s all))
+    lines_are_own : own_lines design s ≡ section_lines design s
+    lines_are_own = subst (λ (rs : List Record). own_lines rs s ≡ section_lines rs s) (records_are text design reads).0 (⊎_elim without_header with_header (opened s all))
 
 pub counts_are_by_section : CountsAreBySection
-counts_are_by_section text design reads = lines_are_parted design (section_lines design) (λ s. own_lines_are s text design reads)
+counts_are_by_section text design reads = lines_are_parted design (section_lines design) (λ s. lines_are_own s text design reads)
