@@ -1,8 +1,9 @@
 //! Laws of what the lines on one statement depend on: two designs that agree on it have the same lines there.
 //!
 //! Each law is an empty function that ensures it; call it to use it. What a statement's lines depend on, besides itself and the
-//! library, is what the names in it stand for: `references_of` and `vias_of` of `specs/Agreement`. An edit that leaves what entries
-//! show of themselves (`all_shown`) leaves the lines on all other statements.
+//! library, is what the names in it stand for: `references_of` and `vias_of` of `specs/Agreement`. An edit that leaves what named entries
+//! show of themselves (`all_shown`) leaves the lines on all other statements. One that leaves it but for the components of a name
+//! (`shown_but`) leaves them on all others that don't name such a component (`refers_to`).
 #![tactic(auto)]
 
 ghost use Rattle.agreement_laws.specs.Laws.{LinesFollowOneComponent, SameButOneSameLines, SameNamesSameLines, SameOutlineSameCounts, SameShownSameLines, SameStatementLines, SameViasSameLines, StatementLinesFollow};
