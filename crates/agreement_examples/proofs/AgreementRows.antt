@@ -1,5 +1,5 @@
 -- Worked rows of what the lines on a statement depend on, by computing.
-use Rattle.std.proofs.Common.{◌≡◌, Bool, true, false, List, ℕ, [], ◌∷◌, ◌++◌, Option, Some, None, Result, Ok, Err, refl, codes, flat_map, map}
+use Rattle.std.proofs.Common.{◌≡◌, true, false, List, ℕ, [], ◌∷◌, ◌++◌, Option, Some, None, Result, Ok, Err, refl, codes, flat_map, map}
 use Rattle.design_model.specs.declared.mode.Section.TheVariants.{Components}
 use Rattle.design_model.specs.EnumWords.{section_word}
 use Rattle.design_model.specs.declared.fault.Fault.{Fault}
