@@ -38,8 +38,9 @@ entries_shown : shown_in (codes "COMPONENTS 2 ;\n- u2 INV + PLACED ( 5 0 ) N ;\n
 unfolding def_lines
 entries_shown = refl
 
--- entries without a name show nothing
-nothing_shown : all_shown (design (codes "BLOCKAGES 2 ;\n- PLACEMENT RECT ( 0 0 ) ( 1 1 ) ;\n- LAYER met1 RECT ( 0 0 ) ( 1 1 ) ;\nEND BLOCKAGES\nFILLS 1 ;\n- LAYER met1 RECT ( 0 0 ) ( 1 1 ) ;\nEND FILLS\nNETS 1 ;\n- MUSTJOIN ( u1 A ) ;\nEND NETS\n")) ≡ []
+-- entries without a name show nothing: of these statements the net n alone does
+nothing_shown : shown_in (codes "BLOCKAGES 2 ;\n- PLACEMENT RECT ( 0 0 ) ( 1 1 ) ;\n- LAYER met1 RECT ( 0 0 ) ( 1 1 ) ;\nEND BLOCKAGES\nFILLS 1 ;\n- LAYER met1 RECT ( 0 0 ) ( 1 1 ) ;\nEND FILLS\nNETS 2 ;\n- MUSTJOIN ( u1 A ) ;\n- n ( u1 A ) ;\nEND NETS\n")
+    ≡ codes "NETS" ∷ codes "n" ∷ codes "-" ∷ codes "-" ∷ []
 unfolding def_lines
 nothing_shown = refl
 
