@@ -2,15 +2,11 @@
 use Rattle.std.specs.Prelude.{◌≡◌, ℕ, not, nat_lt, false, true, List, map, flat_map, length, count_by, Option, slice_get}
 use Rattle.std.specs.List.{filter_map}
 use Rattle.std.specs.Option.{option_map}
-use Rattle.design_model.specs.declared.identifier.ShapeId.{ShapeId}
 use Rattle.lef_grammar.specs.Measures.{Shape}
 use Rattle.connection_rules.specs.NetLines.{NetShape, shapes_of_net}
 use Rattle.connection_rules.specs.NetParts.{Net}
 use Rattle.net_lists.specs.Heads.{Head}
-use Rattle.net_lists.specs.declared.parts.NetShape as code
-use Rattle.shape_index.specs.declared.shape.Shape.{Shape as Stored}
 use Rattle.net_queries.specs.declared.owner.PartOwner.{PartOwner}
-use Rattle.net_queries.specs.Held.{shape_of}
 
 -- a shape of a net, by the net's name alone
 abbrev pub named : List ℕ → Shape → NetShape
@@ -23,18 +19,7 @@ by_name s = named s.net s.shape
 abbrev pub shapes_by_name : List Net → List NetShape
 shapes_by_name nets = map by_name (flat_map shapes_of_net nets)
 
--- a shape as one of a set, under the place of its net's name
-abbrev pub stored : ℕ → code.NetShape → Stored
-stored place s = record { layer = s.layer; rect = s.rect; net = place }
-
--- the shapes of a set, each with the place of its net's name
-abbrev pub placed_shape : Stored → ℕ × Shape
-placed_shape s = (s.net, shape_of s)
-
-abbrev pub placed_shapes : List (ShapeId × Stored) → List (ℕ × Shape)
-placed_shapes entries = map (λ e. placed_shape e.1) entries
-
--- and with that name
+-- shapes, each with the place of its net's name, by that name
 abbrev pub named_by : List (List ℕ) → ℕ × Shape → Option NetShape
 named_by names p = option_map (λ net. named net p.1) (slice_get names p.0)
 

@@ -9,7 +9,6 @@
 #![tactic(auto)]
 
 mod names;
-mod placed;
 mod shapes;
 mod shorts;
 

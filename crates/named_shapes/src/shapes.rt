@@ -7,9 +7,8 @@ ghost use Rattle.net_lists.specs.PartCuts.{shape_view};
 ghost use Rattle.named_shapes.specs.Named.{named, shapes_by_name};
 
 use crate::names::NetNames;
-use crate::placed::{insert_all, push_shapes, remove_all, tiles_of};
 use net_lists::{NetList, NetShape};
-use shape_index::TiledShapes;
+use placed_shapes::{PlacedShapes, push_placed};
 use std::alloc::{AllocError, Allocator, Global};
 use std::hash::RandomState;
 use std::marker::Model;
@@ -18,20 +17,20 @@ use std::marker::Model;
 #[derive(Drop)]
 pub struct NamedShapes<A: Allocator = Global> {
     pub(crate) names: NetNames<A>,
-    // The net of each is the place of its name.
-    pub(crate) tiles: TiledShapes<A>,
+    // The owner of each is its net, by the place of its name.
+    pub(crate) placed: PlacedShapes<A>,
 }
 
 impl<A: Allocator> Model for NamedShapes<A> {
     ghost use Rattle.std.specs.Prelude.{List};
     ghost use Rattle.connection_rules.specs.NetLines.{NetShape as OfNet};
-    ghost use Rattle.named_shapes.specs.Named.{HaveNames, named_shapes, placed_shapes};
+    ghost use Rattle.named_shapes.specs.Named.{HaveNames, named_shapes};
 
     ghost Value = { List OfNet };
 
-    ghost view = { λ s. named_shapes s.names (placed_shapes s.tiles.entries) };
+    ghost view = { λ s. named_shapes s.names s.placed };
 
-    ghost invariant = { λ s. HaveNames s.names (placed_shapes s.tiles.entries) };
+    ghost invariant = { λ s. HaveNames s.names s.placed };
 }
 
 impl<A: Allocator + Copy> NamedShapes<A> {
@@ -48,10 +47,10 @@ impl<A: Allocator + Copy> NamedShapes<A> {
         let mut left = nets.nets();
         while let Some(net) = left.next() {
             let place = names.put(alloc, net.head.name)?;
-            push_shapes(place, net.shapes, &mut shapes)?;
+            push_placed(place, net.shapes, &mut shapes)?;
         }
-        let tiles = tiles_of(alloc, &shapes)?;
-        Ok(NamedShapes { names, tiles })
+        let placed = PlacedShapes::of(alloc, &shapes)?;
+        Ok(NamedShapes { names, placed })
     }
 
     /// Takes shapes of a net out, each once, and says whether all of them were there. Where they weren't, some may be gone.
@@ -61,7 +60,7 @@ impl<A: Allocator + Copy> NamedShapes<A> {
         let Some(place) = self.names.place_of(net) else {
             return false;
         };
-        remove_all(&mut self.tiles, place, shapes)
+        self.placed.remove(place, shapes)
     }
 
     /// Puts shapes of a net in.
@@ -69,6 +68,6 @@ impl<A: Allocator + Copy> NamedShapes<A> {
         ensures { OnOk result (SameThings self.new (map (named net.now) (map shape_view shapes.now) ++ self.old)) }
     {
         let place = self.names.put(alloc, net)?;
-        insert_all(&mut self.tiles, place, shapes)
+        self.placed.insert(place, shapes)
     }
 }

@@ -39,7 +39,7 @@ impl<A: Allocator + Copy> NamedShapes<A> {
             head: &head,
             is_drawn: false,
         };
-        put_touching(layers, &own, &self.tiles, &self.names, lines)
+        put_touching(layers, &own, self.placed.tiles(), &self.names, lines)
     }
 
     /// Puts the lines of shapes of a net with the shapes of other nets that touch them behind others, in an order that is left open, and
