@@ -99,7 +99,7 @@ fn exchange_pins<A: Allocator + Copy>(
     let out = shapes_of(alloc, &before.pins)?;
     let put = shapes_of(alloc, &after.pins)?;
     let gone = told_with(alloc, star, out)?;
-    if !star.take_out(&before.pins) {
+    if !star.take_out(&before.pins)? {
         return Ok(None);
     }
     star.put_in(after.pins)?;

@@ -1,16 +1,23 @@
 //! A net's parts, kept while some of its pins go and others come.
 //!
 //! Begin with `KeptNet::of`, which copies a net of a list. `take_out` takes parts out, each once, and says whether all of them were
-//! there; `put_in` puts parts in. `put_class_lines` gives the lines on how the net hangs together then, in time that grows with its
-//! parts. `pins_of` has the pins of a net of a list, and `shapes_of` the shapes of parts, one after the other.
+//! there; `put_in` puts parts in. `put_class_lines` gives the lines on how the net hangs together then. What that takes grows with the
+//! parts near those that go and come, where these tell: a pin that touches none is a class by itself, and where those that it touches
+//! hang together with another pin, also without it, nothing changes. Else all parts are gone over. `pins_of` has the pins of a net of a
+//! list, and `shapes_of` the shapes of parts, one after the other.
 //!
-//! A net is seen as `Net` of `connection_rules/specs/NetParts`; in which order its parts stand is left open once some went.
+//! A net is seen as `Net` of `connection_rules/specs/NetParts`; in which order its parts stand is left open once some went. What is
+//! known of it beside its parts is `AreKnown` of `specs/Kept`.
 //!
 //! Nothing is lent but the name. The one error is `AllocError`, after which nothing is said of what was to be changed.
 #![tactic(auto)]
 
+mod joined;
+mod joint;
+mod listing;
 mod net;
 mod part;
+mod places;
 
 pub use net::KeptNet;
 pub use part::{KeptPart, pins_of, shapes_of};

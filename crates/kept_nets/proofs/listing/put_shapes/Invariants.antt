@@ -1,7 +1,7 @@
 use Rattle.std.proofs.Common.{◌≡◌, ◌<◌, drop, length, map}
 use Rattle.net_lists.specs.Building.{last_parts, with_shapes}
 use Rattle.net_lists.specs.PartCuts.{shape_view}
-use Rattle.kept_nets.proofs.net.put_shapes.Given as goal
+use Rattle.kept_nets.proofs.listing.put_shapes.Given as goal
 
 abbrev pub invariant-loop-shape : goal.invariant-loop-shape
 invariant-loop-shape g l = record {

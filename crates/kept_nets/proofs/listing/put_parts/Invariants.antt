@@ -1,7 +1,7 @@
 use Rattle.std.proofs.Common.{◌≡◌, ◌<◌, drop, length, map}
 use Rattle.net_lists.specs.Building.{with_parts}
 use Rattle.kept_nets.specs.Parts.{part_view}
-use Rattle.kept_nets.proofs.net.put_parts.Given as goal
+use Rattle.kept_nets.proofs.listing.put_parts.Given as goal
 
 abbrev pub invariant-loop-part : goal.invariant-loop-part
 invariant-loop-part g l = record {

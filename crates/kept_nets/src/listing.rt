@@ -1,0 +1,144 @@
+//! Parts as a net of a list.
+
+ghost use Rattle.std.specs.Prelude.{◌≡◌, ◌<◌, ◌∷◌, ◌++◌, [], IfOk, List, OnOk, length, map};
+ghost use Rattle.connection_rules.specs.NetParts.{Net};
+ghost use Rattle.connection_rules.specs.PartClasses.{with_pins, without_pins};
+ghost use Rattle.net_lists.specs.Building.{last_parts, with_parts, with_shapes};
+ghost use Rattle.net_lists.specs.PartCuts.{shape_view};
+ghost use Rattle.class_laws.specs.OneMore.{parts_at};
+ghost use Rattle.kept_nets.specs.Kept.{HangAs};
+ghost use Rattle.kept_nets.specs.Parts.{part_view};
+
+use crate::part::KeptPart;
+use net_classes::{NetClasses, net_classes_of};
+use net_lists::{NetList, NetShape, building_a_net};
+use part_classes::Counts;
+use std::alloc::{AllocError, Allocator};
+
+/// Puts shapes behind those of the last part of the last net of a list.
+fn put_shapes<A: Allocator + Copy>(
+    shapes: &[NetShape],
+    nets: &mut NetList<'_, A>,
+) -> Result<(), AllocError>
+    requires net { 0 < length nets.old }
+    requires part { 0 < length (last_parts nets.old) }
+    ensures ok { OnOk result (nets.new ≡ with_shapes (map shape_view shapes.now) nets.old) }
+    ensures net { OnOk result (0 < length nets.new) }
+{
+    for shape in shapes {
+        nets.push_shape(shape.layer, shape.rect)?;
+    }
+    Ok(())
+}
+
+/// Puts a part behind those of the last net of a list.
+fn put_part<A: Allocator + Copy>(
+    part: &KeptPart<A>,
+    nets: &mut NetList<'_, A>,
+) -> Result<(), AllocError>
+    requires { 0 < length nets.old }
+    ensures ok { OnOk result (nets.new ≡ with_parts (part_view part.now ∷ []) nets.old) }
+    ensures net { OnOk result (0 < length nets.new) }
+{
+    nets.begin_part(part.is_pin)?;
+    put_shapes(part.shapes.as_slice(), nets)
+}
+
+/// Puts parts behind those of the last net of a list.
+fn put_parts<A: Allocator + Copy>(
+    parts: &[KeptPart<A>],
+    nets: &mut NetList<'_, A>,
+) -> Result<(), AllocError>
+    requires { 0 < length nets.old }
+    ensures ok { OnOk result (nets.new ≡ with_parts (map part_view parts.now) nets.old) }
+{
+    for part in parts {
+        put_part(part, nets)?;
+    }
+    Ok(())
+}
+
+/// Puts the parts at some places behind those of the last net of a list.
+fn put_parts_at<A: Allocator + Copy>(
+    parts: &[KeptPart<A>],
+    places: &[usize],
+    nets: &mut NetList<'_, A>,
+) -> Result<(), AllocError>
+    requires { 0 < length nets.old }
+    ensures ok { OnOk result (nets.new ≡ with_parts (parts_at (map part_view parts.now) places.now) nets.old) }
+{
+    for place in places {
+        if let Some(part) = parts.get(*place) {
+            put_part(part, nets)?;
+        }
+    }
+    Ok(())
+}
+
+/// How the one net of a list hangs together.
+fn classes_in<A: Allocator + Copy>(
+    alloc: A,
+    nets: &NetList<'_, A>,
+) -> Result<NetClasses, AllocError>
+    ensures { (net : Net) → nets.now ≡ net ∷ [] → IfOk result (HangAs net.parts) }
+    ensures few { IfOk result (λ c. (c.counts.holding < 2 ^ 63) × (c.counts.bare < 2 ^ 63)) }
+{
+    let mut left = nets.nets();
+    match left.next() {
+        Some(net) => net_classes_of(alloc, &net),
+        None => Ok(NetClasses {
+            counts: Counts {
+                holding: 0,
+                bare: 0,
+            },
+            is_drawn: false,
+        }),
+    }
+}
+
+/// How parts hang together.
+pub(crate) fn classes_of_parts<A: Allocator + Copy>(
+    alloc: A,
+    parts: &[KeptPart<A>],
+) -> Result<NetClasses, AllocError>
+    ensures classes { IfOk result (HangAs (map part_view parts.now)) }
+    ensures few { IfOk result (λ c. (c.counts.holding < 2 ^ 63) × (c.counts.bare < 2 ^ 63)) }
+{
+    building_a_net();
+    let mut nets = NetList::new(alloc);
+    nets.begin_net(b"", false)?;
+    put_parts(parts, &mut nets)?;
+    classes_in(alloc, &nets)
+}
+
+/// How the parts at some places hang together by themselves.
+pub(crate) fn classes_at<A: Allocator + Copy>(
+    alloc: A,
+    parts: &[KeptPart<A>],
+    places: &[usize],
+) -> Result<NetClasses, AllocError>
+    ensures { IfOk result (HangAs (parts_at (map part_view parts.now) places.now)) }
+{
+    building_a_net();
+    let mut nets = NetList::new(alloc);
+    nets.begin_net(b"", false)?;
+    put_parts_at(parts, places, &mut nets)?;
+    classes_in(alloc, &nets)
+}
+
+/// The same with a part before them.
+pub(crate) fn classes_with<A: Allocator + Copy>(
+    alloc: A,
+    part: &KeptPart<A>,
+    parts: &[KeptPart<A>],
+    places: &[usize],
+) -> Result<NetClasses, AllocError>
+    ensures { IfOk result (HangAs (part_view part.now ∷ parts_at (map part_view parts.now) places.now)) }
+{
+    building_a_net();
+    let mut nets = NetList::new(alloc);
+    nets.begin_net(b"", false)?;
+    put_part(part, &mut nets)?;
+    put_parts_at(parts, places, &mut nets)?;
+    classes_in(alloc, &nets)
+}
