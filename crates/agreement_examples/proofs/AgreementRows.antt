@@ -1,12 +1,12 @@
 -- Worked rows of what the lines on a statement depend on, by computing.
-use Rattle.std.proofs.Common.{◌≡◌, List, ℕ, [], ◌∷◌, ◌++◌, Option, Some, None, Result, Ok, Err, refl, codes, flat_map, map}
+use Rattle.std.proofs.Common.{◌≡◌, true, false, List, ℕ, [], ◌∷◌, ◌++◌, Option, Some, None, Result, Ok, Err, refl, codes, flat_map, map}
 use Rattle.design_model.specs.declared.mode.Section.TheVariants.{Components}
 use Rattle.design_model.specs.EnumWords.{section_word}
 use Rattle.design_model.specs.declared.fault.Fault.{Fault}
 use Rattle.def_grammar.specs.Records.{Record, read_def}
 use Rattle.entry_rules.specs.References.{to_site}
 use Rattle.entry_examples.proofs.Computing.{def_lines}
-use Rattle.agreement_laws.specs.Agreement.{Shown, a_header, all_shown, an_end, an_entry, nothing, outline_of, references_of, vias_of}
+use Rattle.agreement_laws.specs.Agreement.{Shown, a_header, all_shown, an_end, an_entry, nothing, outline_of, references_of, refers_to, shown_but, vias_of}
 
 abbrev design_of : Result (List Record) Fault → List Record
 design_of (Ok design) = design
@@ -27,16 +27,34 @@ words_shown x = section_word x.section ∷ or_dash x.name ∷ or_dash x.cell ∷
 abbrev shown_in : List ℕ → List (List ℕ)
 shown_in statements = flat_map words_shown (all_shown (design statements))
 
--- vias and rules by their names, components by their macros, and a blockage by its section alone
+-- vias and rules by their names, components by their macros, and a blockage not at all
 definitions_shown : shown_in (codes "VIAS 1 ;\n- v + RECT met1 ( 0 0 ) ( 1 1 ) ;\nEND VIAS\nNONDEFAULTRULES 1 ;\n- w + LAYER met1 WIDTH 3 ;\nEND NONDEFAULTRULES\n")
     ≡ codes "VIAS" ∷ codes "v" ∷ codes "-" ∷ codes "-" ∷ codes "NONDEFAULTRULES" ∷ codes "w" ∷ codes "-" ∷ codes "w" ∷ []
 unfolding def_lines
 definitions_shown = refl
 
 entries_shown : shown_in (codes "COMPONENTS 2 ;\n- u2 INV + PLACED ( 5 0 ) N ;\n- u1 core ;\nEND COMPONENTS\nBLOCKAGES 1 ;\n- PLACEMENT RECT ( 0 0 ) ( 1 1 ) ;\nEND BLOCKAGES\nNETS 1 ;\n- n ( u1 A ) ;\nEND NETS\n")
-    ≡ codes "COMPONENTS" ∷ codes "u2" ∷ codes "INV" ∷ codes "-" ∷ codes "COMPONENTS" ∷ codes "u1" ∷ codes "core" ∷ codes "-" ∷ codes "BLOCKAGES" ∷ codes "-" ∷ codes "-" ∷ codes "-" ∷ codes "NETS" ∷ codes "n" ∷ codes "-" ∷ codes "-" ∷ []
+    ≡ codes "COMPONENTS" ∷ codes "u2" ∷ codes "INV" ∷ codes "-" ∷ codes "COMPONENTS" ∷ codes "u1" ∷ codes "core" ∷ codes "-" ∷ codes "NETS" ∷ codes "n" ∷ codes "-" ∷ codes "-" ∷ []
 unfolding def_lines
 entries_shown = refl
+
+-- entries without a name show nothing: of these statements the net n alone does
+nothing_shown : shown_in (codes "BLOCKAGES 2 ;\n- PLACEMENT RECT ( 0 0 ) ( 1 1 ) ;\n- LAYER met1 RECT ( 0 0 ) ( 1 1 ) ;\nEND BLOCKAGES\nFILLS 1 ;\n- LAYER met1 RECT ( 0 0 ) ( 1 1 ) ;\nEND FILLS\nNETS 2 ;\n- MUSTJOIN ( u1 A ) ;\n- n ( u1 A ) ;\nEND NETS\n")
+    ≡ codes "NETS" ∷ codes "n" ∷ codes "-" ∷ codes "-" ∷ []
+unfolding def_lines
+nothing_shown = refl
+
+-- what is shown but for the components of a name: a net of that name is
+shown_but_one : flat_map words_shown (shown_but (codes "u1") (design (codes "COMPONENTS 2 ;\n- u2 INV ;\n- u1 core ;\nEND COMPONENTS\nNETS 1 ;\n- u1 ( u1 A ) ;\nEND NETS\n")))
+    ≡ codes "COMPONENTS" ∷ codes "u2" ∷ codes "INV" ∷ codes "-" ∷ codes "NETS" ∷ codes "u1" ∷ codes "-" ∷ codes "-" ∷ []
+unfolding def_lines
+shown_but_one = refl
+
+-- a statement refers to a component by a terminal of it; not by its own name, by a pin of the design, or by a star
+refers_by_terminals : map (refers_to (codes "u1")) (design (codes "COMPONENTS 1 ;\n- u1 INV ;\nEND COMPONENTS\nNETS 3 ;\n- n ( u2 A ) ( u1 Z ) ;\n- u1 ( u2 B ) ( PIN u1 ) ;\n- m ( * u1 ) ;\nEND NETS\n"))
+    ≡ false ∷ false ∷ false ∷ false ∷ false ∷ true ∷ false ∷ false ∷ false ∷ false ∷ []
+unfolding def_lines
+refers_by_terminals = refl
 
 -- a component that is placed otherwise shows the same, and so does a net with other wires
 placed_otherwise : all_shown (design (codes "COMPONENTS 1 ;\n- u1 INV + PLACED ( 5 0 ) N ;\nEND COMPONENTS\nNETS 1 ;\n- n ( u1 A ) ;\nEND NETS\n"))

@@ -1,4 +1,5 @@
 pub mod AgreementRows
+pub mod CountRows
 pub mod PartRows
 pub mod PlaceRows
 pub mod StarRows

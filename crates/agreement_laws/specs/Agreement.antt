@@ -1,17 +1,21 @@
 -- What the lines on one statement depend on, besides the statement and the library.
-use Rattle.std.specs.Prelude.{◌≡◌, ℕ, List, [], Option, Some, None, flat_map, map}
-use Rattle.std.specs.List.{filter_map}
+use Rattle.std.specs.Prelude.{◌≡◌, ℕ, Bool, false, not, ◌&&◌, List, [], Option, Some, None, filter, flat_map, map}
+use Rattle.std.specs.List.{filter_map, list_any}
+use Rattle.std.specs.Str.{bytes_eq}
 use Rattle.def_grammar.specs.Nets.{is_net}
 use Rattle.def_grammar.specs.NetWires.{net_wires}
 use Rattle.def_grammar.specs.Records as records
 use Rattle.def_grammar.specs.DefVias.{DefVia}
 use Rattle.def_grammar.specs.Records.{Entry, Record, end_section, entry, entry_of, name_of, section_of, top}
+use Rattle.def_grammar.specs.Parts.{is_some}
 use Rattle.design_model.specs.declared.mode.Section.{Section}
+use Rattle.design_model.specs.declared.mode.Section.TheVariants.{Components}
+use Rattle.design_model.specs.EnumWords.{section_word}
 use Rattle.def_grammar.specs.SpecialWires.{special_net_wires}
 use Rattle.def_grammar.specs.Top.{header, row}
 use Rattle.def_grammar.specs.Wiring.{SpecialVia, SpecialWire, Wire, WireVia, via_of_item}
 use Rattle.entry_rules.specs.References.{Reference, entry_references, row_references, to_layer, to_macro, to_net, to_region, to_rule, to_site, to_terminal, to_via}
-use Rattle.entry_rules.specs.Unknown.{Known}
+use Rattle.entry_rules.specs.Unknown.{Known, is_same}
 use Rattle.entry_rules.specs.ViaLayers.{via_of_entry}
 
 -- the names in a statement that are defined elsewhere
@@ -66,8 +70,29 @@ pub record Shown : Type 0 where
 abbrev pub shown : Entry → Shown
 shown e = record { section = section_of e; name = name_of e; cell = cell_of_entry e; rule = rule_named_by e; via = via_of_entry e }
 
+-- entries without a name are seen by none
+abbrev pub is_named : Shown → Bool
+is_named x = is_some x.name
+
 abbrev pub all_shown : List Record → List Shown
-all_shown design = map shown (filter_map entry_of design)
+all_shown design = filter is_named (map shown (filter_map entry_of design))
+
+-- a reference names a component
+abbrev pub names_component : List ℕ → Reference → Bool
+names_component component (to_terminal owner _) = bytes_eq owner component
+names_component _ _ = false
+
+-- a statement does
+abbrev pub refers_to : List ℕ → Record → Bool
+refers_to component r = list_any (names_component component) (references_of r)
+
+-- what others see of the components of a name
+abbrev pub shows_component : List ℕ → Shown → Bool
+shows_component component x = bytes_eq (section_word x.section) (section_word Components) && is_same component x.name
+
+-- what they see of all entries but these
+abbrev pub shown_but : List ℕ → List Record → List Shown
+shown_but component design = filter (λ x. not (shows_component component x)) (all_shown design)
 
 -- what a statement is to the number in a header: a header with its number, an entry, the end of a section, or nothing
 pub data Outline : Type 0 where

@@ -1,5 +1,5 @@
 -- Laws of lines on which two designs agree.
-use Rattle.std.specs.Prelude.{◌≡◌, ℕ, List, ◌++◌, flat_map, map}
+use Rattle.std.specs.Prelude.{◌≡◌, ℕ, false, List, ◌++◌, filter, flat_map, map}
 use Rattle.std.specs.List.{AllByRecursion}
 use Rattle.def_grammar.specs.Records.{Record}
 use Rattle.design_rules.specs.CountLines.{count_lines}
@@ -9,7 +9,7 @@ use Rattle.entry_rules.specs.Unknown.{Known, known_by, unknown_lines_of}
 use Rattle.entry_rules.specs.ViaLayers.{via_layers}
 use Rattle.report_rules.specs.Diagnostics.{statement_lines}
 use Rattle.line_laws.specs.Lines.{SameLines}
-use Rattle.agreement_laws.specs.Agreement.{AgreeOn, all_shown, outline_of, references_of, vias_of}
+use Rattle.agreement_laws.specs.Agreement.{AgreeOn, all_shown, outline_of, references_of, refers_to, shown_but, vias_of}
 
 abbrev pub SameNamesSameLines : Type 0
 SameNamesSameLines = (a b : Known) (r : Record) → AllByRecursion (AgreeOn a b) (references_of r) → unknown_lines_of a r ≡ unknown_lines_of b r
@@ -36,6 +36,20 @@ StatementLinesFollow = (library : Library) (front out put behind : List Record) 
     all_shown design ≡ all_shown other
     → SameLines (flat_map (statement_lines library other) other ++ flat_map (statement_lines library design) out)
     (flat_map (statement_lines library design) design ++ flat_map (statement_lines library design) put)
+
+-- Two designs whose entries show the same, but for the components of one name, have the same lines on each statement that doesn't name
+-- that component.
+abbrev pub SameButOneSameLines : Type 0
+SameButOneSameLines = (library : Library) (design other : List Record) (component : List ℕ) (r : Record) → shown_but component design ≡ shown_but component other
+    → refers_to component r ≡ false → statement_lines library design r ≡ statement_lines library other r
+
+-- Where statements go out of such a design and others come in, the lines follow by these and by those that stay and name the component.
+abbrev pub LinesFollowOneComponent : Type 0
+LinesFollowOneComponent = (library : Library) (front out put behind : List Record) (component : List ℕ) → let design = front ++ (out ++ behind) in let other = front ++ (put ++ behind) in
+    let named = filter (refers_to component) (front ++ behind) in
+    shown_but component design ≡ shown_but component other
+    → SameLines (flat_map (statement_lines library other) other ++ flat_map (statement_lines library design) (out ++ named))
+    (flat_map (statement_lines library design) design ++ flat_map (statement_lines library other) (put ++ named))
 
 -- The lines on the numbers in headers depend on the outline of a design alone: an entry in the place of another leaves them.
 abbrev pub SameOutlineSameCounts : Type 0

@@ -1,11 +1,12 @@
 //! Laws of what the lines on one statement depend on: two designs that agree on it have the same lines there.
 //!
 //! Each law is an empty function that ensures it; call it to use it. What a statement's lines depend on, besides itself and the
-//! library, is what the names in it stand for: `references_of` and `vias_of` of `specs/Agreement`. An edit that leaves what entries
-//! show of themselves (`all_shown`) leaves the lines on all other statements.
+//! library, is what the names in it stand for: `references_of` and `vias_of` of `specs/Agreement`. An edit that leaves what named entries
+//! show of themselves (`all_shown`) leaves the lines on all other statements. One that leaves it but for the components of a name
+//! (`shown_but`) leaves them on all others that don't name such a component (`refers_to`).
 #![tactic(auto)]
 
-ghost use Rattle.agreement_laws.specs.Laws.{SameNamesSameLines, SameOutlineSameCounts, SameShownSameLines, SameStatementLines, SameViasSameLines, StatementLinesFollow};
+ghost use Rattle.agreement_laws.specs.Laws.{LinesFollowOneComponent, SameButOneSameLines, SameNamesSameLines, SameOutlineSameCounts, SameShownSameLines, SameStatementLines, SameViasSameLines, StatementLinesFollow};
 
 /// The lines on names that aren't defined depend on what is known of the names alone.
 pub fn same_names_same_lines()
@@ -30,6 +31,16 @@ pub fn same_shown_same_lines()
 /// The lines on single statements follow a change of statements that shows others the same.
 pub fn statement_lines_follow()
     ensures { StatementLinesFollow }
+{}
+
+/// Two designs that show others the same but for the components of one name have the same lines on a statement that names none of them.
+pub fn same_but_one_same_lines()
+    ensures { SameButOneSameLines }
+{}
+
+/// The lines on single statements follow a change of statements that shows others the same but for the components of one name.
+pub fn lines_follow_one_component()
+    ensures { LinesFollowOneComponent }
 {}
 
 /// The lines on the numbers in headers depend on the outline of a design alone.

@@ -1,0 +1,2 @@
+mod HeaderLines
+mod SectionCounts
