@@ -13,13 +13,14 @@ use crate::known_lines::KnownLines;
 use crate::measures::{follow_measures, tell_measures};
 use crate::nets::{follow_nets, note_nets};
 use crate::places::{component_of, follow_places, note_places};
-use crate::statements::follow_known;
+use crate::statements::{follow_known, tell_known};
 use cell_library::library::Library;
 use design_text::made::Made;
 use design_text::text::DesignText;
 use followed_measures::{FollowedMeasures, ToldMeasures};
 use followed_nets::{FollowedNets, TouchedNets};
 use followed_places::FollowedPlaces;
+use followed_statements::ToldStatements;
 use kept_lines::KeptLines;
 use std::alloc::{Allocator, Global};
 
@@ -45,6 +46,8 @@ impl<A: Allocator + Copy> Drop for Noted<A> {
 /// What an edit is about to change, as it is before it.
 #[derive(Drop)]
 pub(crate) struct Told<A: Allocator + Copy = Global> {
+    /// What lines on statements need to follow an edit of sections: `None` for others.
+    pub(crate) statements: Option<ToldStatements<A>>,
     /// The nets that it touches: `None` where lines on nets aren't to follow it.
     pub(crate) nets: Option<TouchedNets<A>>,
     /// What is measured of the net that it is of: `None` where measures aren't to follow it.
@@ -96,7 +99,11 @@ impl<A: Allocator + Copy> Noted<A> {
         note_places(alloc, library, text, is_wanted, known, &mut self.places);
         let nets = note_nets(alloc, library, text, change, known, &mut self.nets);
         let measures = tell_measures(alloc, library, text, change, &mut self.measures);
-        Told { nets, measures }
+        Told {
+            statements: tell_known(alloc, text, change, known),
+            nets,
+            measures,
+        }
     }
 
     /// Lets what is noted follow an edit that was made, and gives the lines that do; those that were known before it are so no longer.
@@ -116,7 +123,7 @@ impl<A: Allocator + Copy> Noted<A> {
         ensures noted { HasNoted library.now (records_in text.now) self.new }
         ensures known { (design : List Record) → AreKnown library.now design known.old → AreKnown library.now design known.new }
     {
-        let statements = follow_known(alloc, library, text, made, known);
+        let statements = follow_known(alloc, library, text, made, told.statements, known);
         let places = follow_places(alloc, library, text, made, &mut self.places, known);
         let nets = follow_nets(alloc, library, text, made, told.nets, &mut self.nets, known);
         follow_measures(

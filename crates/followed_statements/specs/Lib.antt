@@ -1,2 +1,4 @@
 pub mod Following
 pub mod Places
+pub mod Seen
+pub mod Telling

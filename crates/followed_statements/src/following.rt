@@ -6,10 +6,14 @@ ghost use Rattle.def_grammar.specs.Records.{Record};
 ghost use Rattle.design_text.specs.DesignTexts.{design_of};
 ghost use Rattle.design_text.specs.Exchanges.{AreExchanges, IsExchange, exchange_view, records_in};
 ghost use Rattle.followed_statements.specs.Following.{AreKeptBy, AreOnStatements, said};
+ghost use Rattle.followed_statements.specs.Telling.{AreHeadersTold};
 
+use crate::counts::lines_on_headers;
 use crate::lines::lines_under;
+use crate::seeing::{none_refers, shows_all_but};
 use crate::showing::shows_same;
-use agreement_laws::{same_outline_same_counts, same_shown_same_lines};
+use crate::telling::ToldStatements;
+use agreement_laws::{same_but_one_same_lines, same_outline_same_counts, same_shown_same_lines};
 use cell_library::library::Library;
 use design_text::made::{Exchange, Made};
 use design_text::text::DesignText;
@@ -60,9 +64,9 @@ fn follow_exchanges<A: Allocator + Copy>(
     Ok(Some(kept))
 }
 
-/// The lines on headers, on each statement by itself, and on the library after an edit, from those before it; `None` where they are to be
-/// made anew, since the text shows something else of its statements then.
-pub fn follow_statements<A: Allocator + Copy>(
+/// The lines on headers, on each statement by itself, and on the library after an edit that exchanges each statement for one that shows
+/// the same.
+fn follow_same<A: Allocator + Copy>(
     alloc: A,
     library: &Library<'_, A>,
     text: &DesignText<A>,
@@ -80,4 +84,54 @@ pub fn follow_statements<A: Allocator + Copy>(
         return Ok(None);
     }
     follow_exchanges(alloc, library, text, made, kept)
+}
+
+/// The same lines after an edit that changes sections, of which this was told before it.
+fn follow_told<A: Allocator + Copy>(
+    alloc: A,
+    library: &Library<'_, A>,
+    text: &DesignText<A>,
+    made: &Made<A>,
+    told: ToldStatements<A>,
+    kept: KeptLines<A>,
+) -> Result<Option<KeptLines<A>>, AllocError>
+    requires { (old : List (Number × Record)) × AreExchanges text.now.pieces.table.slots old made.now.exchanges (records_in text.now) × AreHeadersTold (said old) told × AreOnStatements library.now (said old) kept }
+    ensures { (old : List (Number × Record)) → AreExchanges text.now.pieces.table.slots old made.now.exchanges (records_in text.now) → AreHeadersTold (said old) told → AreOnStatements library.now (said old) kept
+        → IfOk result (λ found. IfSome found (AreOnStatements library.now (said (records_in text.now)))) }
+{
+    same_shown_same_lines();
+    same_but_one_same_lines();
+    text.statements_are_kept();
+    let component = told.component.as_ref().map(|name| name.bytes());
+    if !shows_all_but(alloc, text, made, component)? {
+        return Ok(None);
+    }
+    if !none_refers(alloc, text, component)? {
+        return Ok(None);
+    }
+    let headers = lines_on_headers(alloc, text)?;
+    let Some(kept) = kept.followed(told.headers, headers, MOST_MOVED)? else {
+        return Ok(None);
+    };
+    follow_exchanges(alloc, library, text, made, kept)
+}
+
+/// The lines on headers, on each statement by itself, and on the library after an edit, from those before it, of which something was told
+/// if the edit changes sections; `None` where they are to be made anew, since the text shows something else of its statements then.
+pub fn follow_statements<A: Allocator + Copy>(
+    alloc: A,
+    library: &Library<'_, A>,
+    text: &DesignText<A>,
+    made: &Made<A>,
+    told: Option<ToldStatements<A>>,
+    kept: KeptLines<A>,
+) -> Result<Option<KeptLines<A>>, AllocError>
+    requires { (old : List (Number × Record)) × AreExchanges text.now.pieces.table.slots old made.now.exchanges (records_in text.now) × IfSome told (AreHeadersTold (said old)) × AreOnStatements library.now (said old) kept }
+    ensures { (old : List (Number × Record)) → AreExchanges text.now.pieces.table.slots old made.now.exchanges (records_in text.now) → IfSome told (AreHeadersTold (said old)) → AreOnStatements library.now (said old) kept
+        → IfOk result (λ found. IfSome found (AreOnStatements library.now (said (records_in text.now)))) }
+{
+    match told {
+        Some(told) => follow_told(alloc, library, text, made, told, kept),
+        None => follow_same(alloc, library, text, made, kept),
+    }
 }

@@ -17,11 +17,11 @@ use std::alloc::{AllocError, Allocator};
 use wire_parts::nets::NetEntry;
 
 /// How many statements may be exchanged at once so that the lines on them follow.
-const MOST_STATEMENTS: usize = 256;
+pub(crate) const MOST_STATEMENTS: usize = 256;
 
 /// Whether others can see the same of two entries: their sections, their names, and the macro of a component. Of a via they see all, so
 /// two of these aren't compared, nor are entries of rare sections.
-fn entries_show_same(a: &Entry<'_>, b: &Entry<'_>) -> bool
+pub(crate) fn entries_show_same(a: &Entry<'_>, b: &Entry<'_>) -> bool
     ensures { IsTrue result → shown (entry_view a.now) ≡ shown (entry_view b.now) }
 {
     match (a, b) {

@@ -29,7 +29,7 @@ fn entries_before_end(records: &[Statement<'_>]) -> usize
 }
 
 /// Puts the line of a section whose header says another number than that of its entries.
-fn put_count<A: Allocator + Copy>(
+pub fn put_count<A: Allocator + Copy>(
     section: Section,
     said: i32,
     found: usize,
