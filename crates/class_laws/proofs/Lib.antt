@@ -1,0 +1,6 @@
+mod Differences
+mod FewTell
+mod JoinedPairs
+mod Marked
+mod SameParts
+mod WithOne
