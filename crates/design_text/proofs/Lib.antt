@@ -4,6 +4,7 @@ mod EntryPlaces
 mod FewMade
 mod FoundNumbers
 mod FoundStatements
+mod HeaderNumbers
 mod KeptDesigns
 pub mod KeptExchanges
 mod KeptKeys

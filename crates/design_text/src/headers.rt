@@ -5,7 +5,9 @@ ghost use Rattle.std.specs.Option.{option_map};
 ghost use Rattle.count_laws.specs.Counts.{header_number};
 ghost use Rattle.edit_rules.specs.SectionEdits.{entries_in};
 ghost use Rattle.lefdef_tokens.specs.Views.{word_view};
+ghost use Rattle.def_reader.specs.StatementViews.{record_view};
 ghost use Rattle.design_text.specs.DesignTexts.{design_of};
+ghost use Rattle.design_text.specs.Headers.{number_in};
 
 use crate::text::DesignText;
 use def_reader::statement::Statement;
@@ -13,7 +15,9 @@ use design_model::mode::Section;
 use std::alloc::Allocator;
 
 /// The number in a header, as it is written.
-fn number_of<'t>(statement: &Statement<'t>) -> Option<&'t [u8]> {
+fn number_of<'t>(statement: &Statement<'t>) -> Option<&'t [u8]>
+    ensures { option_map word_view result ≡ number_in (record_view statement.now) }
+{
     match statement {
         Statement::Header(_, number) => Some(number.bytes),
         _ => None,
