@@ -7,4 +7,4 @@ use Rattle.edit_session.proofs.statements.follow_known.Goals as goal
 pub follow_statements-requires : goal.follow_statements-requires
 follow_statements-requires g c =
     let before = records_in c.requires.0 in
-    (before, c.requires.1, of_some (AreOnStatements c.args.library.now (said before)) _ _ c.in_ok-kept.ensures.value c.requires.2.statements)
+    (before, c.requires.1, c.requires.2, of_some (AreOnStatements c.args.library.now (said before)) _ _ c.in_ok-kept.ensures.value c.requires.3.statements)
