@@ -1,8 +1,9 @@
 -- The shapes of the nets of a list, gathered net by net.
-use Rattle.std.proofs.Common.{◌≡◌, ◌∙◌, ℕ, not, List, [], ◌∷◌, ◌++◌, length, map, Some, refl, sym, ap, ap₂, append_assoc, sum_by, slice_get}
+use Rattle.std.proofs.Common.{◌≡◌, ◌∙◌, ℕ, not, List, [], ◌∷◌, ◌++◌, length, map, Some, refl, sym, ap, ap₂, append_assoc, arith, sum_by, slice_get}
 use Rattle.std.specs.Prelude.{flat_map}
 use Rattle.std.proofs.lemmas.List.{append-nil, map-append}
 use Rattle.std.proofs.lemmas.List.Elements.{filter_map-append}
+use Rattle.std.proofs.lemmas.List.Sums.{sum_by-append}
 use Rattle.lef_grammar.specs.Measures.{Shape}
 use Rattle.line_laws.specs.Lines.{SameThings}
 use Rattle.connection_rules.specs.NetLines as net_lines
@@ -15,9 +16,13 @@ use Rattle.net_lists.specs.declared.net_view.NetView.{NetView}
 use Rattle.net_lists.specs.declared.parts.NetShape.{NetShape}
 use Rattle.net_lists.proofs.ShapeLemmas.{shapes_in, shapes_in_parts}
 use Rattle.shape_index.specs.declared.shape.Shape.{Shape as Stored}
-use Rattle.named_shapes.specs.Named.{HaveNames, by_name, named, named_by, named_shapes, placed_shape, shapes_by_name, stored}
+use Rattle.placed_shapes.specs.Placed.{placed_shape, stored}
+use Rattle.named_shapes.specs.Named.{HaveNames, by_name, named, named_by, named_shapes, shapes_by_name}
 use Rattle.named_shapes.proofs.NamedLists.{have_as, have_more, have_with_more, more_names, named_as, with_name}
-use Rattle.named_shapes.proofs.PlacedLists.{turned}
+
+-- two lists, whichever comes first
+turned : {A : Type 0} (xs ys : List A) → SameThings (xs ++ ys) (ys ++ xs)
+turned xs ys = record { sums = λ w. omega (arith, sum_by-append w xs ys, sum_by-append w ys xs) }
 
 -- of some nets these are the shapes but for those of the nets that are left
 pub record Gathered (names : List (List ℕ)) (shapes : List Stored) (left all : List Net) : Type 0 where

@@ -1,5 +1,4 @@
 mod Gathered
 mod NamedLists
 mod NearShapes
-mod PlacedLists
 mod ShortSteps

@@ -17,7 +17,8 @@ use Rattle.net_lists.specs.PartCuts.{shape_view}
 use Rattle.net_lists.specs.declared.parts.NetShape as code
 use Rattle.net_queries.specs.OwnedShapes.{net_shape_of, net_shapes_of, owned_by}
 use Rattle.shape_index.specs.declared.shape.Shape.{Shape as Stored}
-use Rattle.named_shapes.specs.Named.{HaveNames, named, named_by, named_shapes, owned_at, owner_in, placed_shape, placed_shapes}
+use Rattle.placed_shapes.specs.Placed.{at_place, placed_shape, placed_shapes}
+use Rattle.named_shapes.specs.Named.{HaveNames, named, named_by, named_shapes, owned_at, owner_in}
 
 -- what is found at the place of a name, counted from a number on
 abbrev IsPlaceFrom : List ℕ → List (List ℕ) → ℕ → ℕ → Type 0
@@ -90,9 +91,6 @@ without names p = cond (not (nat_lt p.0 (length names))) 1 0
 pub have_as : (names : List (List ℕ)) (ps qs : List (ℕ × Shape)) → SameThings ps qs → HaveNames names qs → HaveNames names ps
 have_as names ps qs h o = record { none_without = h.sums (without names) ∙ o.none_without }
 
-pub have_parts : (names : List (List ℕ)) (ps qs : List (ℕ × Shape)) → HaveNames names (ps ++ qs) → HaveNames names qs
-have_parts names ps qs o = record { none_without = let all = o.none_without in omega (arith, all, sum_by-append (without names) ps qs) }
-
 has_place : {A : Type 0} (xs : List A) (n : ℕ) (x : A) → slice_get xs n ≡ Some x → nat_lt n (length xs) ≡ true
 has_place xs n x h = let below = slice_get_within xs n x h in grind (arith, below)
 
@@ -145,34 +143,30 @@ have_with_more names more (p ∷ ps) o =
     let here = one_with (names ++ more) p below in
     record { none_without = omega (arith, here, rest, sum_by-cons (without (names ++ more)) p ps) }
 
-alike : (place : ℕ) (ss : List code.NetShape) → map {B = ℕ × Shape} (λ (s : code.NetShape). (place, shape_view s)) ss ≡ map {B = ℕ × Shape} (λ (s : Shape). (place, s)) (map shape_view ss)
+alike : (place : ℕ) (ss : List code.NetShape) → at_place place ss ≡ map {B = ℕ × Shape} (λ (s : Shape). (place, s)) (map shape_view ss)
 alike place [] = refl
 alike place (s ∷ ss) = ap (λ (ps : List (ℕ × Shape)). (place, shape_view s) ∷ ps) (alike place ss)
 
 -- shapes of one net that are taken out or put in
 pub apart : (names : List (List ℕ)) (place : ℕ) (net : List ℕ) (shapes : List code.NetShape) (all rest : List (ℕ × Shape)) → slice_get names place ≡ Some net
-    → SameThings all (map {B = ℕ × Shape} (λ (s : code.NetShape). (place, shape_view s)) shapes ++ rest) → SameThings (named_shapes names all) (map (named net) (map shape_view shapes) ++ named_shapes names rest)
+    → SameThings all (at_place place shapes ++ rest) → SameThings (named_shapes names all) (map (named net) (map shape_view shapes) ++ named_shapes names rest)
 apart names place net shapes all rest at h =
-    let same = named_as names all (map {B = ℕ × Shape} (λ (s : code.NetShape). (place, shape_view s)) shapes ++ rest) h in
+    let same = named_as names all (at_place place shapes ++ rest) h in
     subst (λ (ss : List NetShape). SameThings (named_shapes names all) ss) (ap (λ (ps : List (ℕ × Shape)). named_shapes names (ps ++ rest)) (alike place shapes) ∙ with_name names place net at (map shape_view shapes) rest) same
 
-pub have_less : (names : List (List ℕ)) (p : ℕ × Shape) (all rest : List (ℕ × Shape)) → SameThings all (p ∷ rest) → HaveNames names all → HaveNames names rest
-have_less names p all rest h o = record {
-  none_without = let same = h.sums (without names) in let zero = o.none_without in omega (arith, same, zero, sum_by-cons (without names) p rest);
+-- where some shapes are taken out, or some of one net are put in, each place still has a name
+pub have_left : (names : List (List ℕ)) (gone all rest : List (ℕ × Shape)) → SameThings all (gone ++ rest) → HaveNames names all → HaveNames names rest
+have_left names gone all rest h o = record {
+  none_without = let same = h.sums (without names) in let zero = o.none_without in omega (arith, same, zero, sum_by-append (without names) gone rest);
 }
 
-pub have_one : (names : List (List ℕ)) (net : List ℕ) (p : ℕ × Shape) (all rest : List (ℕ × Shape)) → slice_get names p.0 ≡ Some net → SameThings all (p ∷ rest) → HaveNames names rest → HaveNames names all
-have_one names net p all rest at h o = record {
-  none_without =
-      let same = h.sums (without names) in
-      let zero = o.none_without in
-      let one = one_with names p (has_place names p.0 net at) in
-      omega (arith, same, zero, one, sum_by-cons (without names) p rest);
-}
+pub have_put : (names : List (List ℕ)) (place : ℕ) (net : List ℕ) (shapes : List code.NetShape) (all rest : List (ℕ × Shape)) → slice_get names place ≡ Some net → SameThings all (at_place place shapes ++ rest)
+    → HaveNames names rest → HaveNames names all
+have_put names place net shapes all rest at h o = have_as names all (at_place place shapes ++ rest) h (rw (alike place shapes) (have_more names place net (map shape_view shapes) rest at o))
 
 -- shapes that are put in, under a name that may be new
 pub put_in : {A E : Type 0} (r : Result A E) (names more new : List (List ℕ)) (place : ℕ) (net : List ℕ) (shapes : List code.NetShape) (old all : List (ℕ × Shape)) (view : List NetShape) → view ≡ named_shapes names old → HaveNames names old
-    → new ≡ names ++ more → slice_get new place ≡ Some net → OnOk r (SameThings all (map {B = ℕ × Shape} (λ (s : code.NetShape). (place, shape_view s)) shapes ++ old))
+    → new ≡ names ++ more → slice_get new place ≡ Some net → OnOk r (SameThings all (at_place place shapes ++ old))
     → OnOk r (SameThings (named_shapes new all) (map (named net) (map shape_view shapes) ++ view))
 put_in (Ok x) names more new place net shapes old all view is have grown at h =
     let same : named_shapes new old ≡ view = ap (λ (ns : List (List ℕ)). named_shapes ns old) grown ∙ more_names names more old have ∙ sym is in

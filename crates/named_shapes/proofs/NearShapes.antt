@@ -12,7 +12,8 @@ use Rattle.net_lists.specs.declared.parts.NetShape.{NetShape}
 use Rattle.shape_index.specs.Near.{near_shape, near_shapes}
 use Rattle.shape_index.specs.Tiles.{near_count}
 use Rattle.shape_index.specs.declared.shape.Shape.{Shape as Stored}
-use Rattle.named_shapes.specs.Named.{HaveNames, named, named_by, named_shapes, placed_shape, placed_shapes}
+use Rattle.placed_shapes.specs.Placed.{placed_shape, placed_shapes}
+use Rattle.named_shapes.specs.Named.{HaveNames, named, named_by, named_shapes}
 use Rattle.named_shapes.proofs.NamedLists.{first_has}
 
 place_has : (names : List (List ℕ)) (n : ℕ) → nat_lt n (length names) ≡ true → (net : List ℕ) × (slice_get names n ≡ Some net)

@@ -32,11 +32,11 @@ impl<A: Allocator + Copy> PlacedShapes<A> {
     ) -> Result<Vec<usize, A>, AllocError>
         ensures { IfOk result (λ v. SameThings v.items (places.items ++ touched_by self.now (shape_view shape.now))) }
     {
-        let (found, _) =
-            self.tiles()
-                .for_met(shape.layer, shape.rect, Ok(places), |places, _, met| {
-                    push_place(places, met)
-                });
+        let (found, _) = self
+            .tiles()
+            .for_met(shape.layer, shape.rect, Ok(places), |places, _, met| {
+                push_place(places, met)
+            });
         found
     }
 

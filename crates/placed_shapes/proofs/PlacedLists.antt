@@ -1,7 +1,7 @@
--- Shapes of a set under the places of their nets' names, without their order.
-use Rattle.std.proofs.Common.{◌≡◌, ◌∙◌, ◌<◌, ◌+◌, ℕ, List, [], ◌∷◌, ◌++◌, Option, Some, None, refl, sym, ap, arith, drop, get_or, length, map, subst, sum_by}
+-- Shapes of a set under the places of their owners, without their order.
+use Rattle.std.proofs.Common.{◌≡◌, ◌∙◌, ◌<◌, ◌≤◌, ◌+◌, ℕ, List, [], ◌∷◌, ◌++◌, Option, Some, None, refl, sym, ap, arith, get_or, length, map, sum_by, take}
 use Rattle.std.specs.Prelude.{IfSome}
-use Rattle.std.proofs.lemmas.List.{drop_more}
+use Rattle.std.proofs.lemmas.List.{map_more, take_all}
 use Rattle.std.proofs.lemmas.List.Sums.{sum_by-append, sum_by-cons}
 use Rattle.design_model.specs.declared.identifier.ShapeId.{ShapeId}
 use Rattle.lef_grammar.specs.Measures.{Shape}
@@ -11,7 +11,7 @@ use Rattle.net_lists.specs.PartCuts.{shape_view}
 use Rattle.net_lists.specs.declared.parts.NetShape.{NetShape}
 use Rattle.shape_index.specs.declared.shape.Shape.{Shape as Stored}
 use Rattle.shape_index.specs.Shapes.{AreSame, at}
-use Rattle.named_shapes.specs.Named.{placed_shape, placed_shapes, stored}
+use Rattle.placed_shapes.specs.Placed.{at_place, placed_shape, placed_shapes, stored}
 
 abbrev Entry : Type 0
 Entry = ShapeId × Stored
@@ -51,33 +51,33 @@ pub one_more : (place : ℕ) (shape : NetShape) (old roomy new : List Entry) (id
     → SameThings (placed_shapes new) ((place, shape_view shape) ∷ placed_shapes old)
 one_more place shape old roomy new id x is same h = placed_as new ((id, stored place shape) ∷ old) (rw (is, same) at h)
 
--- one after the other
-taken : {A : Type 0} (x : A) (rest old all now new : List A) → SameThings ((x ∷ rest) ++ old) (all ++ now) → SameThings now (x ∷ new) → SameThings (rest ++ old) (all ++ new)
-taken x rest old all now new h k = record {
-  sums = λ w.
-      let a = h.sums w in
-      let b = k.sums w in
-      omega (arith, a, b, sum_by-append w (x ∷ rest) old, sum_by-append w rest old, sum_by-append w all now, sum_by-append w all new, sum_by-cons w x rest, sum_by-cons w x new);
-}
+-- shapes of one owner, one after the other
+sum_taken : {A B : Type 0} (w : B → ℕ) (f : A → B) (xs : List A) (i : ℕ) (x : A) → i < length xs → x ≡ get_or xs i x → sum_by w (map f (take (i + 1) xs)) ≡ sum_by w (map f (take i xs)) + w (f x)
+sum_taken w f xs i x below is =
+    let more : map f (take (i + 1) xs) ≡ map f (take i xs) ++ f x ∷ [] = map_more f xs i x below ∙ ap (λ y. map f (take i xs) ++ f y ∷ []) (sym is) in
+    ap (sum_by w) more ∙ omega (arith, sum_by-append w (map f (take i xs)) (f x ∷ []), sum_by-cons w (f x) [])
 
-put : {A : Type 0} (x : A) (rest old all now new : List A) → SameThings ((x ∷ rest) ++ now) (all ++ old) → SameThings new (x ∷ now) → SameThings (rest ++ new) (all ++ old)
-put x rest old all now new h k = record {
-  sums = λ w.
-      let a = h.sums w in
-      let b = k.sums w in
-      omega (arith, a, b, sum_by-append w (x ∷ rest) now, sum_by-append w rest new, sum_by-append w all old, sum_by-cons w x rest, sum_by-cons w x now);
-}
+module _ (place : ℕ) (shapes : List NetShape) (i : ℕ) (x : NetShape) where
+  pub next_taken : (old now new : List (ℕ × Shape)) → i < length shapes → x ≡ get_or shapes i x → SameThings old (at_place place (take i shapes) ++ now) → SameThings now ((place, shape_view x) ∷ new)
+      → SameThings old (at_place place (take (i + 1) shapes) ++ new)
+  next_taken old now new below is h k = record {
+    sums = λ w.
+        let a = h.sums w in
+        let b = k.sums w in
+        let one = sum_taken w (λ (s : NetShape). (place, shape_view s)) shapes i x below is in
+        omega (arith, a, b, one, sum_by-append w (at_place place (take i shapes)) now, sum_by-append w (at_place place (take (i + 1) shapes)) new, sum_by-cons w (place, shape_view x) new);
+  }
 
-module _ {A B : Type 0} (f : A → B) (xs : List A) (i : ℕ) (x : A) (below : i < length xs) (is : x ≡ get_or xs i x) where
-  left : drop i xs ≡ x ∷ drop (i + 1) xs
-  left = drop_more xs i x below ∙ ap (λ y. y ∷ drop (i + 1) xs) (sym is)
+  pub next_put : (old now new : List (ℕ × Shape)) → i < length shapes → x ≡ get_or shapes i x → SameThings now (at_place place (take i shapes) ++ old) → SameThings new ((place, shape_view x) ∷ now)
+      → SameThings new (at_place place (take (i + 1) shapes) ++ old)
+  next_put old now new below is h k = record {
+    sums = λ w.
+        let a = h.sums w in
+        let b = k.sums w in
+        let one = sum_taken w (λ (s : NetShape). (place, shape_view s)) shapes i x below is in
+        omega (arith, a, b, one, sum_by-append w (at_place place (take i shapes)) old, sum_by-append w (at_place place (take (i + 1) shapes)) old, sum_by-cons w (place, shape_view x) now);
+  }
 
-  pub taken_at : (old all now new : List B) → SameThings (map f (drop i xs) ++ old) (all ++ now) → SameThings now (f x ∷ new) → SameThings (map f (drop (i + 1) xs) ++ old) (all ++ new)
-  taken_at old all now new h k = taken (f x) (map f (drop (i + 1) xs)) old all now new (subst (λ l. SameThings (map f l ++ old) (all ++ now)) left h) k
-
-  pub put_at : (old all now new : List B) → SameThings (map f (drop i xs) ++ now) (all ++ old) → SameThings new (f x ∷ now) → SameThings (map f (drop (i + 1) xs) ++ new) (all ++ old)
-  put_at old all now new h k = put (f x) (map f (drop (i + 1) xs)) old all now new (subst (λ l. SameThings (map f l ++ now) (all ++ old)) left h) k
-
--- two lists, whichever comes first
-pub turned : {A : Type 0} (xs ys : List A) → SameThings (xs ++ ys) (ys ++ xs)
-turned xs ys = record { sums = λ w. omega (arith, sum_by-append w xs ys, sum_by-append w ys xs) }
+-- at the end all of them
+pub all_of : (place : ℕ) (shapes : List NetShape) (i : ℕ) (all rest : List (ℕ × Shape)) → length shapes ≤ i → SameThings all (at_place place (take i shapes) ++ rest) → SameThings all (at_place place shapes ++ rest)
+all_of place shapes i all rest past h = rw (take_all i shapes past) at h

@@ -1,0 +1,2 @@
+mod PlacedLists
+mod TouchedLists
