@@ -1,1 +1,2 @@
 pub mod NetLemmas
+mod PinLemmas

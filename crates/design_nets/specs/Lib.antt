@@ -1,1 +1,2 @@
 pub mod NetGroups
+pub mod PinsAlone

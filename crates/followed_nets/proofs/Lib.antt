@@ -11,6 +11,7 @@ mod PartedNets
 mod PieceLemmas
 mod PiecesLeft
 mod PinPieces
+mod PinsAlone
 mod SameParts
 mod ShortLines
 mod StarsLeft

@@ -19,10 +19,11 @@ use def_reader::statement::Statement;
 use design_model::identifier::StmtId;
 use design_model::mode::Section;
 use design_names::names::names_of;
+use design_nets::pins_of_nets;
 use design_text::text::DesignText;
+use design_wires::wires::DesignWires;
 use kept_nets::{KeptPart, pins_of};
 use line_laws::scales::scales_are_good;
-use net_checks::NetDrawing;
 use net_laws::one_component_is_told;
 use net_lists::NetList;
 use std::alloc::{AllocError, Allocator};
@@ -90,8 +91,9 @@ fn pins_by<A: Allocator + Copy>(
 {
     one_component_is_told();
     let names = names_of(alloc, library.hash_builder(), statements)?;
-    let drawing = NetDrawing::new(alloc, library, &names)?;
-    first_pins(alloc, drawing.nets())
+    let wires = DesignWires::new(alloc, library, &names)?;
+    let nets = pins_of_nets(alloc, library, &names, &wires)?;
+    first_pins(alloc, &nets)
 }
 
 /// The pins of a net of a text by a component, unless the net has no entry, or one in each section.
