@@ -9,6 +9,6 @@ returns g c = λ design net component tell.
     let library = c.args.library.now in
     let some = map record_view c.args.statements.now in
     let told = c.one_component_is_told.ensures library some design net component tell in
-    let one : c.in_ok-nets.nets ≡ pins_alone told.told ∷ [] = rw (c.in_ok-names.ensures) at c.in_ok-nets.ensures ∙ ap (map pins_alone) told.nets in
+    let one : c.in_ok-nets.nets ≡ pins_alone told.told ∷ [] = (rw (c.in_ok-names.ensures) at c.in_ok-nets.ensures) ∙ ap (map pins_alone) told.nets in
     let pins = c.first_pins.ensures (pins_alone told.told) one in
     rw (← told.pins, ← only_pins told.told.parts) pins
