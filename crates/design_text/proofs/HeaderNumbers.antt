@@ -28,5 +28,5 @@ first_has s ((ps, entry e) ∷ xs) = first_has s xs
 
 pub number_is : (s : Section) (c : Content) (design : List Record) → IsNumbered c design → number_found (first_where (is_header s) (located (text_of c) design)) ≡ header_number s design
 number_is s c design k =
-    ap (λ (xs : List (List Token × Record)). number_found (first_where (is_header s) xs)) (sym k.located)
+    ap (λ (xs : List (List Token × Record)). number_found (first_where (is_header s) xs)) k.located
     ∙ (sym (first_has s (statements_of (text_of c))) ∙ ap (header_number s) k.said)

@@ -1,1 +1,7 @@
+mod Hanging
+mod Known
+mod NearParts
+mod PartsAt
+mod PlacedParts
+mod Sums
 mod Taken

@@ -30,6 +30,6 @@ swapped f xs i x y below at is = record {
       sym same ∙ ap (λ z. sum_by w (z ∷ map f (swap_remove xs i x))) is;
 }
 
--- parts that are put behind others
-pub put_behind : {A : Type 0} (old more : List A) → SameThings (old ++ more) (more ++ old)
-put_behind old more = record { sums = λ w. omega (arith, sum_by-append w old more, sum_by-append w more old) }
+-- the same, of one that is like another
+pub swapped_like : {A B : Type 0} (f : A → B) (xs new : List A) (i : ℕ) (x : A) (y : B) → (i < length xs) × ((d : A) → f (get_or xs i d) ≡ y) → x ≡ get_or xs i x → new ≡ swap_remove xs i x → SameThings (map f xs) (y ∷ map f new)
+swapped_like f xs new i x y found at left = rw (left) (swapped f xs i x y found.0 at (ap f at ∙ found.1 x))

@@ -1,6 +1,6 @@
 //! How parts hang together once a pin is put to them, or taken from them.
 
-ghost use Rattle.std.specs.Prelude.{◌∷◌, IfSome, List};
+ghost use Rattle.std.specs.Prelude.{◌≡◌, ◌∷◌, IfSome, List};
 ghost use Rattle.connection_rules.specs.NetParts.{Part};
 ghost use Rattle.kept_nets.specs.Joints.{HangsBy};
 ghost use Rattle.kept_nets.specs.Kept.{HangAs};
@@ -28,10 +28,10 @@ fn with_holding(classes: NetClasses, holding: usize) -> NetClasses
 pub(crate) fn with_pin(classes: Option<NetClasses>, joint: Joint) -> Option<NetClasses>
     ensures { (p : Part) (ps : List Part) → HangsBy joint p ps → IfSome classes (HangAs ps) → IfSome result (HangAs (p ∷ ps)) }
 {
-    let classes = classes?;
+    let without = classes?;
     match joint {
-        Joint::Alone => Some(with_holding(classes, classes.counts.holding.checked_add(1)?)),
-        Joint::Within => Some(classes),
+        Joint::Alone => Some(with_holding(without, without.counts.holding.checked_add(1)?)),
+        Joint::Within => Some(without),
         Joint::Open => None,
     }
 }
@@ -40,10 +40,10 @@ pub(crate) fn with_pin(classes: Option<NetClasses>, joint: Joint) -> Option<NetC
 pub(crate) fn without_pin(classes: Option<NetClasses>, joint: Joint) -> Option<NetClasses>
     ensures { (p : Part) (ps : List Part) → HangsBy joint p ps → IfSome classes (HangAs (p ∷ ps)) → IfSome result (HangAs ps) }
 {
-    let classes = classes?;
+    let with = classes?;
     match joint {
-        Joint::Alone => Some(with_holding(classes, classes.counts.holding.checked_sub(1)?)),
-        Joint::Within => Some(classes),
+        Joint::Alone => Some(with_holding(with, with.counts.holding.checked_sub(1)?)),
+        Joint::Within => Some(with),
         Joint::Open => None,
     }
 }

@@ -51,12 +51,11 @@ fn touching_pin<A: Allocator + Copy>(
 ) -> Option<usize> {
     let mut pin = None;
     for shape in own {
-        let (found, _) =
-            shapes
-                .tiles()
-                .for_met(shape.layer, shape.rect, pin, |pin, _, met| {
-                    pin_or(parts, met.net, pin)
-                });
+        let (found, _) = shapes
+            .tiles()
+            .for_met(shape.layer, shape.rect, pin, |pin, _, met| {
+                pin_or(parts, met.net, pin)
+            });
         pin = found;
     }
     pin

@@ -1,6 +1,6 @@
 //! Parts as a net of a list.
 
-ghost use Rattle.std.specs.Prelude.{◌≡◌, ◌<◌, ◌∷◌, ◌++◌, [], IfOk, List, OnOk, length, map};
+ghost use Rattle.std.specs.Prelude.{◌≡◌, ◌<◌, ◌^◌, ◌∷◌, ◌++◌, [], IfOk, List, OnOk, length, map};
 ghost use Rattle.connection_rules.specs.NetParts.{Net};
 ghost use Rattle.connection_rules.specs.PartClasses.{with_pins, without_pins};
 ghost use Rattle.net_lists.specs.Building.{last_parts, with_parts, with_shapes};
@@ -80,7 +80,7 @@ fn classes_in<A: Allocator + Copy>(
     alloc: A,
     nets: &NetList<'_, A>,
 ) -> Result<NetClasses, AllocError>
-    ensures { (net : Net) → nets.now ≡ net ∷ [] → IfOk result (HangAs net.parts) }
+    ensures classes { (net : Net) → nets.now ≡ net ∷ [] → IfOk result (HangAs net.parts) }
     ensures few { IfOk result (λ c. (c.counts.holding < 2 ^ 63) × (c.counts.bare < 2 ^ 63)) }
 {
     let mut left = nets.nets();

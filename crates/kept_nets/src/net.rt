@@ -102,11 +102,12 @@ impl<A: Allocator + Copy> KeptNet<A> {
         let Some(shapes) = shapes else {
             return Ok(true);
         };
-        if let Some(shapes) = without_part(shapes, place, &gone, &self.parts)? {
-            let joint = joint_of(alloc, &gone, &self.parts, &shapes)?;
-            self.classes = without_pin(classes, joint);
-            self.shapes = Some(shapes);
-        }
+        let Some(shapes) = without_part(shapes, place, &gone, &self.parts)? else {
+            return Ok(true);
+        };
+        let joint = joint_of(alloc, &gone, &self.parts, &shapes)?;
+        self.classes = without_pin(classes, joint);
+        self.shapes = Some(shapes);
         Ok(true)
     }
 
@@ -134,7 +135,8 @@ impl<A: Allocator + Copy> KeptNet<A> {
         let alloc = *self.parts.allocator();
         let classes = self.classes.take();
         let Some(shapes) = self.shapes.take() else {
-            return self.parts.push(part);
+            self.parts.push(part)?;
+            return Ok(());
         };
         let joint = joint_of(alloc, &part, &self.parts, &shapes)?;
         let shapes = with_last(shapes, self.parts.len(), &part)?;

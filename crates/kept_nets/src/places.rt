@@ -52,12 +52,13 @@ pub(crate) fn without_part<A: Allocator + Copy>(
     if !shapes.remove(place, gone.shapes.as_slice()) {
         return Ok(None);
     }
-    if let Some(moved) = parts.get(place) {
-        if !shapes.remove(parts.len(), moved.shapes.as_slice()) {
-            return Ok(None);
-        }
-        shapes.insert(place, moved.shapes.as_slice())?;
+    let Some(moved) = parts.get(place) else {
+        return Ok(Some(shapes));
+    };
+    if !shapes.remove(parts.len(), moved.shapes.as_slice()) {
+        return Ok(None);
     }
+    shapes.insert(place, moved.shapes.as_slice())?;
     Ok(Some(shapes))
 }
 

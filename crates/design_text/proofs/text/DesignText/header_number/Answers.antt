@@ -5,7 +5,7 @@ use Rattle.design_text.specs.DesignTexts.{Content, design_of, numbers_of}
 use Rattle.design_text.proofs.FoundStatements.{found_is, none_is}
 use Rattle.design_text.proofs.HeaderNumbers.{number_found, number_is}
 use Rattle.design_text.proofs.KeptKeys.{headers_once}
-use Rattle.design_text.proofs.headers.DesignText.header_number.Goals as goal
+use Rattle.design_text.proofs.text.DesignText.header_number.Goals as goal
 
 pub returns-in_err-id : goal.returns-in_err-id
 returns-in_err-id g c =

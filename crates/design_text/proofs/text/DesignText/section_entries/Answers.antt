@@ -3,7 +3,7 @@ use Rattle.std.specs.List.{zip}
 use Rattle.design_text.specs.DesignTexts.{Content, design_of, numbers_of, text_of}
 use Rattle.design_text.proofs.EntryLists.{counted, few_in_text}
 use Rattle.design_text.proofs.FoundStatements.{many_are}
-use Rattle.design_text.proofs.headers.DesignText.section_entries.Goals as goal
+use Rattle.design_text.proofs.text.DesignText.section_entries.Goals as goal
 
 pub returns-clause-count : goal.returns-clause-count
 returns-clause-count g c =
