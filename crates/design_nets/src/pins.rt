@@ -33,7 +33,8 @@ fn put_pins_alone<'v, 'a, 'l: 'a, 'r: 'a, 't: 'a, A: Allocator + Copy>(
 {
     building_a_net();
     nets.begin_net(name, is_power)?;
-    pins.put_pins(name, entries, walk, nets)
+    pins.put_pins(name, entries, walk, nets)?;
+    Ok(())
 }
 
 /// The nets of a design with their pins alone, in the order in which their names come first: what their entries draw isn't gone over.
