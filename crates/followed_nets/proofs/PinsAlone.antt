@@ -11,7 +11,7 @@ only_pins (p ∷ ps) = elim (cases_Bool p.is_pin) [
       let first : pins_in (p ∷ ps) ≡ p ∷ pins_in ps = ap (λ (b : Bool). if b then p ∷ pins_in ps else pins_in ps) is in
       let again : pins_in (p ∷ pins_in ps) ≡ p ∷ pins_in (pins_in ps) = ap (λ (b : Bool). if b then p ∷ pins_in (pins_in ps) else pins_in (pins_in ps)) is in
       ap pins_in first ∙ (again ∙ (ap (λ (l : List Part). p ∷ l) (only_pins ps) ∙ sym first))
-  | inr no ↦
-      let first : pins_in (p ∷ ps) ≡ pins_in ps = ap (λ (b : Bool). if b then p ∷ pins_in ps else pins_in ps) no in
+  | inr other ↦
+      let first : pins_in (p ∷ ps) ≡ pins_in ps = ap (λ (b : Bool). if b then p ∷ pins_in ps else pins_in ps) other in
       ap pins_in first ∙ (only_pins ps ∙ sym first)
 ]
