@@ -1,4 +1,9 @@
+mod CountLemmas
 mod ExchangeLemmas
 mod LineLemmas
 mod PlaceLemmas
+mod ReferenceLemmas
+mod SeenLemmas
 mod ShowLemmas
+mod TellLemmas
+mod WalkLemmas

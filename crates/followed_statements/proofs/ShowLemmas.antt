@@ -1,19 +1,19 @@
 -- Statements that show the same as others.
-use Rattle.std.proofs.Common.{◌≡◌, List, ◌++◌, map, refl, sym, ap, ap₂, ◌∙◌}
+use Rattle.std.proofs.Common.{◌≡◌, List, [], ◌∷◌, ◌++◌, filter, refl, sym, ap, ap₂, ◌∙◌}
 use Rattle.std.specs.Prelude.{Option}
-use Rattle.std.specs.List.{filter_map}
 use Rattle.std.proofs.lemmas.List.{map-append}
-use Rattle.std.proofs.lemmas.List.Elements.{filter_map-append}
 use Rattle.design_model.specs.declared.identifier.StmtId.{StmtId}
-use Rattle.def_grammar.specs.Records.{Record, entry_of}
-use Rattle.agreement_laws.specs.Agreement.{Shown, all_shown, outline_of, shown}
+use Rattle.def_grammar.specs.Records.{Entry, Record, entry}
+use Rattle.agreement_laws.specs.Agreement.{Shown, is_named, outline_of, shown}
 use Rattle.text_pieces.specs.Tables.{Kept}
 use Rattle.design_text.specs.Exchanges.{Exchanged, IsExchange}
 use Rattle.followed_statements.specs.Following.{ShowSame, said}
 use Rattle.followed_statements.proofs.ExchangeLemmas.{kept, said_parted}
+use Rattle.followed_statements.proofs.SeenLemmas.{shown-append}
 
-shown-append : (xs ys : List Record) → all_shown (xs ++ ys) ≡ all_shown xs ++ all_shown ys
-shown-append xs ys = ap (map shown) (filter_map-append entry_of xs ys) ∙ map-append shown (filter_map entry_of xs) (filter_map entry_of ys)
+-- two entries that show the same
+pub entries_same : (a b : Entry) → shown a ≡ shown b → ShowSame (entry a ∷ []) (entry b ∷ [])
+entries_same a b same = record { shown = ap (λ (x : Shown). filter is_named (x ∷ [])) same; outline = refl }
 
 -- some behind others
 pub both : (a b c d : List Record) → ShowSame a b → ShowSame c d → ShowSame (a ++ c) (b ++ d)

@@ -1,8 +1,10 @@
 //! The lines on headers, by the tables of a text.
 
-ghost use Rattle.std.specs.Prelude.{◌≡◌, ◌++◌, IfOk, OnOk};
-ghost use Rattle.count_laws.specs.Counts.{section_lines};
+ghost use Rattle.std.specs.Prelude.{◌≡◌, ◌++◌, ◌<◌, ◌^◌, IfOk, OnOk, flat_map};
+ghost use Rattle.std.specs.Option.{option_map};
+ghost use Rattle.count_laws.specs.Counts.{header_lines, section_lines};
 ghost use Rattle.design_rules.specs.CountLines.{count_lines};
+ghost use Rattle.lefdef_tokens.specs.Views.{word_view};
 ghost use Rattle.line_laws.specs.Lines.{SameLines};
 ghost use Rattle.design_text.specs.DesignTexts.{design_of};
 
@@ -32,6 +34,22 @@ const SECTIONS: [Section; 14] = [
     Section::Styles,
 ];
 
+/// Puts the line on a header that says a number, if there is one, of a section with so many entries.
+fn put_header<A: Allocator + Copy>(
+    section: Section,
+    number: Option<&[u8]>,
+    found: usize,
+    lines: &mut Lines<A>,
+) -> Result<(), AllocError>
+    requires { found < 2 ^ 63 }
+    ensures { OnOk result (lines.new ≡ lines.old ++ header_lines section found (option_map word_view number.entry)) }
+{
+    match number {
+        Some(number) => put_count(section, int_of(number), found, lines),
+        None => Ok(()),
+    }
+}
+
 /// Puts the line on the header of a section behind others.
 fn put_section<A: Allocator + Copy>(
     text: &DesignText<A>,
@@ -40,15 +58,23 @@ fn put_section<A: Allocator + Copy>(
 ) -> Result<(), AllocError>
     ensures { OnOk result (lines.new ≡ lines.old ++ section_lines (design_of text.now) section) }
 {
-    match text.header_number(section) {
-        Some(number) => put_count(
-            section,
-            int_of(number),
-            text.section_entries(section),
-            lines,
-        ),
-        None => Ok(()),
+    let number = text.header_number(section);
+    let found = text.section_entries(section);
+    put_header(section, number, found, lines)
+}
+
+/// Puts the lines on the headers of some sections behind others.
+fn put_sections<A: Allocator + Copy>(
+    text: &DesignText<A>,
+    sections: &[Section],
+    lines: &mut Lines<A>,
+) -> Result<(), AllocError>
+    ensures { OnOk result (lines.new ≡ lines.old ++ flat_map (section_lines (design_of text.now)) sections.now) }
+{
+    for section in sections {
+        put_section(text, *section, lines)?;
     }
+    Ok(())
 }
 
 /// The lines on the headers of a text, in an order that is left open. The headers alone are read.
@@ -61,8 +87,6 @@ pub(crate) fn lines_on_headers<A: Allocator + Copy>(
     counts_are_by_section();
     text.design_is_read();
     let mut lines = Lines::new(alloc);
-    for section in SECTIONS {
-        put_section(text, section, &mut lines)?;
-    }
+    put_sections(text, &SECTIONS, &mut lines)?;
     Ok(lines)
 }

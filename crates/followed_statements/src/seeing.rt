@@ -1,18 +1,19 @@
 //! What others see of statements, where an edit changes sections.
 
-ghost use Rattle.std.specs.Prelude.{◌≡◌, IfOk, IsTrue, List, Some, map, true};
+ghost use Rattle.std.specs.Prelude.{◌≡◌, ◌<◌, ◌+◌, ◌∷◌, [], IfOk, IfSome, IsTrue, List, None, Some, drop, length, slice_get, true};
+ghost use Rattle.std.specs.List.{list_any};
 ghost use Rattle.std.specs.Option.{option_map};
 ghost use Rattle.design_model.specs.declared.identifier.StmtId.{StmtId as Number};
 ghost use Rattle.def_grammar.specs.Records.{Record};
-ghost use Rattle.agreement_laws.specs.Agreement.{shown};
 ghost use Rattle.def_reader.specs.EntryViews.{entry_view};
-ghost use Rattle.def_reader.specs.StatementViews.{records_view};
+ghost use Rattle.def_reader.specs.StatementViews.{record_view, records_view};
+ghost use Rattle.def_reader.specs.declared.statement.Statement.{Statement as TheStatement};
 ghost use Rattle.design_text.specs.DesignTexts.{design_of};
 ghost use Rattle.design_text.specs.Exchanges.{AreExchanges, IsExchange, exchange_view, records_in};
-ghost use Rattle.followed_statements.specs.Following.{said};
-ghost use Rattle.followed_statements.specs.Seen.{NoneRefers, ShowAllBut, seen_but};
+ghost use Rattle.followed_statements.specs.Following.{ShowSame, said};
+ghost use Rattle.followed_statements.specs.Seen.{NoneRefers, ShowAllBut, is_component, is_of_net, is_seen, is_seen_record, passing};
 
-use crate::showing::{MOST_STATEMENTS, entries_show_same};
+use crate::showing::{MOST_STATEMENTS, statements_show_same};
 use def_reader::entry::Entry;
 use def_reader::statement::Statement;
 use design_text::made::{Exchange, Made};
@@ -20,64 +21,94 @@ use design_text::text::DesignText;
 use lefdef_tokens::is_word;
 use std::alloc::{AllocError, Allocator};
 
+/// Whether an entry is one of COMPONENTS.
+fn is_component(entry: &Entry<'_>) -> bool
+    ensures { result ≡ is_component (entry_view entry.now) }
+{
+    match entry {
+        Entry::Component(_) => true,
+        _ => false,
+    }
+}
+
 /// Whether others see an entry: it has a name, and isn't the component that is left out.
-fn is_seen(entry: &Entry<'_>, component: Option<&[u8]>) -> bool {
+fn is_seen(entry: &Entry<'_>, component: Option<&[u8]>) -> bool
+    ensures { result ≡ is_seen (option_map (λ c. c.now) component.entry) (entry_view entry.now) }
+{
     let Some(name) = entry.name() else {
         return false;
     };
-    match (entry, component) {
-        (Entry::Component(_), Some(component)) => name != component,
-        _ => true,
+    let Some(component) = component else {
+        return true;
+    };
+    !(is_component(entry) && name == component)
+}
+
+/// Whether others see a statement: it is such an entry.
+fn is_seen_statement(statement: &Statement<'_>, component: Option<&[u8]>) -> bool
+    ensures { result ≡ is_seen_record (option_map (λ c. c.now) component.entry) (record_view statement.now) }
+{
+    match statement {
+        Statement::Entry(entry) => is_seen(entry, component),
+        _ => false,
     }
 }
 
-/// The entries among statements that others see.
-fn seen_of<'s, 't: 's, A: Allocator + Copy>(
-    alloc: A,
-    statements: &'s [Statement<'t>],
-    component: Option<&[u8]>,
-) -> Result<Vec<&'s Entry<'t>, A>, AllocError>
-    ensures { IfOk result (λ v. map (λ e. shown (entry_view e.now)) v.items ≡ seen_but (option_map (λ c. c.now) component) (records_view statements.now)) }
+/// The place of the first statement from one on that others see.
+fn next_seen(statements: &[Statement<'_>], from: usize, component: Option<&[u8]>) -> Option<usize>
+    ensures none { result ≡ None → passing (is_seen_record (option_map (λ c. c.now) component.entry)) (drop from statements.now) ≡ [] }
+    ensures one { IfSome result (λ n. (n < length statements.now) × ((x : TheStatement) → Some x ≡ slice_get statements.now n → passing (is_seen_record (option_map (λ c. c.now) component.entry)) (drop from statements.now) ≡ record_view x ∷ passing (is_seen_record (option_map (λ c. c.now) component.entry)) (drop (n + 1) statements.now))) }
 {
-    let mut seen = Vec::new(alloc);
-    for statement in statements {
-        if let Statement::Entry(entry) = statement {
-            if is_seen(entry, component) {
-                seen.push(entry)?;
-            }
+    for place in from..statements.len() {
+        if is_seen_statement(&statements[place], component) {
+            return Some(place);
         }
     }
-    Ok(seen)
+    None
 }
 
-/// Whether others can see the same of each of these entries as of the one that comes for it.
-fn all_show_same(went: &[&Entry<'_>], came: &[&Entry<'_>]) -> bool
-    ensures { IsTrue result → map (λ e. shown (entry_view e.now)) went.now ≡ map (λ e. shown (entry_view e.now)) came.now }
+/// Whether others can see the same of each of these statements that they see as of the one that comes for it.
+fn seen_show_same(went: &[Statement<'_>], came: &[Statement<'_>], component: Option<&[u8]>) -> bool
+    ensures { IsTrue result → ShowSame (passing (is_seen_record (option_map (λ c. c.now) component.entry)) went.now) (passing (is_seen_record (option_map (λ c. c.now) component.entry)) came.now) }
 {
-    if went.len() != came.len() {
-        return false;
-    }
-    for place in 0..went.len() {
-        if !entries_show_same(went[place], came[place]) {
-            return false;
-        }
-    }
-    true
-}
-
-/// Whether no statement is an entry of a net: no other refers to a component.
-fn have_no_nets(statements: &[Statement<'_>]) -> bool
-    ensures { IsTrue result → (component : _) → NoneRefers component (records_view statements.now) }
-{
-    for statement in statements {
-        match statement {
-            Statement::Entry(Entry::Net(_)) | Statement::Entry(Entry::SpecialNet(_)) => {
+    let mut from = 0;
+    for statement in went {
+        if is_seen_statement(statement, component) {
+            let Some(place) = next_seen(came, from, component) else {
+                return false;
+            };
+            if !statements_show_same(statement, &came[place]) {
                 return false;
             }
-            _ => {}
+            from = place + 1;
         }
     }
-    true
+    next_seen(came, from, component).is_none()
+}
+
+/// Whether a statement is an entry of a net: no other refers to a component.
+fn is_of_net(statement: &Statement<'_>) -> bool
+    ensures { result ≡ is_of_net (record_view statement.now) }
+{
+    match statement {
+        Statement::Entry(entry) => match entry {
+            Entry::Net(_) | Entry::SpecialNet(_) => true,
+            _ => false,
+        },
+        _ => false,
+    }
+}
+
+/// Whether one of these statements is such an entry.
+fn have_nets(statements: &[Statement<'_>]) -> bool
+    ensures { result ≡ list_any is_of_net (records_view statements.now) }
+{
+    for statement in statements {
+        if is_of_net(statement) {
+            return true;
+        }
+    }
+    false
 }
 
 /// Whether others see the same of the statements of one exchange, but for a component that is left out, and no net went.
@@ -89,13 +120,14 @@ fn exchange_shows_all_but<A: Allocator + Copy>(
 ) -> Result<bool, AllocError>
     requires { (old : List (Number × Record)) × (new : List (Number × Record)) × IsExchange text.now.pieces.table.slots old new (exchange_view exchange) }
     ensures { (old new : List (Number × Record)) → IsExchange text.now.pieces.table.slots old new (exchange_view exchange.entry)
-        → IfOk result (λ b. b ≡ true → ShowAllBut (option_map (λ c. c.now) component) (said old) (said new)) }
+        → IfOk result (λ b. b ≡ true → ShowAllBut (option_map (λ c. c.now) component.entry) (said old) (said new)) }
 {
     let went = text.kept(alloc, exchange.went)?;
     let came = text.kept(alloc, exchange.came)?;
-    let seen = seen_of(alloc, &went, component)?;
-    let seen_then = seen_of(alloc, &came, component)?;
-    Ok(have_no_nets(&went) && all_show_same(&seen, &seen_then))
+    if have_nets(&went) {
+        return Ok(false);
+    }
+    Ok(seen_show_same(&went, &came, component))
 }
 
 /// Whether others see the same of a text after an edit as before it, but for a component that is left out, and no net went.
@@ -107,13 +139,16 @@ pub(crate) fn shows_all_but<A: Allocator + Copy>(
 ) -> Result<bool, AllocError>
     requires { (old : List (Number × Record)) × AreExchanges text.now.pieces.table.slots old made.now.exchanges (records_in text.now) }
     ensures { (old : List (Number × Record)) → AreExchanges text.now.pieces.table.slots old made.now.exchanges (records_in text.now)
-        → IfOk result (λ b. b ≡ true → ShowAllBut (option_map (λ c. c.now) component) (said old) (said (records_in text.now))) }
+        → IfOk result (λ b. b ≡ true → ShowAllBut (option_map (λ c. c.now) component.entry) (said old) (said (records_in text.now))) }
 {
     for place in 0..made.len() {
         let Some(exchange) = made.exchange(place) else {
             return Ok(false);
         };
-        if exchange.went.len() > MOST_STATEMENTS || exchange.came.len() > MOST_STATEMENTS {
+        if exchange.went.len() > MOST_STATEMENTS {
+            return Ok(false);
+        }
+        if exchange.came.len() > MOST_STATEMENTS {
             return Ok(false);
         }
         if !exchange_shows_all_but(alloc, text, exchange, component)? {
@@ -121,6 +156,13 @@ pub(crate) fn shows_all_but<A: Allocator + Copy>(
         }
     }
     Ok(true)
+}
+
+/// Whether there are none of some statements.
+fn are_none(statements: &[Statement<'_>]) -> bool
+    ensures { result ≡ true → records_view statements.now ≡ [] }
+{
+    statements.is_empty()
 }
 
 /// Whether no statement of a text refers to a component of this name. Of the name that a pin of the design has before it, it isn't said.
@@ -135,7 +177,7 @@ fn is_referred_to_by_none<A: Allocator + Copy>(
         return Ok(false);
     }
     match text.entries_listing(alloc, component, 0)? {
-        Some(entries) => Ok(entries.is_empty()),
+        Some(entries) => Ok(are_none(&entries)),
         None => Ok(false),
     }
 }
@@ -146,7 +188,7 @@ pub(crate) fn none_refers<A: Allocator + Copy>(
     text: &DesignText<A>,
     component: Option<&[u8]>,
 ) -> Result<bool, AllocError>
-    ensures { IfOk result (λ b. b ≡ true → NoneRefers (option_map (λ c. c.now) component) (design_of text.now)) }
+    ensures { IfOk result (λ b. b ≡ true → NoneRefers (option_map (λ c. c.now) component.entry) (design_of text.now)) }
 {
     match component {
         Some(component) => is_referred_to_by_none(alloc, text, component),

@@ -21,7 +21,7 @@ pub(crate) const MOST_STATEMENTS: usize = 256;
 
 /// Whether others can see the same of two entries: their sections, their names, and the macro of a component. Of a via they see all, so
 /// two of these aren't compared, nor are entries of rare sections.
-pub(crate) fn entries_show_same(a: &Entry<'_>, b: &Entry<'_>) -> bool
+fn entries_show_same(a: &Entry<'_>, b: &Entry<'_>) -> bool
     ensures { IsTrue result → shown (entry_view a.now) ≡ shown (entry_view b.now) }
 {
     match (a, b) {
@@ -39,7 +39,8 @@ pub(crate) fn entries_show_same(a: &Entry<'_>, b: &Entry<'_>) -> bool
 }
 
 /// Whether others can see the same of two statements, a header's number among it.
-fn statements_show_same(a: &Statement<'_>, b: &Statement<'_>) -> bool
+#[tactic(auto, using(crate::proofs::ShowLemmas::entries_same))]
+pub(crate) fn statements_show_same(a: &Statement<'_>, b: &Statement<'_>) -> bool
     ensures { IsTrue result → ShowSame (record_view a.now ∷ []) (record_view b.now ∷ []) }
 {
     match (a, b) {

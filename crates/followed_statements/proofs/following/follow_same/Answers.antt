@@ -3,7 +3,7 @@ use Rattle.std.specs.Prelude.{IfOk, IfSome}
 use Rattle.design_text.specs.Exchanges.{records_in}
 use Rattle.followed_statements.specs.Following.{AreKeptBy, said}
 use Rattle.followed_statements.proofs.LineLemmas.{kept_by_other}
-use Rattle.followed_statements.proofs.following.follow_statements.Goals as goal
+use Rattle.followed_statements.proofs.following.follow_same.Goals as goal
 
 pub follow_exchanges-requires : goal.follow_exchanges-requires
 follow_exchanges-requires g c =
