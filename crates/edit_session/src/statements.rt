@@ -20,6 +20,7 @@ use kept_lines::KeptLines;
 use std::alloc::Allocator;
 
 /// An edit that changes a section, or what others see of a component.
+#[derive(Clone, Copy)]
 struct SectionEdit<'e> {
     /// The component that it is of, if it is of one.
     component: Option<&'e [u8]>,
