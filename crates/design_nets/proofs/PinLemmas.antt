@@ -40,11 +40,11 @@ module _ (layers : List lef.Layer) where
       ∙ append-nil (pin_parts pins name ws)
 
   -- a net that is begun, and given its pins
-  pub pins_built : BuildingANet → (old : List Net) (name : List ℕ) (is_power : Bool) (pins : PinsByName) (ws : List Wired) (begun built : List Net)
-      → begun ≡ old ++ bare_net name is_power ∷ [] → built ≡ with_parts (pin_parts pins name ws) begun
-      → built ≡ old ++ pins_alone (record { name = name; is_power = is_power; parts = parts_of layers pins name ws }) ∷ []
-  pins_built building old name is_power pins ws begun built h1 h2 =
+  pub pins_built : BuildingANet → (old : List Net) (name : List ℕ) (pins : PinsByName) (ws : List Wired) (begun built : List Net)
+      → begun ≡ old ++ bare_net name false ∷ [] → built ≡ with_parts (pin_parts pins name ws) begun
+      → built ≡ old ++ pins_alone (record { name = name; is_power = false; parts = parts_of layers pins name ws }) ∷ []
+  pins_built building old name pins ws begun built h1 h2 =
       h2
       ∙ ap (with_parts (pin_parts pins name ws)) h1
-      ∙ building old name is_power (pin_parts pins name ws)
-      ∙ ap (λ (ps : List Part). old ++ record { name = name; is_power = is_power; parts = ps } ∷ []) (sym (pins_are pins name ws))
+      ∙ building old name false (pin_parts pins name ws)
+      ∙ ap (λ (ps : List Part). old ++ record { name = name; is_power = false; parts = ps } ∷ []) (sym (pins_are pins name ws))

@@ -3,7 +3,7 @@
 //! Begin with `nets_of`, which gives them as a `NetList`, from the entries of a design by their names and from what its wires are
 //! made by; or with `put_net`, which puts the net of one name into such a list, of power or not as it is told, and gives the length
 //! of its wires (`measure_rules/specs/Lengths`), for who needs one net at a time; or with `pins_of_nets`, which gives them with their
-//! pins alone, for who needs no more. They are `all_nets` of
+//! pins alone, for who needs no more, and doesn't ask whether they are of power. They are `all_nets` of
 //! `connection_rules/specs/NetParts`: entries of NETS and of SPECIALNETS of one name are one net, which `specs/NetGroups` says of a
 //! group of entries. Entries by their nets come from `net_entries`, pins from `net_pins`, and what is drawn from `drawn_parts`.
 //!

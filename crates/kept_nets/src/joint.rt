@@ -7,11 +7,10 @@ ghost use Rattle.kept_nets.specs.Kept.{AreShapesOf};
 ghost use Rattle.kept_nets.specs.Parts.{part_view};
 
 use crate::listing::{classes_at, classes_with};
+use crate::near::further;
 use crate::part::KeptPart;
 use class_laws::{alone_is_a_class, few_tell};
-use net_lists::NetShape;
 use placed_shapes::PlacedShapes;
-use shape_index::ShapeSet;
 use std::alloc::{AllocError, Allocator};
 
 /// How one more pin hangs together with other parts.
@@ -25,93 +24,8 @@ pub(crate) enum Joint {
     Open,
 }
 
-/// How often parts are looked at that touch those before.
-const ROUNDS: usize = 4;
-
-/// Of so many parts no more are looked at.
-const MANY: usize = 1000;
-
-/// The place of a part if it is a pin, else another.
-fn pin_or<A: Allocator + Copy>(
-    parts: &[KeptPart<A>],
-    place: usize,
-    other: Option<usize>,
-) -> Option<usize> {
-    match parts.get(place) {
-        Some(part) if part.is_pin => Some(place),
-        _ => other,
-    }
-}
-
-/// The place of a pin that touches one of these shapes, if there is one.
-fn touching_pin<A: Allocator + Copy>(
-    parts: &[KeptPart<A>],
-    shapes: &PlacedShapes<A>,
-    own: &[NetShape],
-) -> Option<usize> {
-    let mut pin = None;
-    for shape in own {
-        let (found, _) = shapes
-            .tiles()
-            .for_met(shape.layer, shape.rect, pin, |pin, _, met| {
-                pin_or(parts, met.net, pin)
-            });
-        pin = found;
-    }
-    pin
-}
-
-/// The places of pins that touch the parts at some places, one for each where there is one.
-fn touching_pins<A: Allocator + Copy>(
-    alloc: A,
-    parts: &[KeptPart<A>],
-    shapes: &PlacedShapes<A>,
-    places: &[usize],
-) -> Result<Vec<usize, A>, AllocError> {
-    let mut pins = Vec::new(alloc);
-    for place in places {
-        if let Some(part) = parts.get(*place) {
-            if let Some(pin) = touching_pin(parts, shapes, part.shapes.as_slice()) {
-                pins.push(pin)?;
-            }
-        }
-    }
-    Ok(pins)
-}
-
-/// Puts the places of the parts that touch one behind others, unless these are many.
-fn push_touching<A: Allocator + Copy>(
-    alloc: A,
-    parts: &[KeptPart<A>],
-    shapes: &PlacedShapes<A>,
-    place: usize,
-    found: &mut Vec<usize, A>,
-) -> Result<(), AllocError> {
-    if found.len() >= MANY {
-        return Ok(());
-    }
-    if let Some(part) = parts.get(place) {
-        let mut more = shapes.touched(alloc, part.shapes.as_slice())?;
-        found.append(&mut more)?;
-    }
-    Ok(())
-}
-
-/// The places of the parts that touch those at some places, while these aren't many, each once.
-fn all_touching<A: Allocator + Copy>(
-    alloc: A,
-    parts: &[KeptPart<A>],
-    shapes: &PlacedShapes<A>,
-    places: &[usize],
-) -> Result<Vec<usize, A>, AllocError> {
-    let mut found = Vec::new(alloc);
-    for place in places {
-        push_touching(alloc, parts, shapes, *place, &mut found)?;
-    }
-    found.sort_unstable();
-    found.dedup();
-    Ok(found)
-}
+/// How often parts are looked at, each time some more of them.
+const ROUNDS: usize = 6;
 
 /// Whether a pin is in a class, with another pin, of the parts at some places.
 fn is_within<A: Allocator + Copy>(
@@ -141,8 +55,8 @@ fn with_more<A: Allocator + Copy>(
     Ok(all)
 }
 
-/// How a pin hangs together with parts, of which those are at some places that it touches: by these, with a pin of each, and then by
-/// more and more that touch them.
+/// How a pin hangs together with parts, of which those are at some places that it touches: by these, and then by more and more that touch
+/// them.
 fn joint_by<A: Allocator + Copy>(
     alloc: A,
     part: &KeptPart<A>,
@@ -155,13 +69,13 @@ fn joint_by<A: Allocator + Copy>(
     ensures { IfOk result (λ j. HangsBy j (part_view part.now) (map part_view parts.now)) }
 {
     few_tell();
-    let mut more = touching_pins(alloc, parts, shapes, near)?;
-    for _ in 0..ROUNDS {
+    let mut more = Vec::new(alloc);
+    for round in 0..ROUNDS {
         let places = with_more(alloc, near, more)?;
         if is_within(alloc, part, parts, &places)? {
             return Ok(Joint::Within);
         }
-        more = all_touching(alloc, parts, shapes, &places)?;
+        more = further(alloc, part, parts, shapes, &places, round)?;
     }
     Ok(Joint::Open)
 }

@@ -15,6 +15,7 @@
 mod joined;
 mod joint;
 mod listing;
+mod near;
 mod net;
 mod part;
 mod places;

@@ -91,6 +91,20 @@ pub(crate) fn is_before(a: &TileKey, b: &TileKey) -> bool
     a < b
 }
 
+/// Whether a shape stands before a key in the order of tiles. Its tile is computed only where layer and size don't tell.
+pub(crate) fn is_shape_before(id: ShapeId, shape: &Shape, next: &TileKey) -> bool
+    ensures { IsTrue result ↔ Before (key (id, shape.now)) next.now }
+{
+    if shape.layer.0 != next.layer {
+        return shape.layer.0 < next.layer;
+    }
+    let size = size_of(&shape.rect);
+    if size != next.size {
+        return size < next.size;
+    }
+    is_before(&key_of(id, shape), next)
+}
+
 /// The tiles of a size near a range of coordinates.
 fn near_tiles(low: i64, high: i64, size: u64) -> NearTiles
     requires { 0 < size }

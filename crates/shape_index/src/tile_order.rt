@@ -9,7 +9,7 @@ ghost use Rattle.shape_index.specs.TileOrder.{AreAllThere, AreInOrder, Before, I
 
 use crate::gaps::past_run;
 use crate::shape::{Shape, is_met};
-use crate::tile::{Step, TileKey, is_before, key_of, next_step};
+use crate::tile::{Step, TileKey, is_shape_before, key_of, next_step};
 use design_model::geometry::Rect;
 use design_model::identifier::{LayerId, ShapeId};
 use slab::Slab;
@@ -71,7 +71,7 @@ fn stands_before<A: Allocator + Copy>(
     ensures { (d : _) → IsTrue result ↔ Before (key (slice_index_or (listed shapes.now order.now) place d)) next.now }
 {
     match entry_at(shapes, order, place) {
-        Some((id, shape)) => is_before(&key_of(id, shape), next),
+        Some((id, shape)) => is_shape_before(id, shape, next),
         None => false,
     }
 }
@@ -93,10 +93,13 @@ pub(crate) fn first_from<A: Allocator + Copy>(
 {
     let mut low = from;
     let mut high = order.len();
+    // What is looked for is mostly near: places are tried farther and farther on, until one is too far.
+    let mut step = 1usize;
     while low < high {
-        let middle = low + (high - low) / 2;
+        let middle = low + step.min((high - low) / 2);
         if stands_before(shapes, order, middle, next) {
             low = middle + 1;
+            step = step.saturating_mul(8);
         } else {
             high = middle;
         }

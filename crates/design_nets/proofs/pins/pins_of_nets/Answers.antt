@@ -19,7 +19,7 @@ loop-place-preserved g c =
     let gs = map net_group_view c.groups.inside.groups.items in
     let group : Group LentEntry = record { name = c.at.result.0.now; members = c.at.result.1.now } in
     let here = rw (← c.groups.view_is) at c.at.ensures in
-    let net = rw (c.in_ok-pins.ensures, c.is_power.ensures library design u) at c.in_ok-put_pins_alone.ensures.net in
+    let net = rw (c.in_ok-pins.ensures) at c.in_ok-put_pins_alone.ensures.net in
     record {
       walk = rw (c.in_ok-pins.ensures) at c.in_ok-put_pins_alone.ensures.walk;
       nets = next_net (λ x. pins_alone (net_of_group library design u (wired_group library design u x))) gs c.loop-place.place c.loop-place.nets _ c.loop-place.invariant.nets group c.put_pins_alone.new.nets here net;

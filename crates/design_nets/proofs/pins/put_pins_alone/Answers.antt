@@ -12,5 +12,5 @@ returns-clause-net g c =
     let library = c.args.pins.now.library in
     let design = c.args.pins.now.design in
     let ws = filter_map (wired_of library design (scale design)) (map entry_lent c.args.entries.now) in
-    pins_built library.layers c.building_a_net.ensures c.args.nets.now c.args.name.now c.args.is_power (pins_by_name library design (scale design)) ws
+    pins_built library.layers c.building_a_net.ensures c.args.nets.now c.args.name.now (pins_by_name library design (scale design)) ws
     _ _ c.in_ok-begin_net.ensures.ok c.in_ok-put_pins.ensures.ok
