@@ -1,5 +1,7 @@
+mod ChangedShapes
 mod FollowLemmas
 mod KeptStatements
+mod LackingLemmas
 mod LastOnes
 mod ListedNets
 mod NearLemmas

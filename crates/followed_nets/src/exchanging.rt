@@ -10,6 +10,8 @@ ghost use Rattle.followed_nets.specs.Pieces.{AreAmong, AreOnPieces, ArePieces, I
 ghost use Rattle.followed_nets.specs.Tests.{near_each, near_told};
 ghost use Rattle.followed_nets.specs.ToldViews.{told_view};
 
+use crate::changed_shapes::without_same;
+use crate::star_exchange::ToldExchange;
 use crate::told::ToldNet;
 use kept_lines::KeptLines;
 use line_laws::sorting::same_lines_sort_alike;
@@ -123,7 +125,7 @@ fn put_in_net<A: Allocator + Copy>(
 }
 
 /// The lines on what is left where several nets are taken out.
-pub(crate) fn take_out_nets<A: Allocator + Copy>(
+fn take_out_nets<A: Allocator + Copy>(
     alloc: A,
     layers: &[&[u8]],
     shapes: &mut NamedShapes<A>,
@@ -149,7 +151,7 @@ pub(crate) fn take_out_nets<A: Allocator + Copy>(
 }
 
 /// The lines once several nets are put in.
-pub(crate) fn put_in_nets<A: Allocator + Copy>(
+fn put_in_nets<A: Allocator + Copy>(
     alloc: A,
     layers: &[&[u8]],
     shapes: &mut NamedShapes<A>,
@@ -169,5 +171,35 @@ pub(crate) fn put_in_nets<A: Allocator + Copy>(
             None => return Ok(None),
         }
     }
+    Ok(Some(followed))
+}
+
+/// The lines on nets once all that goes is taken out and then all that comes is put in, so that nothing of what went is compared with what
+/// came. Shapes that both have aren't touched, and the others follow. `layers` are the names of all layers, from the bottom up.
+pub(crate) fn exchange_nets<A: Allocator + Copy>(
+    alloc: A,
+    layers: &[&[u8]],
+    shapes: &mut NamedShapes<A>,
+    told: ToldExchange<A>,
+    kept: KeptLines<A>,
+) -> Result<Option<FollowedOnNets<A>>, AllocError>
+    requires { (bars : List Barrier) × (out : List Piece) × (put : List Piece) × (rest : List Piece) × ArePieces (name_at (map (λ w. w.now) layers.now)) bars out (map told_view told.gone.items) × ArePieces (name_at (map (λ w. w.now) layers.now)) bars put (map told_view told.come.items) × AreOnPieces (name_at (map (λ w. w.now) layers.now)) bars (out ++ rest) shapes.old kept.lines }
+    ensures lines { (bars : List Barrier) (out put rest : List Piece) → ArePieces (name_at (map (λ w. w.now) layers.now)) bars out (map told_view told.gone.items) → ArePieces (name_at (map (λ w. w.now) layers.now)) bars put (map told_view told.come.items) → AreOnPieces (name_at (map (λ w. w.now) layers.now)) bars (out ++ rest) shapes.old kept.lines
+        → IfOk result (λ found. IfSome found (λ f. AreOnPieces (name_at (map (λ w. w.now) layers.now)) bars (put ++ rest) shapes.new f.lines.lines)) }
+    ensures tests { IfOk result (λ found. IfSome found (λ f. f.tests ≤ near_told (map told_view told.gone.items) shapes.old + near_told (map told_view told.come.items) shapes.new)) }
+{
+    short_is_symmetric();
+    same_lines_sort_alike();
+    let ToldExchange { gone, come } = without_same(alloc, told)?;
+    let start = FollowedOnNets {
+        lines: kept,
+        tests: 0,
+    };
+    let Some(left) = take_out_nets(alloc, layers, shapes, gone, start)? else {
+        return Ok(None);
+    };
+    let Some(followed) = put_in_nets(alloc, layers, shapes, come, left)? else {
+        return Ok(None);
+    };
     Ok(Some(followed))
 }

@@ -22,7 +22,7 @@ ghost use Rattle.followed_nets.specs.ToldViews.{star_view, stars_of, told_view};
 ghost use Rattle.followed_nets.specs.Touched.{AreFollowed, ArePinsOf, AreTouched, star_names};
 ghost use Rattle.followed_nets.specs.Within.{Fits, LeavesOthers};
 
-use crate::exchanging::{FollowedOnNets, put_in_nets, take_out_nets};
+use crate::exchanging::{FollowedOnNets, exchange_nets};
 use crate::listed::{add_name, nets_listing};
 use crate::noted::{common_numbers, drawn_nets, star_names};
 use crate::star_exchange::{ExchangedStars, ToldExchange, exchange_stars, with_more};
@@ -315,18 +315,8 @@ impl<A: Allocator + Copy> FollowedNets<A> {
     {
         layers_have_their_names();
         let layers = layer_names(alloc, library)?;
-        let ToldExchange { gone, come } = told;
-        let start = FollowedOnNets {
-            lines: kept,
-            tests: 0,
-        };
-        let Some(left) = take_out_nets(alloc, &layers, &mut self.shapes, gone, start)? else {
-            return Ok(None);
-        };
-        let Some(followed) = put_in_nets(alloc, &layers, &mut self.shapes, come, left)? else {
-            return Ok(None);
-        };
-        Ok(Some(followed))
+        let found = exchange_nets(alloc, &layers, &mut self.shapes, told, kept)?;
+        Ok(found)
     }
 
     /// The lines on the nets of a text after an edit, from those before it, where it changed no other nets than those that it touched, and how

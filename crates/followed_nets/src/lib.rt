@@ -12,6 +12,7 @@
 //! leaves all other nets by `exchanges_are_within`.
 #![tactic(auto)]
 
+mod changed_shapes;
 mod exchanging;
 mod followed;
 mod listed;

@@ -4,7 +4,7 @@
 //! there; `put_in` puts parts in. `put_class_lines` gives the lines on how the net hangs together then. What that takes grows with the
 //! parts near those that go and come, where these tell: a pin that touches none is a class by itself, and where those that it touches
 //! hang together with another pin, also without it, nothing changes. Else all parts are gone over. `pins_of` has the pins of a net of a
-//! list, and `shapes_of` the shapes of parts, one after the other.
+//! list, `shapes_of` the shapes of parts, one after the other, and `is_same_shape` compares two.
 //!
 //! A net is seen as `Net` of `connection_rules/specs/NetParts`; in which order its parts stand is left open once some went. What is
 //! known of it beside its parts is `AreKnown` of `specs/Kept`.
@@ -21,4 +21,4 @@ mod part;
 mod places;
 
 pub use net::KeptNet;
-pub use part::{KeptPart, pins_of, shapes_of};
+pub use part::{KeptPart, is_same_shape, pins_of, shapes_of};

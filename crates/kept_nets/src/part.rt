@@ -45,7 +45,7 @@ fn is_rectangle(a: &Rect, b: &Rect) -> bool
 }
 
 /// Whether two shapes are one.
-fn is_shape(a: &NetShape, b: &NetShape) -> bool
+pub fn is_same_shape(a: &NetShape, b: &NetShape) -> bool
     ensures { IsTrue result → shape_view a.now ≡ shape_view b.now }
 {
     a.layer.0 == b.layer.0 && is_rectangle(&a.rect, &b.rect)
@@ -59,7 +59,7 @@ fn are_same(a: &[NetShape], b: &[NetShape]) -> bool
         return false;
     }
     for place in 0..a.len() {
-        if !is_shape(&a[place], &b[place]) {
+        if !is_same_shape(&a[place], &b[place]) {
             return false;
         }
     }
