@@ -1,26 +1,24 @@
 -- The shape of a set that is the same as one that is sought.
-use Rattle.std.proofs.Common.{◌≡◌, ◌<◌, ℕ, zero, suc, ℤ, Bool, true, false, cond, ◌&&◌, List, [], ◌∷◌, ◌++◌, Option, Some, None, refl, sym, ap, ◌∙◌, subst, arith, get_or, length, filter, inl, inr}
-use Rattle.std.specs.Prelude.{◌==◌, ◌≤ℤ◌, ◌⊎◌, ◌↔◌, IfSome, IfNone}
+use Rattle.std.proofs.Common.{◌≡◌, ◌<◌, ℕ, ℤ, Bool, true, ◌&&◌, List, Option, Some, None, refl, sym, ap, ◌∙◌, subst, arith, get_or, length}
+use Rattle.std.specs.Prelude.{◌==◌, ◌≤◌, ◌↔◌, IfSome, IfNone, slice_get}
 use Rattle.std.specs.List.{All, Contains}
-use Rattle.std.specs.Int.Signed.{le_z}
 use Rattle.std.specs.Ordering.{int_eq}
 use Rattle.std.proofs.lemmas.Cmp.{int_eq_equiv}
 use Rattle.std.proofs.lemmas.Bool.{and_parts}
 use Rattle.std.proofs.lemmas.Int.{ints}
-use Rattle.std.proofs.lemmas.List.Elements.{All-push, All-map, All-weaker, All-filter, Contains-append_left, Contains-push, All-contains}
-use Rattle.std.proofs.lemmas.List.Filters.{All-dedup}
+use Rattle.std.proofs.lemmas.List.Elements.{All-map, All-weaker, All-contains}
+use Rattle.std.proofs.lemmas.Option.{get_or_from_slice_get, slice_get_within}
 use Rattle.slab.specs.Slab.{Slab, entries, get}
 use Rattle.design_model.specs.Geometry.{Rectangle}
-use Rattle.design_model.specs.Views.{rectangle_of}
-use Rattle.design_model.specs.declared.geometry.Rect.{Rect}
 use Rattle.design_model.specs.declared.identifier.ShapeId.{ShapeId}
-use Rattle.shape_rules.specs.Meeting.{meets}
 use Rattle.shape_index.specs.declared.shape.Shape.{Shape}
-use Rattle.shape_index.specs.Shapes.{AreSame, at, is_met, met_by, numbered}
-use Rattle.shape_index.specs.TileOrder.{listed, once, IsOrderOf}
+use Rattle.shape_index.specs.declared.tile.TileKey.{TileKey}
+use Rattle.shape_index.specs.Shapes.{AreSame, at, numbered}
+use Rattle.shape_index.specs.Tiles.{key}
+use Rattle.shape_index.specs.TileOrder.{AreInOrder, Before, IsOrderOf, OneTile, listed}
 use Rattle.shape_index.proofs.AllListed.{Stands, all_stand}
 use Rattle.shape_index.proofs.Listed.{of_slab}
-use Rattle.shape_index.proofs.OrderChanges.{is_of, somewhere, stands}
+use Rattle.shape_index.proofs.OrderChanges.{entry_at, stands_in}
 use Rattle.shape_index.proofs.SlabEntries.{id_of, slab_at}
 
 abbrev Entry : Type 0
@@ -65,79 +63,45 @@ test_is a b = (
       rw (layer, x1, y1, x2, y2, net) refl,
 )
 
-same_or_not : (a b : Shape) → (AreSame a b) ⊎ (¬ AreSame a b)
-same_or_not a b =
-    elim (test a b) as (λ t. test a b ≡ t → (AreSame a b) ⊎ (¬ AreSame a b)) [
-      | true ↦ λ h. inl ((test_is a b).0 h)
-      | false ↦ λ h. inr (λ s. let yes = (test_is a b).1 s in cc)
-    ] refl
+-- shapes that are the same stand under one tile
+same_tile : (a b : Entry) → AreSame a.1 b.1 → OneTile (key a) (key b)
+same_tile a b s = rw (
+  s.layer,
+  ap (λ (r : Rectangle). r.x1) s.rect,
+  ap (λ (r : Rectangle). r.y1) s.rect,
+  ap (λ (r : Rectangle). r.x2) s.rect,
+  ap (λ (r : Rectangle). r.y2) s.rect,
+) (refl, refl, refl, refl)
 
--- what a search has found among these entries
-abbrev pub Found : Shape → List Entry → Option ShapeId → Type 0
-Found x es None = All (λ e. ¬ AreSame e.1 x) es
-Found x es (Some id) = (e : Entry) × Contains es e × (e.0 ≡ id) × AreSame e.1 x
+-- what stands between two keys of one tile is of that tile
+between : (t a b : TileKey) → ¬ Before a t → ¬ Before b a → OneTile b t → OneTile a t
+between t a b h k same = grind (arith, same)
 
-one_more : (x : Shape) (es : List Entry) (found : Option ShapeId) (e : Entry) (now : Option ShapeId) → Found x es found → (AreSame e.1 x) ⊎ (¬ AreSame e.1 x) → (AreSame e.1 x → now ≡ Some e.0) → (¬ AreSame e.1 x → now ≡ found)
-    → Found x (es ++ e ∷ []) now
-one_more x es found e now h (inl same) hit miss = rw (hit same) (e, Contains-push es e, refl, same)
-one_more x es None e now h (inr other) hit miss = rw (miss other) (All-push (λ (e : Entry). ¬ AreSame e.1 x) es e h other)
-one_more x es (Some id) e now h (inr other) hit miss = rw (miss other) (h.0, Contains-append_left es (e ∷ []) h.0 h.1, h.2, h.3)
+-- a shape that is sought isn't behind an entry of another tile, where its tile isn't before that
+pub none_behind : (es : List Entry) (i k : ℕ) (e d : Entry) (x : Shape) (a t : TileKey) → AreInOrder es → Some e ≡ slice_get es i → a ≡ key e → t ≡ key (id_of 0, x) → ¬ OneTile a t
+    → ¬ Before (key (get_or es i d)) t → i ≤ k → k < length es → ¬ AreSame (get_or es k d).1 x
+none_behind es i k e d x a t sorted there of_entry of_sought other left from below same =
+    let here : key (get_or es i d) ≡ a = ap key (get_or_from_slice_get es i e d (sym there)) ∙ sym of_entry in
+    let under : OneTile (key (get_or es k d)) t = subst (λ (u : TileKey). OneTile (key (get_or es k d)) u) (sym of_sought) (same_tile (get_or es k d) (id_of 0, x) same) in
+    let not_before : ¬ Before a t = subst (λ (u : TileKey). ¬ Before u t) here left in
+    let not_behind : ¬ Before (key (get_or es k d)) a = subst (λ (u : TileKey). ¬ Before (key (get_or es k d)) u) here (sorted i k d from below) in
+    other (between t a (key (get_or es k d)) not_before not_behind under)
 
--- one entry more is looked at
-pub looked_at : (x : Shape) (es : List Entry) (found : Option ShapeId) (e : Entry) (now : Option ShapeId) → Found x es found → (AreSame e.1 x → now ≡ Some e.0) → (¬ AreSame e.1 x → now ≡ found) → Found x (es ++ e ∷ []) now
-looked_at x es found e now h hit miss = one_more x es found e now h (same_or_not e.1 x) hit miss
+-- what stands at a place is an entry
+pub entry_there : (es : List Entry) (i : ℕ) (e : Entry) → Some e ≡ slice_get es i → Contains es e
+entry_there es i e there = (i, slice_get_within es i e (sym there), get_or_from_slice_get es i e e (sym there))
 
-test_of : (p q : ℤ) → p ≤ℤ q → le_z p q ≡ true
-test_of p q h = grind (arith, ints)
-
-meets_itself : (r : Rect) → meets (rectangle_of r) (rectangle_of r) ≡ true
-meets_itself r = rw (test_of r.x1 r.x2 r.wide, test_of r.y1 r.y2 r.high) refl
-
--- it is looked for on its layer, where its rectangle is
-same_is_met : (x : Shape) (e : Entry) → AreSame e.1 x → is_met x.layer x.rect e ≡ true
-same_is_met x e s =
-    let on : (e.1.layer.0 == x.layer.0) ≡ true = let h = s.layer in grind (arith, h) in
-    let met : meets (rectangle_of e.1.rect) (rectangle_of x.rect) ≡ true = ap (λ (r : Rectangle). meets r (rectangle_of x.rect)) s.rect ∙ meets_itself x.rect in
-    rw (on, met) refl
-
--- what holds of all that pass holds of one that passes
-of_passing : (p : Entry → Bool) (P : Entry → Type 0) (es : List Entry) (i : ℕ) (d : Entry) → All P (filter p es) → i < length es → p (get_or es i d) ≡ true → P (get_or es i d)
-of_passing p P [] i d all below pass = absurd (omega (arith, below))
-of_passing p P (e ∷ es) zero d all below pass = (rw pass at all) 0 d (omega arith)
-of_passing p P (e ∷ es) (suc i) d all below pass =
-    elim (p e) as (λ b. All P (cond b (e ∷ filter p es) (filter p es)) → P (get_or es i d)) [
-      | true ↦ λ a. of_passing p P es i d (λ k c low. a (suc k) c (omega (arith, low))) (omega (arith, below)) pass
-      | false ↦ λ a. of_passing p P es i d a (omega (arith, below)) pass
-    ] all
-
-once_of_slab : (s : Slab Shape) (ids : List ShapeId) → All (λ e. get s e.0.0 ≡ Some e.1) (once (listed s ids))
-once_of_slab s ids = All-dedup (λ (a b : Entry). a.0.0 == b.0.0) (λ (e : Entry). get s e.0.0 ≡ Some e.1) (listed s ids) (λ i d below. of_slab s ids i d below)
-
--- so none among those that are met is none at all
-none_same : (s : Slab Shape) (ids : List ShapeId) (x : Shape) → IsOrderOf s ids → All (λ e. ¬ AreSame e.1 x) (met_by x.layer x.rect (once (listed s ids))) → All (λ e. ¬ AreSame e.1 x) (numbered (entries s))
-none_same s ids x o none =
-    All-map (λ (e : Entry). ¬ AreSame e.1 x) (λ (e : ℕ × Shape). (id_of e.0, e.1)) (entries s) (All-weaker (Stands s) (λ (e : ℕ × Shape). ¬ AreSame e.1 x) (λ e is same.
-    let place = somewhere e.0 (once (listed s ids)) (omega (arith, stands e.0 e.1 (numbered (entries s)) (sym (slab_at s e.0) ∙ is), o.same.sums (is_of e.0))) in
-    let there : Entry = get_or (once (listed s ids)) place.place (id_of e.0, e.1) in
-    let held : get s there.0.0 ≡ Some there.1 = once_of_slab s ids place.place (id_of e.0, e.1) place.below in
-    let number : there.0.0 ≡ e.0 = place.is (id_of e.0, e.1) in
-    let shape : there.1 ≡ e.1 = let f : get s e.0 ≡ Some there.1 = subst (λ (m : ℕ). get s m ≡ Some there.1) number held in cc in
-    let alike : AreSame there.1 x = subst (λ (y : Shape). AreSame y x) (sym shape) same in
-    of_passing (is_met x.layer x.rect) (λ (e : Entry). ¬ AreSame e.1 x) (once (listed s ids)) place.place (id_of e.0, e.1) none place.below (same_is_met x there alike) alike) (entries s) (all_stand s))
-
-among : (p : Entry → Bool) (es : List Entry) (P : Entry → Type 0) → ((i : ℕ) (d : Entry) → i < length es → P (get_or es i d)) → (e : Entry) → Contains (filter p es) e → P e
-among p es P all e h = All-contains P (filter p es) e (All-filter p P es all) h
-
--- and what is found stands under its number
-pub found_same : (s : Slab Shape) (ids : List ShapeId) (x : Shape) (r : Option ShapeId) → Found x (met_by x.layer x.rect (once (listed s ids))) r
+-- what is found stands under its number
+pub found_same : (s : Slab Shape) (ids : List ShapeId) (x : Shape) (r : Option ShapeId) → IfSome r (λ id. (y : Shape) × Contains (listed s ids) (id, y) × AreSame y x)
     → IfSome r (λ id. (y : Shape) × (at id (numbered (entries s)) ≡ Some y) × AreSame y x)
 found_same s ids x None f = tt
-found_same s ids x (Some id) f =
-    let is = among (is_met x.layer x.rect) (once (listed s ids)) (λ e. get s e.0.0 ≡ Some e.1) (once_of_slab s ids) f.0 f.1 in
-    let number : f.0.0.0 ≡ id.0 = ap (λ (j : ShapeId). j.0) f.2 in
-    (f.0.1, sym (slab_at s id.0) ∙ subst (λ (m : ℕ). get s m ≡ Some f.0.1) number is, f.3)
+found_same s ids x (Some id) f = (f.0, sym (slab_at s id.0) ∙ All-contains (λ (e : Entry). get s e.0.0 ≡ Some e.1) (listed s ids) (id, f.0) (of_slab s ids) f.1, f.2)
 
-pub found_none : (s : Slab Shape) (ids : List ShapeId) (x : Shape) (r : Option ShapeId) → IsOrderOf s ids → Found x (met_by x.layer x.rect (once (listed s ids))) r
-    → IfNone r (All (λ e. ¬ AreSame e.1 x) (numbered (entries s)))
-found_none s ids x None o f = none_same s ids x o f
-found_none s ids x (Some id) o f = tt
+-- none in the order is none at all
+pub none_same : (s : Slab Shape) (ids : List ShapeId) (x : Shape) (r : Option ShapeId) → IsOrderOf s ids → IfNone r (All (λ e. ¬ AreSame e.1 x) (listed s ids)) → IfNone r (All (λ e. ¬ AreSame e.1 x) (numbered (entries s)))
+none_same s ids x None o none =
+    All-map (λ (e : Entry). ¬ AreSame e.1 x) (λ (e : ℕ × Shape). (id_of e.0, e.1)) (entries s) (All-weaker (Stands s) (λ (e : ℕ × Shape). ¬ AreSame e.1 x) (λ e is same.
+    let place = stands_in s ids e.0 e.1 o is in
+    let there = entry_at s ids e.0 place.place e.1 is place.below (place.is (id_of e.0, e.1)) in
+    none place.place (id_of e.0, e.1) place.below (subst (λ (f : Entry). AreSame f.1 x) (sym there) same)) (entries s) (all_stand s))
+none_same s ids x (Some id) o none = tt

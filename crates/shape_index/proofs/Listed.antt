@@ -4,7 +4,7 @@ use Rattle.std.specs.Prelude.{sum_by, ◌==◌, option_map, slice_get}
 use Rattle.std.specs.List.{cons_option, insert, remove}
 use Rattle.std.proofs.lemmas.List.Elements.{filter_map-append}
 use Rattle.std.proofs.lemmas.List.Sums.{sum_by-cons}
-use Rattle.std.proofs.lemmas.Option.{slice_get-get_or, slice_get_past}
+use Rattle.std.proofs.lemmas.Option.{get_or_from_slice_get, slice_get-get_or, slice_get_past}
 use Rattle.slab.specs.Slab.{Slab, get, Updates}
 use Rattle.design_model.specs.declared.identifier.ShapeId.{ShapeId}
 use Rattle.shape_index.specs.declared.shape.Shape.{Shape}
@@ -104,6 +104,14 @@ run_listed s ids i j all run =
       same = λ k d low high. number k d (omega (arith, high, within)) ∙ ap (λ (n : ShapeId). n.0) (run.same k d.0 low high) ∙ sym (number i d (omega (arith, some, within)));
       other = λ d below same. run.other d.0 (omega (arith, below, all)) (sym (number j d (omega (arith, below, all))) ∙ same ∙ number i d (omega (arith, some, within)));
     }
+
+-- its slots have one entry
+pub in_run : (s : Slab Shape) (ids : List ShapeId) (i j k : ℕ) (e d : ShapeId × Shape) → AreAllThere s ids → IsRun ids i j → Some e ≡ slice_get (listed s ids) i → i ≤ k → k < j → get_or (listed s ids) k d ≡ e
+in_run s ids i j k e d all run at from to =
+    let some = run.some in
+    let within = run.within in
+    let same = there_at s ids k d.0 all (omega (arith, to, within)) ∙ ap (entry_of s) (run.same k d.0 from to) ∙ sym (there_at s ids i d.0 all (omega (arith, some, within))) in
+    get_or_from_slice_get (listed s ids) k e d (same ∙ sym at)
 
 pub taken : (s : Slab Shape) (ids : List ShapeId) (p : ℕ) → AreAllThere s ids → listed s (take p ids) ≡ take p (listed s ids)
 taken s [] zero all = refl

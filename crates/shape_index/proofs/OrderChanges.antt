@@ -82,7 +82,7 @@ after_insert s t ids n p x o u free place =
 abbrev pub is_of : ℕ → Entry → ℕ
 is_of n e = cond (e.0.0 == n) 1 0
 
-pub stands : (n : ℕ) (x : Shape) (es : List Entry) → at (id_of n) es ≡ Some x → 1 ≤ sum_by (is_of n) es
+stands : (n : ℕ) (x : Shape) (es : List Entry) → at (id_of n) es ≡ Some x → 1 ≤ sum_by (is_of n) es
 stands n x [] h = cc
 stands n x (e ∷ es) h =
     let sum = sum_by-cons (is_of n) e es in
@@ -97,7 +97,7 @@ pub record Somewhere (n : ℕ) (es : List Entry) : Type 0 where
   pub below : place < length es
   pub is : (d : Entry) → (get_or es place d).0.0 ≡ n
 
-pub somewhere : (n : ℕ) (es : List Entry) → 1 ≤ sum_by (is_of n) es → Somewhere n es
+somewhere : (n : ℕ) (es : List Entry) → 1 ≤ sum_by (is_of n) es → Somewhere n es
 somewhere n [] h = absurd (omega (arith, h))
 somewhere n (e ∷ es) h =
     let sum = sum_by-cons (is_of n) e es in
@@ -120,18 +120,23 @@ key_at s ids n i x d is below same =
     rw (same, shape) refl
 
 -- and it is the slab's shape under it
-entry_at : (s : Slab Shape) (ids : List ShapeId) (n i : ℕ) (x : Shape) → get s n ≡ Some x → i < length (listed s ids) → (get_or (listed s ids) i (id_of n, x)).0.0 ≡ n → get_or (listed s ids) i (id_of n, x) ≡ (id_of n, x)
+pub entry_at : (s : Slab Shape) (ids : List ShapeId) (n i : ℕ) (x : Shape) → get s n ≡ Some x → i < length (listed s ids) → (get_or (listed s ids) i (id_of n, x)).0.0 ≡ n → get_or (listed s ids) i (id_of n, x) ≡ (id_of n, x)
 entry_at s ids n i x is below same =
     let e : Entry = get_or (listed s ids) i (id_of n, x) in
     let held : get s n ≡ Some e.1 = subst (λ (m : ℕ). get s m ≡ Some e.1) same (of_slab s ids i (id_of n, x) below) in
     let shape : e.1 ≡ x = cc in
     ap₂ (λ (m : ℕ) (y : Shape). (id_of m, y)) same shape
 
+-- where a number of the slab stands in an order of its numbers
+pub stands_in : (s : Slab Shape) (ids : List ShapeId) (n : ℕ) (x : Shape) → IsOrderOf s ids → get s n ≡ Some x → Somewhere n (listed s ids)
+stands_in s ids n x o is =
+    let one = stands n x (numbered (entries s)) (sym (slab_at s n) ∙ is) in
+    somewhere n (listed s ids) (omega (arith, one, o.same.sums (is_of n), once_fewer (is_of n) (listed s ids)))
+
 -- the place where a shape's number stands
 pub found_in : (s : Slab Shape) (ids : List ShapeId) (n p : ℕ) (x : Shape) → IsOrderOf s ids → get s n ≡ Some x → IsItsPlace (listed s ids) p (key (id_of n, x)) → IsFound (listed s ids) p (key (id_of n, x))
 found_in s ids n p x o is place =
-    let one = stands n x (numbered (entries s)) (sym (slab_at s n) ∙ is) in
-    let f = somewhere n (listed s ids) (omega (arith, one, o.same.sums (is_of n), once_fewer (is_of n) (listed s ids))) in
+    let f = stands_in s ids n x o is in
     found_at (listed s ids) p f.place (key (id_of n, x)) o.in_order place f.below (λ d. key_at s ids n f.place x d is f.below (f.is d))
 
 -- the entries of a part of an order that hasn't the number that is taken out

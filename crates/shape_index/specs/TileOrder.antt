@@ -19,6 +19,10 @@ Before a b =
     (a.layer < b.layer) ⊎ ((a.layer ≡ b.layer) × ((a.size < b.size) ⊎ ((a.size ≡ b.size) × ((a.column < b.column) ⊎ ((a.column ≡ b.column)
     × ((a.row < b.row) ⊎ ((a.row ≡ b.row) × (a.id < b.id))))))))
 
+-- two keys are of one tile
+abbrev pub OneTile : TileKey → TileKey → Type 0
+OneTile a b = (a.layer ≡ b.layer) × (a.size ≡ b.size) × (a.column ≡ b.column) × (a.row ≡ b.row)
+
 -- none comes before an earlier one
 abbrev pub AreInOrder : List (ShapeId × Shape) → Type 0
 AreInOrder es = (i j : ℕ) (d : ShapeId × Shape) → i ≤ j → j < length es → ¬ Before (key (slice_index_or es j d)) (key (slice_index_or es i d))

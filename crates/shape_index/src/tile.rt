@@ -2,7 +2,7 @@
 
 ghost use Rattle.std.specs.Prelude.{◌≡◌, ◌<◌, ◌-◌, ◌/◌, ◌↔◌, IsTrue};
 ghost use Rattle.shape_index.specs.Tiles.{key, least_size, offset, size_of};
-ghost use Rattle.shape_index.specs.TileOrder.{Before, Leads};
+ghost use Rattle.shape_index.specs.TileOrder.{Before, Leads, OneTile};
 
 use crate::shape::Shape;
 use design_model::geometry::Rect;
@@ -89,6 +89,13 @@ pub(crate) fn is_before(a: &TileKey, b: &TileKey) -> bool
     ensures { IsTrue result ↔ Before a.now b.now }
 {
     a < b
+}
+
+/// Whether two keys are of one tile.
+pub(crate) fn are_of_one_tile(a: &TileKey, b: &TileKey) -> bool
+    ensures { IsTrue result ↔ OneTile a.now b.now }
+{
+    a.layer == b.layer && a.size == b.size && a.column == b.column && a.row == b.row
 }
 
 /// Whether a shape stands before a key in the order of tiles. Its tile is computed only where layer and size don't tell.

@@ -1,15 +1,15 @@
 //! Shapes in the order of their tiles, and the search among them.
 
-ghost use Rattle.std.specs.Prelude.{◌≡◌, ◌<◌, ◌≤◌, ◌↔◌, IfOk, IsTrue, ℕ, filter, length, map, option_map, slice_get, slice_index_or};
-ghost use Rattle.std.specs.List.{FoldsTo};
+ghost use Rattle.std.specs.Prelude.{◌≡◌, ◌<◌, ◌≤◌, ◌↔◌, IfNone, IfOk, IfSome, IsTrue, ℕ, filter, length, map, option_map, slice_get, slice_index_or};
+ghost use Rattle.std.specs.List.{All, Contains, FoldsTo};
 ghost use Rattle.slab.specs.Slab.{entries};
-ghost use Rattle.shape_index.specs.Shapes.{met_by, numbered};
+ghost use Rattle.shape_index.specs.Shapes.{AreSame, met_by, numbered};
 ghost use Rattle.shape_index.specs.Tiles.{key, near_count};
 ghost use Rattle.shape_index.specs.TileOrder.{AreAllThere, AreInOrder, Before, IsOrderOf, listed, once};
 
 use crate::gaps::past_run;
-use crate::shape::{Shape, is_met};
-use crate::tile::{Step, TileKey, is_shape_before, key_of, next_step};
+use crate::shape::{Shape, are_same, is_met};
+use crate::tile::{Step, TileKey, are_of_one_tile, is_shape_before, key_of, next_step};
 use design_model::geometry::Rect;
 use design_model::identifier::{LayerId, ShapeId};
 use slab::Slab;
@@ -105,6 +105,32 @@ pub(crate) fn first_from<A: Allocator + Copy>(
         }
     }
     low
+}
+
+/// The number of a shape that is the same as one that is sought, if there is some. They stand under one tile, so the search
+/// ends at the first shape of another.
+pub(crate) fn find_same<A: Allocator + Copy>(
+    shapes: &Slab<Shape, A>,
+    order: &[ShapeId],
+    sought: &Shape,
+) -> Option<ShapeId>
+    requires all_there { AreAllThere shapes.now order.now }
+    requires in_order { AreInOrder (listed shapes.now order.now) }
+    ensures found { IfSome result (λ id. (s : _) × Contains (listed shapes.now order.now) (id, s) × AreSame s sought.now) }
+    ensures absent { IfNone result (All (λ e. ¬ AreSame e.1 sought.now) (listed shapes.now order.now)) }
+{
+    let tile = key_of(ShapeId(0), sought);
+    let mut slot = first_from(shapes, order, 0, &tile);
+    while let Some((id, shape)) = entry_at(shapes, order, slot) {
+        if !are_of_one_tile(&key_of(id, shape), &tile) {
+            return None;
+        }
+        if are_same(shape, sought) {
+            return Some(id);
+        }
+        slot = past_run(order, slot);
+    }
+    None
 }
 
 /// Folds `f` over the shapes on a layer that meet a rectangle, in the order of their tiles. Also answers how many shapes it

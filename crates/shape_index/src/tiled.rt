@@ -6,9 +6,9 @@ ghost use Rattle.line_laws.specs.Lines.{SameThings};
 ghost use Rattle.shape_index.specs.Shapes.{AreSame, at, numbered};
 
 use crate::gaps::{make_room, put_in, spread, take_out, with_gaps};
-use crate::shape::{Shape, ShapeSet, are_same};
+use crate::shape::{Shape, ShapeSet};
 use crate::tile::key_of;
-use crate::tile_order::{first_from, order_of, search};
+use crate::tile_order::{find_same, first_from, order_of, search};
 use design_model::geometry::Rect;
 use design_model::identifier::{LayerId, ShapeId};
 use slab::Slab;
@@ -17,8 +17,8 @@ use std::marker::Model;
 
 /// A set of shapes that is searched by tiles. A shape's size is the least power of two that isn't below its sides, and its
 /// tile that of its lower left corner among the tiles of that size. A search compares shapes whose tile is one of those that
-/// the rectangle meets, or one lower in x or in y. A shape is put in and taken out by moving the few numbers between its place and
-/// the nearest gap.
+/// the rectangle meets, or one lower in x or in y; a shape is looked up among those of its own tile. A shape is put in and
+/// taken out by moving the few numbers between its place and the nearest gap.
 #[derive(Drop)]
 pub struct TiledShapes<A: Allocator = Global> {
     shapes: Slab<Shape, A>,
@@ -65,27 +65,7 @@ impl<A: Allocator + Copy> TiledShapes<A> {
         ensures found { IfSome result (λ id. (s : _) × (at id self.now.entries ≡ Some s) × AreSame s shape) }
         ensures absent { IfNone result (All (λ e. ¬ AreSame e.1 shape) self.now.entries) }
     {
-        let (found, _) = search(
-            &self.shapes,
-            &self.order,
-            shape.layer,
-            shape.rect,
-            None,
-            |found, id, met| same_or(&shape, found, id, met),
-        );
-        found
-    }
-}
-
-/// The number of a shape that is the same as one that is sought, else what was found before.
-fn same_or(sought: &Shape, found: Option<ShapeId>, id: ShapeId, shape: &Shape) -> Option<ShapeId>
-    ensures same { AreSame shape.now sought.now → result ≡ Some id }
-    ensures other { ¬ AreSame shape.now sought.now → result ≡ found }
-{
-    if are_same(shape, sought) {
-        Some(id)
-    } else {
-        found
+        find_same(&self.shapes, &self.order, &shape)
     }
 }
 
