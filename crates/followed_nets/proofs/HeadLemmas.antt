@@ -1,5 +1,6 @@
 -- What a head of a net is read as, and what it is in a design.
-use Rattle.std.proofs.Common.{◌≡◌, ◌∙◌, ◌<◌, ◌+◌, ℕ, Bool, true, false, List, [], ◌∷◌, ◌++◌, filter, flat_map, map, drop, get_or, length, Option, Some, None, Result, Ok, Err, refl, sym, ap, subst, append-nil}
+use Rattle.std.proofs.Common.{◌≡◌, ◌∙◌, ◌<◌, ◌+◌, ℕ, zero, suc, Bool, true, false, List, [], ◌∷◌, ◌++◌, filter, flat_map, map, drop, get_or, length, Option, Some, None, Result, Ok, Err, refl, sym, ap, subst, append-nil}
+use Rattle.std.specs.Prelude.{IfSome}
 use Rattle.std.specs.List.{AllByRecursion}
 use Rattle.std.specs.Str.{bytes_eq}
 use Rattle.std.proofs.lemmas.List.{drop_more}
@@ -16,7 +17,7 @@ use Rattle.followed_nets.specs.Heads.{Head, HeadLists, IsHead, IsHeadOf, ReadsAs
 use Rattle.followed_nets.proofs.TellLemmas.{is_entry_of, passes}
 
 -- a head is read as one record
-said_by : Record → Result (Option (Record × Mode × Lexed)) Fault → Record
+abbrev said_by : Record → Result (Option (Record × Mode × Lexed)) Fault → Record
 said_by other (Ok (Some x)) = x.0
 said_by other (Ok None) = other
 said_by other (Err f) = other
@@ -60,10 +61,15 @@ of_only_entry design net r h only is =
     let all : terminals_in design h.name ≡ terminals_of r = ap (terminals_in design) named ∙ ap (flat_map terminals_of) only ∙ append-nil (terminals_of r) in
     record { entry = is.head_lists.entry; reads = is.head_lists.reads; of_net = is.head_lists.of_net; lists = is.head_lists.lists ∙ sym all }
 
+-- of a head that may have been made
+pub if_some_so : {A : Type 0} (P Q : A → Type 0) (o : Option A) → ((a : A) → P a → Q a) → IfSome o P → IfSome o Q
+if_some_so P Q None f h = tt
+if_some_so P Q (Some a) f h = f a h
+
 -- one of some, at a place
 module _ {A B : Type 0} (view : A → B) (P : B → Type 0) where
   all_from : (xs : List A) (i : ℕ) → AllByRecursion P (map view xs) → AllByRecursion P (map view (drop i xs))
-  all_from xs 0 all = all
+  all_from xs zero all = all
   all_from [] (suc i) all = tt
   all_from (x ∷ xs) (suc i) all = all_from xs i all.1
 

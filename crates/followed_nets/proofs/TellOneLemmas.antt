@@ -1,4 +1,4 @@
--- The entry of a net with a component, behind the statements that any net may be made of, tells what that component is to the net.
+-- An entry of a net with a component, behind the statements that any net may be made of, tells what that component is to the net.
 use Rattle.std.proofs.Common.{◌≡◌, ◌∙◌, ℕ, Bool, true, false, ◌&&◌, List, [], ◌∷◌, ◌++◌, filter, flat_map, Option, Some, None, refl, sym, ap, ap₂, append-nil, if◌then◌else◌}
 use Rattle.std.specs.List.{filter_map}
 use Rattle.std.specs.Str.{bytes_eq}

@@ -224,7 +224,8 @@ impl<A: Allocator + Copy> FollowedNets<A> {
         let Some(listing) = nets_listing(alloc, text, component)? else {
             return Ok(None);
         };
-        let (common, heads) = (&self.common, &self.heads);
+        let common = &self.common;
+        let heads = &self.heads;
         let Some(stars) = told_stars(alloc, library, text, common, heads, kept, component)? else {
             return Ok(None);
         };
@@ -277,7 +278,8 @@ impl<A: Allocator + Copy> FollowedNets<A> {
             return Ok(None);
         };
         let name = own.name.bytes();
-        let (common, heads) = (&self.common, &self.heads);
+        let common = &self.common;
+        let heads = &self.heads;
         let Some(after) = told_stars(alloc, library, text, common, heads, &stars, name)? else {
             return Ok(None);
         };

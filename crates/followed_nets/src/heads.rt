@@ -4,17 +4,18 @@
 //! are needed. So these are written into bytes once, as an entry, and read each time. What is written is read back and compared before it is
 //! taken for a head, so that nothing is to be known of how it is spelled.
 
-ghost use Rattle.std.specs.Prelude.{◌≡◌, false, List, Some, IfOk, IfSome, IsTrue, map};
+ghost use Rattle.std.specs.Prelude.{◌≡◌, false, List, IfOk, IfSome, IsTrue, map};
 ghost use Rattle.std.specs.List.{AllByRecursion};
 ghost use Rattle.def_grammar.specs.Records.{Record};
 ghost use Rattle.wire_parts.specs.TerminalViews.{terminal_view, terminals_of as terminals_left};
 ghost use Rattle.def_reader.specs.StatementViews.{record_view};
 ghost use Rattle.net_laws.specs.NetChanges.{is_one_of};
-ghost use Rattle.net_laws.specs.NetsTold.{net_of_record, terminals_of};
+ghost use Rattle.net_laws.specs.NetsTold.{terminals_of};
 ghost use Rattle.design_text.specs.DesignTexts.{design_of};
 ghost use Rattle.followed_nets.specs.Heads.{HeadLists, IsHead, IsHeadOf, ReadsAs};
 ghost use Rattle.followed_nets.specs.ToldViews.{head_view};
 
+use crate::listed::net_name;
 use crate::told_statements::only_entry;
 use crate::within::is_one_of;
 use def_reader::entry::Entry;
@@ -37,31 +38,11 @@ pub(crate) struct Head<A: Allocator = Global> {
     bytes: Vec<u8, A>,
 }
 
-/// The name of a net, the section of its entry, and the terminals that this lists.
-#[derive(Clone, Copy)]
-struct Listed<'t> {
-    name: &'t [u8],
-    section: Section,
-    terminals: Parts<'t, Terminal<'t>>,
-}
-
-/// What a statement lists, if it is an entry of a net.
-fn listed_by<'t>(statement: &Statement<'t>) -> Option<Listed<'t>>
-    ensures name { IfSome result (λ l. net_of_record (record_view statement.now) ≡ Some l.name.now) }
-    ensures terminals { IfSome result (λ l. terminals_of (record_view statement.now) ≡ terminals_left l.terminals) }
-{
-    match statement {
-        Statement::Entry(Entry::Net(NetEntry::Net(net))) => Some(Listed {
-            name: net.name.bytes,
-            section: Section::Nets,
-            terminals: net.terminals,
-        }),
-        Statement::Entry(Entry::SpecialNet(net)) => Some(Listed {
-            name: net.name.bytes,
-            section: Section::SpecialNets,
-            terminals: net.terminals,
-        }),
-        _ => None,
+/// The mode in which a head of the net of an entry is read.
+fn mode_of(entry: &Statement<'_>) -> Mode {
+    match entry {
+        Statement::Entry(Entry::SpecialNet(_)) => Mode::In(Section::SpecialNets),
+        _ => Mode::In(Section::Nets),
     }
 }
 
@@ -116,6 +97,20 @@ fn all_of<'t, A: Allocator + Copy>(
     Ok(all)
 }
 
+/// All terminals that a statement lists, which are none where it is no entry of a net.
+fn all_listed<'t, A: Allocator + Copy>(
+    alloc: A,
+    statement: &Statement<'t>,
+) -> Result<Vec<Terminal<'t>, A>, AllocError>
+    ensures { IfOk result (λ v. map terminal_view v.items ≡ terminals_of (record_view statement.now)) }
+{
+    match statement {
+        Statement::Entry(Entry::Net(NetEntry::Net(net))) => all_of(alloc, &net.terminals),
+        Statement::Entry(Entry::SpecialNet(net)) => all_of(alloc, &net.terminals),
+        _ => Ok(Vec::new(alloc)),
+    }
+}
+
 /// Whether two terminals are alike.
 fn are_alike(one: &Terminal<'_>, other: &Terminal<'_>) -> bool
     ensures { IsTrue result → terminal_view one.now ≡ terminal_view other.now }
@@ -139,6 +134,17 @@ fn are_those<'t>(terminals: &Parts<'t, Terminal<'t>>, sought: &[Terminal<'_>]) -
     left.next().is_none()
 }
 
+/// Whether a statement is an entry of a net that lists those terminals.
+fn lists_those<'t>(statement: &Statement<'t>, sought: &[Terminal<'_>]) -> bool
+    ensures { IsTrue result → terminals_of (record_view statement.now) ≡ map terminal_view sought.now }
+{
+    match statement {
+        Statement::Entry(Entry::Net(NetEntry::Net(net))) => are_those(&net.terminals, sought),
+        Statement::Entry(Entry::SpecialNet(net)) => are_those(&net.terminals, sought),
+        _ => false,
+    }
+}
+
 impl<A: Allocator> Head<A> {
     /// The statement that its bytes are, if they are one.
     pub(crate) fn read(&self) -> Option<Statement<'_>>
@@ -157,42 +163,40 @@ impl<A: Allocator> Head<A> {
         let Some(entry) = self.read() else {
             return false;
         };
-        let Some(listed) = listed_by(&entry) else {
+        let Some(name) = net_name(&entry) else {
             return false;
         };
-        listed.name == self.name.bytes() && are_those(&listed.terminals, terminals)
+        name == self.name.bytes() && lists_those(&entry, terminals)
     }
 }
 
 /// The head of a net that lists these terminals, as it is written.
 fn written<A: Allocator + Copy>(
     alloc: A,
-    listed: &Listed<'_>,
+    name: &[u8],
+    mode: Mode,
     terminals: &[Terminal<'_>],
 ) -> Result<Head<A>, AllocError>
-    ensures { IfOk result (λ h. (head_view h).name ≡ listed.now.name.now) }
+    ensures { IfOk result (λ h. (head_view h).name ≡ name.now) }
 {
-    let name = OwnName::copy_of(alloc, listed.name)?;
     let mut bytes = Vec::new(alloc);
-    put_entry(&mut bytes, listed.name, terminals)?;
-    Ok(Head {
-        name,
-        mode: Mode::In(listed.section),
-        bytes,
-    })
+    put_entry(&mut bytes, name, terminals)?;
+    let name = OwnName::copy_of(alloc, name)?;
+    Ok(Head { name, mode, bytes })
 }
 
 /// The same, if it is read as it was written.
 fn read_back<A: Allocator + Copy>(
     alloc: A,
-    listed: &Listed<'_>,
+    name: &[u8],
+    mode: Mode,
+    terminals: &[Terminal<'_>],
 ) -> Result<Option<Head<A>>, AllocError>
-    ensures name { IfOk result (λ found. IfSome found (λ h. (head_view h).name ≡ listed.now.name.now)) }
-    ensures lists { IfOk result (λ found. IfSome found (λ h. HeadLists (head_view h) (terminals_left listed.now.terminals))) }
+    ensures name { IfOk result (λ found. IfSome found (λ h. (head_view h).name ≡ name.now)) }
+    ensures lists { IfOk result (λ found. IfSome found (λ h. HeadLists (head_view h) (map terminal_view terminals.now))) }
 {
-    let terminals = all_of(alloc, &listed.terminals)?;
-    let head = written(alloc, listed, &terminals)?;
-    if !head.lists(&terminals) {
+    let head = written(alloc, name, mode, terminals)?;
+    if !head.lists(terminals) {
         return Ok(None);
     }
     Ok(Some(head))
@@ -205,10 +209,11 @@ fn head_of<A: Allocator + Copy>(
 ) -> Result<Option<Head<A>>, AllocError>
     ensures { IfOk result (λ found. IfSome found (λ h. IsHeadOf (record_view entry.now) (head_view h))) }
 {
-    let Some(listed) = listed_by(entry) else {
+    let Some(name) = net_name(entry) else {
         return Ok(None);
     };
-    let found = read_back(alloc, &listed)?;
+    let terminals = all_listed(alloc, entry)?;
+    let found = read_back(alloc, name, mode_of(entry), &terminals)?;
     Ok(found)
 }
 
