@@ -100,7 +100,7 @@ near_as library design names more same =
 
 module _ (library : Library) (records then_records : List (StmtId × Record)) (noted : Nets) (kept : Kept) (t : Touched) (after : List Told)
     (exchanged : ToldNetsAreExchanged) (entries : OneEntryTells) (sorted : SameLinesSortAlike) (symmetric : ShortIsSymmetric)
-    (touched : AreTouched library (said records) t) (followed : AreFollowed library records noted kept) (leaves : LeavesOthers (said records) (said then_records) t) (fits : Fits noted.stars t)
+    (touched : AreTouched library (said records) t) (followed : AreFollowed library records noted kept) (leaves : LeavesOthers (said records) (said then_records) t) (fits : Fits noted.stars noted.heads t)
     (then_told : AreToldIn library (said then_records) after) (then_named : map name_of after ≡ t.names) where
   abbrev old : List Record
   old = said records

@@ -1,5 +1,7 @@
 mod ChangedShapes
 mod FollowLemmas
+mod HeadLemmas
+mod HeadsStay
 mod KeptStatements
 mod LackingLemmas
 mod LastOnes

@@ -1,5 +1,5 @@
--- The entry of a net with a component, behind the statements that any net may be made of, tells what that component is to the net.
-use Rattle.std.proofs.Common.{◌≡◌, ◌∙◌, ℕ, Bool, true, false, ◌&&◌, List, [], ◌∷◌, ◌++◌, filter, Option, Some, None, refl, sym, ap, ap₂, append-nil, if◌then◌else◌}
+-- An entry of a net with a component, behind the statements that any net may be made of, tells what that component is to the net.
+use Rattle.std.proofs.Common.{◌≡◌, ◌∙◌, ℕ, Bool, true, false, ◌&&◌, List, [], ◌∷◌, ◌++◌, filter, flat_map, Option, Some, None, refl, sym, ap, ap₂, append-nil, if◌then◌else◌}
 use Rattle.std.specs.List.{filter_map}
 use Rattle.std.specs.Str.{bytes_eq}
 use Rattle.std.proofs.lemmas.List.Elements.{filter-append, filter_map-append}
@@ -9,10 +9,10 @@ use Rattle.def_grammar.specs.Components.{Component}
 use Rattle.def_grammar.specs.Nets.{is_net, must_join}
 use Rattle.def_grammar.specs.Records as records
 use Rattle.def_grammar.specs.Records.{Record, component_of, end_section, entry, in_properties, top}
-use Rattle.net_laws.specs.NetsTold.{is_common, is_of_net, net_of_record}
+use Rattle.net_laws.specs.NetsTold.{is_common, is_of_net, net_of_record, terminals_in, terminals_of}
 use Rattle.net_laws.specs.StarNets.{TellOne, those_named}
 use Rattle.followed_nets.proofs.OneEntry.{is_in}
-use Rattle.followed_nets.proofs.TellLemmas.{IsEntryOf, filtered_again, is_entry_of, no_component, no_net, no_net_entry, none_of_others, none_selected, passes}
+use Rattle.followed_nets.proofs.TellLemmas.{IsEntryOf, filtered_again, is_entry_of, no_component, no_net, no_net_entry, none_of_others, none_selected}
 
 module _ (name : List ℕ) where
   abbrev owns : Record → Bool
@@ -105,9 +105,9 @@ module _ (name : List ℕ) where
   no_name (entry (records.rule x)) h = refl
   no_name (entry (records.skipped s x)) h = refl
 
-module _ (design : List Record) (net component : List ℕ) (e : Record) (only : filter (is_of_net net) design ≡ e ∷ []) where
+module _ (design : List Record) (net component : List ℕ) (e : Record) (of_net : is_of_net net e ≡ true) (lists : terminals_of e ≡ terminals_in design net) where
   own : IsEntryOf net e
-  own = is_entry_of net e (passes (is_of_net net) design e only)
+  own = is_entry_of net e of_net
 
   abbrev commons : List Record
   commons = filter is_common design
@@ -133,12 +133,14 @@ module _ (design : List Record) (net component : List ℕ) (e : Record) (only : 
         (ap₂ (λ (a b : List Record). a ++ b) (filtered_again is_common design) (none_of_others (owns component) is_common (not_common component) design) ∙ append-nil commons)
         (ap (λ (b : Bool). if b then e ∷ [] else []) own.not_common)
         ∙ append-nil commons;
-    entries =
+    terminals =
+        ap (flat_map terminals_of) (
         those (is_of_net net)
         ∙ ap₂ (λ (a b : List Record). a ++ b)
         (ap₂ (λ (a b : List Record). a ++ b) (none_of_others is_common (is_of_net net) (no_net_entry net) design) (none_of_others (owns component) (is_of_net net) (no_entry component net) design))
-        (ap (λ (b : Bool). if b then e ∷ [] else []) (passes (is_of_net net) design e only))
-        ∙ sym only;
+        (ap (λ (b : Bool). if b then e ∷ [] else []) of_net))
+        ∙ append-nil (terminals_of e)
+        ∙ lists;
     components =
         selected component_of
         ∙ ap₂ (λ (a b : List Component). a ++ b)
@@ -153,9 +155,9 @@ module _ (design : List Record) (net component : List ℕ) (e : Record) (only : 
   }
 
 -- so they do once they were put one behind the other
-pub these_tell_one : (design : List Record) (net component : List ℕ) (e : Record) (commons with_own some : List Record) → filter (is_of_net net) design ≡ e ∷ [] → commons ≡ filter is_common design
+pub these_tell_one : (design : List Record) (net component : List ℕ) (e : Record) (commons with_own some : List Record) → is_of_net net e ≡ true → terminals_of e ≡ terminals_in design net → commons ≡ filter is_common design
     → with_own ≡ commons ++ filter (is_in Components component) design → some ≡ with_own ++ e ∷ [] → TellOne some design net component
-these_tell_one design net component e commons with_own some only commons_are own_is some_is =
+these_tell_one design net component e commons with_own some of_net lists commons_are own_is some_is =
     let is : some ≡ (filter is_common design ++ filter (is_in Components component) design) ++ e ∷ [] =
     some_is ∙ ap (λ (l : List Record). l ++ e ∷ []) (own_is ∙ ap (λ (l : List Record). l ++ filter (is_in Components component) design) commons_are) in
-    rw is (these_are design net component e only)
+    rw is (these_are design net component e of_net lists)

@@ -1,5 +1,6 @@
 -- The nets of a text whose shapes are kept, and the lines on them.
 use Rattle.std.specs.Prelude.{◌≡◌, ℕ, IfSome, List, Option}
+use Rattle.std.specs.List.{AllByRecursion}
 use Rattle.design_model.specs.declared.identifier.StmtId.{StmtId}
 use Rattle.design_model.specs.Order.{sorted_by_bytes}
 use Rattle.def_grammar.specs.Records.{Record}
@@ -10,21 +11,24 @@ use Rattle.connection_rules.specs.NetParts.{Net, all_nets}
 use Rattle.following_laws.specs.DesignLaws.{lines_on_nets}
 use Rattle.line_laws.specs.Lines.{SameThings}
 use Rattle.named_shapes.specs.Named.{shapes_by_name}
+use Rattle.followed_nets.specs.Heads.{Head, IsHead}
 use Rattle.followed_nets.specs.Noted.{AreCommon, said}
 use Rattle.followed_nets.specs.Stars.{AreStars}
 
--- the shapes of nets by the nets' names, the numbers of the statements that any net may be made of, and the nets that list a pin of all
--- components, unless these aren't kept
+-- the shapes of nets by the nets' names, the numbers of the statements that any net may be made of, the nets that list a pin of all
+-- components, unless these aren't kept, and heads of nets
 pub record Nets : Type 0 where
   pub shapes : List NetShape
   pub common : List StmtId
   pub stars : Option (List Net)
+  pub heads : List Head
 
 -- they are those of a text's numbered statements
 pub record HasNets (library : Library) (records : List (StmtId × Record)) (n : Nets) : Type 0 where
   pub shapes_are : SameThings n.shapes (shapes_by_name (all_nets library (said records) (scale (said records))))
   pub common_are : AreCommon records n.common
   pub stars_are : IfSome n.stars (AreStars library (said records))
+  pub heads_are : AllByRecursion (IsHead (said records)) n.heads
 
 -- shapes that are kept are those of nets, and lines that are kept are those on these nets, in the order of their bytes
 pub record AreOnNets (library : Library) (bars : List Barrier) (nets : List Net) (shapes : List NetShape) (lines : List (List ℕ)) : Type 0 where

@@ -1,5 +1,6 @@
 pub mod Exchanging
 pub mod FollowedNets
+pub mod Heads
 pub mod Lacking
 pub mod Listed
 pub mod Noted

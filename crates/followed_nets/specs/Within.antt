@@ -8,6 +8,7 @@ use Rattle.net_laws.specs.NetChanges.{AgreeApart, is_one_of}
 use Rattle.net_laws.specs.NetsTold.{terminals_in}
 use Rattle.net_laws.specs.StarNets.{AgreeBut}
 use Rattle.net_laws.specs.Within.{NoOtherLists}
+use Rattle.followed_nets.specs.Heads.{Head}
 use Rattle.followed_nets.specs.Stars.{names_of}
 use Rattle.followed_nets.specs.Touched.{Touched, star_names}
 
@@ -28,7 +29,9 @@ pub record LeavesOthers (old new : List Record) (t : Touched) : Type 0 where
   pub but : (name net : List ℕ) → t.component ≡ Some name → AgreeBut old new net name
   pub no_stars : (net : List ℕ) → list_any is_of_all (terminals_in old net) ≡ false → list_any is_of_all (terminals_in new net) ≡ false
 
--- nets that are kept with their parts are those that an edit of a component touches, and others than those that another edit touches
-pub record Fits (kept : Option (List Net)) (t : Touched) : Type 0 where
+-- nets that are kept with their parts are those that an edit of a component touches, and others than those that another edit touches; so are
+-- those of which there are heads
+pub record Fits (kept : Option (List Net)) (hs : List Head) (t : Touched) : Type 0 where
   pub own : (name : List ℕ) → t.component ≡ Some name → (stars : List Net) × (kept ≡ Some stars) × (star_names t.stars ≡ names_of stars)
   pub others : t.component ≡ None → (stars : List Net) → kept ≡ Some stars → AllByRecursion (λ (s : Net). is_one_of t.names s.name ≡ false) stars
+  pub heads : t.component ≡ None → AllByRecursion (λ (h : Head). is_one_of t.names h.name ≡ false) hs

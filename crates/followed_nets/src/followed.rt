@@ -12,6 +12,7 @@ ghost use Rattle.net_laws.specs.Within.{NoOtherLists};
 ghost use Rattle.design_text.specs.DesignTexts.{design_of};
 ghost use Rattle.design_text.specs.Exchanges.{AreExchanges, records_in};
 ghost use Rattle.followed_nets.specs.FollowedNets.{HasNets};
+ghost use Rattle.followed_nets.specs.Heads.{IsHead};
 ghost use Rattle.followed_nets.specs.Listed.{AllList, AreApart};
 ghost use Rattle.followed_nets.specs.Noted.{AreCommon, said};
 ghost use Rattle.followed_nets.specs.Pieces.{AreOnPieces, ArePieces, Piece};
@@ -23,6 +24,7 @@ ghost use Rattle.followed_nets.specs.Touched.{AreFollowed, ArePinsOf, AreTouched
 ghost use Rattle.followed_nets.specs.Within.{Fits, LeavesOthers};
 
 use crate::exchanging::{FollowedOnNets, exchange_nets};
+use crate::heads::{Head, are_of_others, heads_if};
 use crate::listed::{add_name, nets_listing};
 use crate::noted::{common_numbers, drawn_nets, star_names};
 use crate::star_exchange::{ExchangedStars, ToldExchange, exchange_stars, with_more};
@@ -55,15 +57,19 @@ pub struct FollowedNets<A: Allocator = Global> {
     common: Vec<StmtId, A>,
     /// The nets that list a pin of all components, unless they aren't kept.
     stars: Option<Vec<KeptNet<A>, A>>,
+    /// Heads of these, which are read at each edit of a component. A net without one isn't followed then.
+    heads: Vec<Head<A>, A>,
 }
 
 impl<A: Allocator> Model for FollowedNets<A> {
+    ghost use Rattle.std.specs.Prelude.{map};
     ghost use Rattle.std.specs.Option.{option_map};
     ghost use Rattle.followed_nets.specs.FollowedNets.{Nets};
+    ghost use Rattle.followed_nets.specs.ToldViews.{head_view};
 
     ghost Value = { Nets };
 
-    ghost view = { λ n. record { shapes = n.shapes; common = n.common.items; stars = option_map (λ v. v.items) n.stars } };
+    ghost view = { λ n. record { shapes = n.shapes; common = n.common.items; stars = option_map (λ v. v.items) n.stars; heads = map head_view n.heads.items } };
 }
 
 impl<A: Allocator + Copy> TouchedNets<A> {
@@ -141,10 +147,12 @@ impl<A: Allocator + Copy> FollowedNets<A> {
         let common = common_numbers(alloc, &statements)?;
         let names = star_names(alloc, &statements)?;
         let drawn = drawn_nets(alloc, library, text, names)?;
+        let heads = heads_if(alloc, text, &drawn.stars)?;
         Ok(FollowedNets {
             shapes: drawn.shapes,
             common,
             stars: drawn.stars,
+            heads,
         })
     }
 
@@ -216,7 +224,9 @@ impl<A: Allocator + Copy> FollowedNets<A> {
         let Some(listing) = nets_listing(alloc, text, component)? else {
             return Ok(None);
         };
-        let Some(stars) = told_stars(alloc, library, text, &self.common, kept, component)? else {
+        let common = &self.common;
+        let heads = &self.heads;
+        let Some(stars) = told_stars(alloc, library, text, common, heads, kept, component)? else {
             return Ok(None);
         };
         let names = names_of_others(alloc, &listing, kept)?;
@@ -231,14 +241,17 @@ impl<A: Allocator + Copy> FollowedNets<A> {
     }
 
     /// Whether the nets that are kept with their parts are those that an edit of a component touched, and others than those that an
-    /// edit of a net touched.
+    /// edit of a net touched; and whether those with heads are others than these, too.
     fn fits(&self, touched: &TouchedNets<A>) -> bool
-        ensures { IsTrue result → Fits self.now.stars touched.now }
+        ensures { IsTrue result → Fits self.now.stars self.now.heads touched.now }
     {
         match (&self.stars, &touched.component) {
             (Some(stars), Some(own)) => are_named(stars, &own.stars),
-            (Some(stars), None) => are_others(stars, &touched.names),
-            (None, component) => component.is_none(),
+            (Some(stars), None) => {
+                are_others(stars, &touched.names) && are_of_others(&self.heads, &touched.names)
+            }
+            (None, Some(_)) => false,
+            (None, None) => are_of_others(&self.heads, &touched.names),
         }
     }
 
@@ -252,9 +265,11 @@ impl<A: Allocator + Copy> FollowedNets<A> {
         own: TouchedComponent<A>,
         told: ToldExchange<A>,
     ) -> Result<Option<ToldExchange<A>>, AllocError>
-        requires { AreCommon (records_in text.now) self.old.common }
+        requires common { AreCommon (records_in text.now) self.old.common }
+        requires heads { AllByRecursion (IsHead (said (records_in text.now))) self.old.heads }
         ensures shapes { self.new.shapes ≡ self.old.shapes }
         ensures common { self.new.common ≡ self.old.common }
+        ensures heads { self.new.heads ≡ self.old.heads }
         ensures own { (old : List Record) (stars : List Net) → self.old.stars ≡ Some stars → AwaitsOwn library.now old (said (records_in text.now)) own.name stars (map star_view own.stars.items)
             → IfOk result (λ found. IfSome found (λ e. HaveComponent library.now old (said (records_in text.now)) own.name (names_of stars) (map told_view told.gone.items) (map told_view told.come.items) self.new.stars (map told_view e.gone.items) (map told_view e.come.items))) }
     {
@@ -263,7 +278,9 @@ impl<A: Allocator + Copy> FollowedNets<A> {
             return Ok(None);
         };
         let name = own.name.bytes();
-        let Some(after) = told_stars(alloc, library, text, &self.common, &stars, name)? else {
+        let common = &self.common;
+        let heads = &self.heads;
+        let Some(after) = told_stars(alloc, library, text, common, heads, &stars, name)? else {
             return Ok(None);
         };
         let Some(exchanged) = exchange_stars(alloc, stars, own.stars, after)? else {
@@ -284,9 +301,11 @@ impl<A: Allocator + Copy> FollowedNets<A> {
         component: Option<TouchedComponent<A>>,
         told: ToldExchange<A>,
     ) -> Result<Option<ToldExchange<A>>, AllocError>
-        requires { AreCommon (records_in text.now) self.old.common }
+        requires common { AreCommon (records_in text.now) self.old.common }
+        requires heads { AllByRecursion (IsHead (said (records_in text.now))) self.old.heads }
         ensures shapes { self.new.shapes ≡ self.old.shapes }
         ensures common { self.new.common ≡ self.old.common }
+        ensures heads { self.new.heads ≡ self.old.heads }
         ensures none { IfNone component (self.new.stars ≡ self.old.stars × IfOk result (λ found. IfSome found (λ e. e ≡ told))) }
         ensures own { IfSome component (λ own. (old : List Record) (stars : List Net) → self.old.stars ≡ Some stars → AwaitsOwn library.now old (said (records_in text.now)) own.name stars (map star_view own.stars.items)
             → IfOk result (λ found. IfSome found (λ e. HaveComponent library.now old (said (records_in text.now)) own.name (names_of stars) (map told_view told.gone.items) (map told_view told.come.items) self.new.stars (map told_view e.gone.items) (map told_view e.come.items)))) }
@@ -308,6 +327,7 @@ impl<A: Allocator + Copy> FollowedNets<A> {
     ) -> Result<Option<FollowedOnNets<A>>, AllocError>
         requires { (bars : List Barrier) × (out : List Piece) × (put : List Piece) × (rest : List Piece) × ArePieces (layer_name library.now.layers) bars out (map told_view told.gone.items) × ArePieces (layer_name library.now.layers) bars put (map told_view told.come.items) × AreOnPieces (layer_name library.now.layers) bars (out ++ rest) self.old.shapes kept.lines }
         ensures common { self.new.common ≡ self.old.common }
+        ensures heads { self.new.heads ≡ self.old.heads }
         ensures stars { self.new.stars ≡ self.old.stars }
         ensures lines { (bars : List Barrier) (out put rest : List Piece) → ArePieces (layer_name library.now.layers) bars out (map told_view told.gone.items) → ArePieces (layer_name library.now.layers) bars put (map told_view told.come.items) → AreOnPieces (layer_name library.now.layers) bars (out ++ rest) self.old.shapes kept.lines
             → IfOk result (λ found. IfSome found (λ f. AreOnPieces (layer_name library.now.layers) bars (put ++ rest) self.new.shapes f.lines.lines)) }

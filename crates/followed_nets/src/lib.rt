@@ -5,7 +5,8 @@
 //! were compared for them (`specs/Tests`). What is noted follows then, too, and else isn't to be used any more.
 //!
 //! A net is told by few statements of the text (`told`), and exchanged as a whole. A net that lists a pin of all components is kept with
-//! its parts, and an edit of a component exchanges its pins of that component (`star_pins`, `star_exchange`). Both are pieces of
+//! its parts, and an edit of a component exchanges its pins of that component (`star_pins`, `star_exchange`); of its entry only the name and
+//! the terminals are read then, which are kept without the wiring (`heads`). Both are pieces of
 //! `specs/Pieces`: first all that go are taken out, then all that come are put in (`exchanging`).
 //!
 //! Who follows something else of nets finds the statements that tell one by `common_numbers` and `told_statements`, and whether an edit
@@ -15,6 +16,7 @@
 mod changed_shapes;
 mod exchanging;
 mod followed;
+mod heads;
 mod listed;
 mod noted;
 mod star_exchange;

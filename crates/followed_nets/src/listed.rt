@@ -23,7 +23,7 @@ use wire_parts::nets::NetEntry;
 const MOST_NETS: usize = 64;
 
 /// The name of the net that a statement is an entry of.
-fn net_name<'t>(statement: &Statement<'t>) -> Option<&'t [u8]>
+pub(crate) fn net_name<'t>(statement: &Statement<'t>) -> Option<&'t [u8]>
     ensures { option_map word_view result ≡ net_of_record (record_view statement.now) }
 {
     match statement {

@@ -11,9 +11,12 @@ ghost use Rattle.kept_nets.specs.Parts.{part_view};
 ghost use Rattle.net_laws.specs.StarNets.{TellOne, pins_by_one, pins_in};
 ghost use Rattle.design_text.specs.DesignTexts.{design_of};
 ghost use Rattle.design_text.specs.Exchanges.{records_in};
+ghost use Rattle.followed_nets.specs.Heads.{IsHead};
 ghost use Rattle.followed_nets.specs.Noted.{AreCommon};
+ghost use Rattle.followed_nets.specs.ToldViews.{head_view};
 
-use crate::told_statements::{entry_in, only_entry};
+use crate::heads::Head;
+use crate::told_statements::entry_in;
 use cell_library::library::Library;
 use def_reader::statement::Statement;
 use design_model::identifier::StmtId;
@@ -42,20 +45,21 @@ fn push_own<'t, A: Allocator + Copy>(
     Ok(())
 }
 
-/// The statements that tell what a component is to a net of a text: those that any net may be made of, which have these numbers, the
-/// component, and the net's entry. There are none where the net has no entry, or one in each section.
+/// The statements that tell what a component is to the net of a head: those that any net may be made of, which have these numbers, the
+/// component, and the entry that the head is read as.
 fn statements_of_one<'t, A: Allocator + Copy>(
     alloc: A,
     text: &'t DesignText<A>,
     common: &[StmtId],
-    net: &[u8],
+    head: &'t Head<A>,
     component: &[u8],
 ) -> Result<Option<Vec<Statement<'t>, A>>, AllocError>
-    requires { AreCommon (records_in text.now) common.now }
-    ensures { IfOk result (λ found. IfSome found (λ v. TellOne (map record_view v.items) (design_of text.entry.now) net.now component.now)) }
+    requires common { AreCommon (records_in text.now) common.now }
+    requires head { IsHead (design_of text.now) (head_view head.now) }
+    ensures { IfOk result (λ found. IfSome found (λ v. TellOne (map record_view v.items) (design_of text.entry.now) (head_view head.entry.now).name component.now)) }
 {
     text.statements_are_kept();
-    let Some(entry) = only_entry(text, net) else {
+    let Some(entry) = head.read() else {
         return Ok(None);
     };
     let mut statements = text.kept(alloc, common)?;
@@ -96,22 +100,23 @@ fn pins_by<A: Allocator + Copy>(
     first_pins(alloc, &nets)
 }
 
-/// The pins of a net of a text by a component, unless the net has no entry, or one in each section.
+/// The pins of the net of a head in a text by a component, unless the head isn't read.
 pub(crate) fn star_pins<A: Allocator + Copy>(
     alloc: A,
     library: &Library<'_, A>,
     text: &DesignText<A>,
     common: &[StmtId],
-    net: &[u8],
+    head: &Head<A>,
     component: &[u8],
 ) -> Result<Option<Vec<KeptPart<A>, A>>, AllocError>
-    requires { AreCommon (records_in text.now) common.now }
-    ensures { IfOk result (λ found. IfSome found (λ v. map part_view v.items ≡ pins_by_one library.now (design_of text.now) (scale (design_of text.now)) net.now component.now)) }
+    requires common { AreCommon (records_in text.now) common.now }
+    requires head { IsHead (design_of text.now) (head_view head.now) }
+    ensures { IfOk result (λ found. IfSome found (λ v. map part_view v.items ≡ pins_by_one library.now (design_of text.now) (scale (design_of text.now)) (head_view head.now).name component.now)) }
 {
     one_component_is_told();
     scales_are_good();
     text.design_is_read();
-    let Some(statements) = statements_of_one(alloc, text, common, net, component)? else {
+    let Some(statements) = statements_of_one(alloc, text, common, head, component)? else {
         return Ok(None);
     };
     let pins = pins_by(alloc, library, &statements)?;

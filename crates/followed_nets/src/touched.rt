@@ -1,6 +1,7 @@
 //! The nets that an edit is about to change.
 
 ghost use Rattle.std.specs.Prelude.{◌≡◌, [], IfOk, IfSome, IsTrue, List, None, map};
+ghost use Rattle.std.specs.List.{AllByRecursion};
 ghost use Rattle.def_grammar.specs.Records.{Record};
 ghost use Rattle.lef_grammar.specs.Library.{Library as TheLibrary};
 ghost use Rattle.design_rules.specs.Boxes.{scale};
@@ -8,11 +9,13 @@ ghost use Rattle.net_laws.specs.StarNets.{pins_by_one};
 ghost use Rattle.design_text.specs.DesignTexts.{design_of};
 ghost use Rattle.design_text.specs.Exchanges.{records_in};
 ghost use Rattle.followed_nets.specs.Exchanging.{AreToldIn, name_of};
+ghost use Rattle.followed_nets.specs.Heads.{IsHead};
 ghost use Rattle.followed_nets.specs.Noted.{AreCommon};
 ghost use Rattle.followed_nets.specs.Stars.{names_of};
-ghost use Rattle.followed_nets.specs.ToldViews.{star_view, told_view};
+ghost use Rattle.followed_nets.specs.ToldViews.{head_view, star_view, told_view};
 ghost use Rattle.followed_nets.specs.Touched.{ArePinsBy, AreTouched, star_names};
 
+use crate::heads::{Head, head_named};
 use crate::star_pins::star_pins;
 use crate::told::{ToldNet, told_net};
 use cell_library::library::Library;
@@ -92,20 +95,25 @@ pub(crate) fn told_nets<A: Allocator + Copy>(
     Ok(Some(told))
 }
 
-/// The pins of a net of a text by a component, under the net's name, unless something isn't told of it.
+/// The pins of a net of a text by a component, under the net's name, unless there is no head of it.
 fn told_star<A: Allocator + Copy>(
     alloc: A,
     library: &Library<'_, A>,
     text: &DesignText<A>,
     common: &[StmtId],
+    heads: &[Head<A>],
     net: &[u8],
     component: &[u8],
 ) -> Result<Option<ToldStar<A>>, AllocError>
-    requires { AreCommon (records_in text.now) common.now }
+    requires common { AreCommon (records_in text.now) common.now }
+    requires heads { AllByRecursion (IsHead (design_of text.now)) (map head_view heads.now) }
     ensures named { IfOk result (λ found. IfSome found (λ s. (star_view s).name ≡ net.now)) }
     ensures pins { IfOk result (λ found. IfSome found (λ s. (star_view s).pins ≡ pins_by_one library.now (design_of text.now) (scale (design_of text.now)) net.now component.now)) }
 {
-    let Some(pins) = star_pins(alloc, library, text, common, net, component)? else {
+    let Some(head) = head_named(heads, net) else {
+        return Ok(None);
+    };
+    let Some(pins) = star_pins(alloc, library, text, common, head, component)? else {
         return Ok(None);
     };
     let name = OwnName::copy_of(alloc, net)?;
@@ -118,16 +126,18 @@ pub(crate) fn told_stars<A: Allocator + Copy>(
     library: &Library<'_, A>,
     text: &DesignText<A>,
     common: &[StmtId],
+    heads: &[Head<A>],
     stars: &[KeptNet<A>],
     component: &[u8],
 ) -> Result<Option<Vec<ToldStar<A>, A>>, AllocError>
-    requires { AreCommon (records_in text.now) common.now }
+    requires common { AreCommon (records_in text.now) common.now }
+    requires heads { AllByRecursion (IsHead (design_of text.now)) (map head_view heads.now) }
     ensures pins { IfOk result (λ found. IfSome found (λ v. ArePinsBy library.now (design_of text.now) component.now (map star_view v.items))) }
     ensures named { IfOk result (λ found. IfSome found (λ v. star_names (map star_view v.items) ≡ names_of stars.now)) }
 {
     let mut told = Vec::new(alloc);
     for star in stars {
-        match told_star(alloc, library, text, common, star.name(), component)? {
+        match told_star(alloc, library, text, common, heads, star.name(), component)? {
             Some(net) => told.push(net)?,
             None => return Ok(None),
         }

@@ -26,7 +26,7 @@ use Rattle.net_laws.specs.StarNets.{OneComponentExchanged, OneComponentIsTold, p
 use Rattle.net_laws.proofs.ComponentPins.{is_own, is_paired, its, named, not_own, others, others_of_all, others_of_named, own, own_of_all, own_of_named, paired_of_all, paired_of_one, pin_in, pin_of, unpaired}
 use Rattle.net_laws.proofs.OneNet.{same_scale, told}
 use Rattle.net_laws.proofs.PinsOnce.{counted, counted_parts, parted}
-use Rattle.net_laws.proofs.ToldNets.{named_wired_same, same_design, same_naming}
+use Rattle.net_laws.proofs.ToldNets.{named_wired_same, same_design, same_naming, terminals_are}
 
 -- lists of which elements are left out twice
 module _ {A : Type 0} where
@@ -312,14 +312,17 @@ module _ (library : Library) (a : List Record) (u : ℕ) (net name : List ℕ) w
       one true left h = h
       one false left h = h
 
+  pins_are : (ps : List NetPin) (ws : List Wired) → pins_in (parts_by ps ws) ≡ counting ps
+  pins_are ps ws =
+      filter-append (λ (p : Part). p.is_pin) (counting ps) (drawn_parts library.layers ws)
+      ∙ ap₂ (λ (xs ys : List Part). xs ++ ys) (all_pins (filter (λ (p : NetPin). p.counts) (each_once [] ps))) (no_pins_drawn library.layers (flat_map (λ (w : Wired). drawn w.pieces) ws))
+      ∙ append-nil (counting ps)
+
   abbrev others_with : List Component → List Part
   others_with cs = map pin_part (filter (λ (p : NetPin). p.counts) (rest_pins library a u net name (terminals (wired a)) cs))
 
-  module _ (x : List Record) (cs : List Component) (common : filter is_common x ≡ filter is_common a) (entries : filter (is_of_net net) x ≡ filter (is_of_net net) a)
-      (components : filter_map component_of x ≡ cs) where
-    same_wired : wired x ≡ wired a
-    same_wired = named_wired_same library x a u common net entries
-
+  -- the pins of a design that agrees on what its entries list
+  module _ (x : List Record) (cs : List Component) (common : filter is_common x ≡ filter is_common a) (lists : terminals (wired x) ≡ terminals (wired a)) (components : filter_map component_of x ≡ cs) where
     same_terminal : (t : Terminal) → pins_of (pins_by_name library x u) t ≡ pins_of (among library a u net name (terminals (wired a)) cs) t
     same_terminal t =
         kinds_alike (λ (l : List NetPin). l) (is_virtual t) (is_of_all t) (is_of_design t)
@@ -334,11 +337,19 @@ module _ (library : Library) (a : List Record) (u : ℕ) (net name : List ℕ) w
     same_listed =
         ap₂ (λ (xs ys : List NetPin). xs ++ ys)
         (flat_same (pins_of (pins_by_name library x u)) (pins_of (among library a u net name (terminals (wired a)) cs)) same_terminal (terminals (wired x))
-        ∙ ap (λ (ws : List Wired). flat_map (pins_of (among library a u net name (terminals (wired a)) cs)) (terminals ws)) same_wired)
+        ∙ ap (flat_map (pins_of (among library a u net name (terminals (wired a)) cs))) lists)
         (same_naming library x a u common net)
 
+    pins_based : pins_in (net_named library x u net).parts ≡ counting (pins_with cs)
+    pins_based = ap (λ (ps : List NetPin). pins_in (parts_by ps (wired x))) same_listed ∙ pins_are (pins_with cs) (wired x)
+
+  module _ (x : List Record) (cs : List Component) (common : filter is_common x ≡ filter is_common a) (entries : filter (is_of_net net) x ≡ filter (is_of_net net) a)
+      (components : filter_map component_of x ≡ cs) where
+    same_wired : wired x ≡ wired a
+    same_wired = named_wired_same library x a u common net entries
+
     based : (net_named library x u net).parts ≡ parts_by (pins_with cs) (wired a)
-    based = ap₂ parts_by same_listed same_wired
+    based = ap₂ parts_by (same_listed x cs common (ap terminals same_wired) components) same_wired
 
     power_based : (net_named library x u net).is_power ≡ list_any (λ (w : Wired). w.is_power) (wired a)
     power_based = ap (list_any (λ (w : Wired). w.is_power)) same_wired
@@ -347,12 +358,6 @@ module _ (library : Library) (a : List Record) (u : ℕ) (net name : List ℕ) w
   pins_sum w ps =
       sum_by-append w (counting ps) (drawn_parts library.layers (wired a))
       ∙ ap (λ (n : ℕ). n + sum_by w (drawn_parts library.layers (wired a))) (counted_parts w (each_once [] ps))
-
-  pins_are : (ps : List NetPin) → pins_in (parts_by ps (wired a)) ≡ counting ps
-  pins_are ps =
-      filter-append (λ (p : Part). p.is_pin) (counting ps) (drawn_parts library.layers (wired a))
-      ∙ ap₂ (λ (xs ys : List Part). xs ++ ys) (all_pins (filter (λ (p : NetPin). p.counts) (each_once [] ps))) (no_pins_drawn library.layers (flat_map (λ (w : Wired). drawn w.pieces) (wired a)))
-      ∙ append-nil (counting ps)
 
   abbrev those : List Component → List Component
   those cs = filter (λ (c : Component). bytes_eq c.name name) cs
@@ -382,7 +387,7 @@ module _ (library : Library) (a : List Record) (u : ℕ) (net name : List ℕ) w
     by_one : pins_by_one library x u net name ≡ counting (pins_with (those (filter_map component_of x)))
     by_one =
         ap pins_in (based (filter (tells_of net name) x) (those (filter_map component_of x)) told_common told_entries (components_told net name x))
-        ∙ pins_are (pins_with (those (filter_map component_of x)))
+        ∙ pins_are (pins_with (those (filter_map component_of x))) (wired a)
 
     parted_beside : SameThings (net_named library x u net).parts (pins_by_one library x u net name ++ staying (filter_map component_of x))
     parted_beside = record {
@@ -422,8 +427,7 @@ one_component_is_told library some design net name tell =
       told = net_named library some (scale some) net;
       nets = is.nets;
       pins =
-          ap pins_in (based library design (scale some) net name some (those_named name design) tell.common tell.entries tell.components)
-          ∙ pins_are library design (scale some) net name (listed library design (scale some) net name (terminals library design (scale some) net name (wired library design (scale some) net name design)) (those_named name design))
+          pins_based library design (scale some) net name some (those_named name design) tell.common (terminals_are library some (scale some) net ∙ (tell.terminals ∙ sym (terminals_are library design (scale some) net))) tell.components
           ∙ sym (by_one library design (scale some) net name design refl refl)
           ∙ ap (λ (u : ℕ). pins_by_one library design u net name) scales;
     }

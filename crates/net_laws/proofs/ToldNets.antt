@@ -254,6 +254,10 @@ module _ (library : Library) (a b : List Record) (u : ℕ) (common : filter is_c
       ∙ all_wired_same (filter (is_of_net name) b)
       ∙ sym (named_wired library b u name b)
 
+-- the terminals of a net's entries
+pub terminals_are : (library : Library) (a : List Record) (u : ℕ) (name : List ℕ) → flat_map (λ (w : Wired). w.terminals) (filter (is_named library a u name) (all_wired library a u)) ≡ terminals_in a name
+terminals_are library a u name = ap (flat_map (λ (w : Wired). w.terminals)) (named_wired library a u name a) ∙ wired_terminals library a u (filter (is_of_net name) a)
+
 -- and on the rest that tells a net
 module _ (library : Library) (a b : List Record) (u : ℕ) (name : List ℕ) (agree : AgreeOnNet a b name) where
   abbrev pins_a : PinsByName
@@ -285,7 +289,7 @@ module _ (library : Library) (a b : List Record) (u : ℕ) (name : List ℕ) (ag
   listed ws = flat_map (λ (w : Wired). w.terminals) ws
 
   listed_are : listed (wired a) ≡ terminals_in a name
-  listed_are = ap listed (named_wired library a u name a) ∙ wired_terminals library a u (filter (is_of_net name) a)
+  listed_are = terminals_are library a u name
 
   same_listed : flat_map (pins_of pins_a) (listed (wired a)) ≡ flat_map (pins_of pins_b) (listed (wired b))
   same_listed =

@@ -9,7 +9,7 @@ use Rattle.lef_grammar.specs.Library.{Library}
 use Rattle.connection_rules.specs.NetParts.{Net, Part, all_nets, net_named}
 use Rattle.design_rules.specs.Boxes.{scale}
 use Rattle.following_laws.specs.Following.{Exchange}
-use Rattle.net_laws.specs.NetsTold.{is_common, is_of_net, net_of_record}
+use Rattle.net_laws.specs.NetsTold.{is_common, is_of_net, net_of_record, terminals_in}
 use Rattle.net_laws.specs.OneNet.{TellNet}
 use Rattle.net_laws.specs.Within.{AreWithin}
 
@@ -57,10 +57,10 @@ OneExchangedAgree = (front out put behind : List Record) (component : List ℕ) 
 abbrev pub AgreeOnAndOn : Type 0
 AgreeOnAndOn = (a b c : List Record) (net component : List ℕ) → AgreeBut a b net component → AgreeBut b c net component → AgreeBut a c net component
 
--- some statements tell what a component is to a net of a design, and have one entry of it and of no other
+-- some statements tell what a component is to a net of a design: their entries of it list the same, and they have none of another
 pub record TellOne (some design : List Record) (net component : List ℕ) : Type 0 where
   pub common : filter is_common some ≡ filter is_common design
-  pub entries : filter (is_of_net net) some ≡ filter (is_of_net net) design
+  pub terminals : terminals_in some net ≡ terminals_in design net
   pub components : filter_map component_of some ≡ those_named component design
   pub only : filter_map net_of_record some ≡ net ∷ []
 

@@ -6,6 +6,8 @@ use Rattle.text_pieces.specs.KeptRecords.{record_of}
 use Rattle.text_pieces.specs.Tables.{ids_of, kept_at}
 use Rattle.design_text.specs.DesignTexts.{design_of}
 use Rattle.design_text.specs.Exchanges.{records_in}
+use Rattle.followed_nets.specs.ToldViews.{head_view}
+use Rattle.followed_nets.proofs.HeadLemmas.{head_says}
 use Rattle.followed_nets.proofs.KeptStatements.{their_pieces, their_records}
 use Rattle.followed_nets.proofs.TellOneLemmas.{these_tell_one}
 use Rattle.followed_nets.proofs.star_pins.statements_of_one.Goals as goal
@@ -14,17 +16,19 @@ pub kept-requires : goal.kept-requires
 kept-requires g c =
     let text = c.args.text.now in
     let kept = c.statements_are_kept.ensures.kept in
-    rw (c.requires) (their_pieces text.pieces.table.slots is_common (records_in text) (ids_of text.pieces.table) kept.says kept.pieces)
+    rw (c.requires.common) (their_pieces text.pieces.table.slots is_common (records_in text) (ids_of text.pieces.table) kept.says kept.pieces)
 
 pub returns : goal.returns
 returns g c =
     let text = c.args.text.now in
     let slots = text.pieces.table.slots in
     let kept = c.statements_are_kept.ensures.kept in
+    let head = head_view c.args.head.now in
+    let says = head_says (design_of text) head (record_view c.in-Some.entry) c.requires.head c.in-Some.ensures in
     let commons_are =
     c.in_ok-statements.ensures
-    ∙ ap (map (λ id. record_of (kept_at slots id))) c.requires
+    ∙ ap (map (λ id. record_of (kept_at slots id))) c.requires.common
     ∙ their_records slots is_common (records_in text) (ids_of text.pieces.table) kept.says
     ∙ ap (filter is_common) c.statements_are_kept.ensures.said in
-    these_tell_one (design_of text) c.args.net.now c.args.component.now (record_view c.in-Some.entry) _ _ _ c.in-Some.ensures commons_are c.in_ok-push_own.ensures
+    these_tell_one (design_of text) head.name c.args.component.now (record_view c.in-Some.entry) _ _ _ says.0 says.1 commons_are c.in_ok-push_own.ensures
     (ap (map record_view) c.in_ok-push.ensures.items ∙ map-append record_view _ (c.in-Some.entry ∷ []))

@@ -4,12 +4,14 @@ use Rattle.def_grammar.specs.Records.{Record}
 use Rattle.connection_rules.specs.NetLines.{NetShape, layer_name}
 use Rattle.design_text.specs.Exchanges.{records_in}
 use Rattle.followed_nets.specs.Exchanging.{AreToldIn}
+use Rattle.followed_nets.specs.Noted.{said}
 use Rattle.followed_nets.specs.Pieces.{AreOnPieces}
 use Rattle.followed_nets.specs.ToldViews.{star_view, stars_of, told_view}
 use Rattle.followed_nets.specs.declared.exchanging.FollowedOnNets.{FollowedOnNets}
 use Rattle.followed_nets.specs.declared.star_exchange.ToldExchange.{ToldExchange}
 use Rattle.followed_nets.specs.declared.touched.TouchedComponent.{TouchedComponent}
 use Rattle.followed_nets.proofs.FollowLemmas.{all_exchanged, if_none_so}
+use Rattle.followed_nets.proofs.HeadsStay.{heads_stay}
 use Rattle.followed_nets.proofs.followed.FollowedNets.follow.Goals as goal
 
 pub told_nets-requires : goal.told_nets-requires
@@ -20,12 +22,22 @@ told_nets-requires g c =
     let alone = rw (← c.touched.view_is) at c.in_ok-are_all.ensures in
     c.deref.ensures.value ∙ (alone c.requires.0 c.self.inside.common.items c.requires.1 t.lists f.nets.common_are yes).1
 
-pub exchange_stars-requires : goal.exchange_stars-requires
-exchange_stars-requires g c =
+pub exchange_stars-requires-clause-common : goal.exchange_stars-requires-clause-common
+exchange_stars-requires-clause-common g c =
     let yes : c.in_ok-are_all.field-0 ≡ true = search rules in
     let t = rw (← c.touched.view_is) at c.requires.2 in
     let alone = rw (← c.touched.view_is) at c.in_ok-are_all.ensures in
     (alone c.requires.0 c.args.self.now.common c.requires.1 t.lists c.requires.3.nets.common_are yes).1
+
+pub exchange_stars-requires-clause-heads : goal.exchange_stars-requires-clause-heads
+exchange_stars-requires-clause-heads g c =
+    let yes : c.in_ok-are_all.field-0 ≡ true = search rules in
+    let t = rw (← c.touched.view_is) at c.requires.2 in
+    let alone = rw (← c.touched.view_is) at c.in_ok-are_all.ensures in
+    let fits = rw (← c.touched.view_is) at (c.fits.ensures (search (rules, c.if-not-fits.false))) in
+    let last = records_in c.args.text.now in
+    let both = alone c.requires.0 c.args.self.now.common c.requires.1 t.lists c.requires.3.nets.common_are yes in
+    heads_stay c.args.library.now (said c.requires.0) (said last) _ both.0 t.pins c.args.self.now.heads fits.heads c.requires.3.nets.heads_are
 
 pub exchange-requires : goal.exchange-requires
 exchange-requires g c =
@@ -70,6 +82,9 @@ returns-clause-lines g c = λ old exchanges touched followed.
         shapes_are = p.then_shapes c.exchange.new.self.shapes c.in-Some-3.followed.lines.lines on;
         common_are = rw (c.in_ok-followed.ensures.common, c.in_ok-all.ensures.common) both.1;
         stars_are = rw (c.in_ok-followed.ensures.stars) all.then_stars;
+        heads_are =
+            rw (c.in_ok-followed.ensures.heads, c.in_ok-all.ensures.heads)
+            (heads_stay library (said old) (said last) _ both.0 t.pins c.args.self.now.heads fits.heads followed.nets.heads_are);
       };
       lines = p.then_lines c.exchange.new.self.shapes c.in-Some-3.followed.lines.lines on;
     }

@@ -1,4 +1,5 @@
 use Rattle.std.proofs.Common.{◌≡◌, ◌∙◌, List, filter, map, ap, subst, sym}
+use Rattle.std.specs.List.{AllByRecursion}
 use Rattle.std.specs.Option.{option_map}
 use Rattle.std.specs.Prelude.{IfSome}
 use Rattle.design_model.specs.declared.identifier.StmtId.{StmtId}
@@ -11,8 +12,10 @@ use Rattle.named_shapes.specs.Named.{shapes_by_name}
 use Rattle.net_laws.specs.NetsTold.{is_common}
 use Rattle.design_text.specs.DesignTexts.{design_of}
 use Rattle.design_text.specs.Exchanges.{records_in}
+use Rattle.followed_nets.specs.Heads.{IsHead}
 use Rattle.followed_nets.specs.Noted.{said}
 use Rattle.followed_nets.specs.Stars.{AreStarNames, AreStars}
+use Rattle.followed_nets.specs.ToldViews.{head_view}
 use Rattle.followed_nets.proofs.NoteLemmas.{if_seen}
 use Rattle.followed_nets.proofs.followed.FollowedNets.of.Goals as goal
 
@@ -29,4 +32,5 @@ returns g c =
       common_are = c.in_ok-common.ensures ∙ ap (λ (rs : List (StmtId × Record)). map (λ x. x.0) (filter (λ x. is_common x.1) rs)) commons;
       stars_are = if_seen (λ v. v.items) (AreStars library (said (records_in c.args.text.now))) c.in_ok-drawn.drawn.stars
           (subst (λ (d : List Record). IfSome c.in_ok-drawn.drawn.stars (λ v. AreStars library d v.items)) (sym said_so) (c.in_ok-drawn.ensures.stars names));
+      heads_are = subst (λ (d : List Record). AllByRecursion (IsHead d) (map head_view c.in_ok-heads.heads.items)) (sym said_so) c.in_ok-heads.ensures;
     }
