@@ -77,3 +77,11 @@ module _ {A B : Type 0} (view : A → B) (P : B → Type 0) where
   one_at xs i x below is all =
       let here : drop i xs ≡ x ∷ drop (i + 1) xs = drop_more xs i x below ∙ ap (λ (y : A). y ∷ drop (i + 1) xs) (sym is) in
       (subst (λ (l : List A). AllByRecursion P (map view l)) here (all_from xs i all)).0
+
+-- one more behind some
+pub one_more : {A B : Type 0} (view : A → B) (P : B → Type 0) (xs : List A) (x : A) (all : List A) → all ≡ xs ++ x ∷ [] → AllByRecursion P (map view xs) → P (view x) → AllByRecursion P (map view all)
+one_more {A = A} view P xs x all is are own = subst (λ (l : List A). AllByRecursion P (map view l)) (sym is) (behind xs are)
+  where
+    behind : (ys : List A) → AllByRecursion P (map view ys) → AllByRecursion P (map view (ys ++ x ∷ []))
+    behind [] h = (own, tt)
+    behind (y ∷ ys) h = (h.0, behind ys h.1)

@@ -3,11 +3,12 @@ use Rattle.std.proofs.Common.{◌≡◌, ◌∙◌, ◌++◌, ℕ, Bool, true, f
 use Rattle.std.specs.List.{AllByRecursion}
 use Rattle.def_grammar.specs.Records.{Record}
 use Rattle.lef_grammar.specs.Library.{Library}
+use Rattle.connection_rules.specs.NetParts.{Net}
 use Rattle.net_laws.specs.NetChanges.{is_one_of}
 use Rattle.net_laws.specs.NetsTold.{is_of_net, terminals_of}
 use Rattle.followed_nets.specs.Heads.{Head, IsHead}
 use Rattle.followed_nets.specs.Touched.{ArePinsOf, StarPins, Touched, star_names}
-use Rattle.followed_nets.specs.Within.{LeavesOthers}
+use Rattle.followed_nets.specs.Within.{Fits, LeavesOthers}
 
 module _ (library : Library) (old new : List Record) (t : Touched) (leaves : LeavesOthers old new t) (pins : ArePinsOf library old t.component t.stars) where
   still_head : (h : Head) → filter (is_of_net h.name) old ≡ filter (is_of_net h.name) new → IsHead old h → IsHead new h
@@ -35,3 +36,27 @@ module _ (library : Library) (old new : List Record) (t : Touched) (leaves : Lea
 
   pub heads_stay : (hs : List Head) → (t.component ≡ None → AllByRecursion (λ (h : Head). is_one_of t.names h.name ≡ false) hs) → AllByRecursion (IsHead old) hs → AllByRecursion (IsHead new) hs
   heads_stay hs others are = either t.component refl hs others are
+
+-- what is looked at where an edit is of nets
+one_of_both : {A : Type 0} (a b : A) → Some a ≡ Some b → a ≡ b
+one_of_both a b is = cc
+
+differ : {A : Type 0} (a : A) (o : Option A) → o ≡ None → o ≡ Some a → ⊥
+differ a None h g = cc
+differ a (Some b) h g = cc
+
+module _ (kept : Option (List Net)) (hs : List Head) (t : Touched) where
+  pub fits_stars : (stars : List Net) → kept ≡ Some stars → t.component ≡ None → AllByRecursion (λ (s : Net). is_one_of t.names s.name ≡ false) stars
+      → AllByRecursion (λ (h : Head). is_one_of t.names h.name ≡ false) hs → Fits kept hs t
+  fits_stars stars are none others heads = record {
+    own = λ name is. absurd (differ name t.component none is);
+    others = λ n ss is. subst (AllByRecursion (λ (s : Net). is_one_of t.names s.name ≡ false)) (one_of_both stars ss (sym are ∙ is)) others;
+    heads = λ n. heads;
+  }
+
+  pub fits_none : kept ≡ None → t.component ≡ None → AllByRecursion (λ (h : Head). is_one_of t.names h.name ≡ false) hs → Fits kept hs t
+  fits_none are none heads = record {
+    own = λ name is. absurd (differ name t.component none is);
+    others = λ n ss is. absurd (differ ss kept are is);
+    heads = λ n. heads;
+  }

@@ -264,10 +264,7 @@ pub(crate) fn heads_if<A: Allocator + Copy>(
 }
 
 /// The head of the net of this name among some heads.
-pub(crate) fn head_named<'h, A: Allocator>(
-    heads: &'h [Head<A>],
-    name: &[u8],
-) -> Option<&'h Head<A>>
+pub(crate) fn head_named<'h, A: Allocator>(heads: &'h [Head<A>], name: &[u8]) -> Option<&'h Head<A>>
     ensures named { IfSome result (λ h. (head_view h.now).name ≡ name.now) }
     ensures head { (design : List Record) → AllByRecursion (IsHead design) (map head_view heads.entry.now) → IfSome result (λ h. IsHead design (head_view h.now)) }
 {
