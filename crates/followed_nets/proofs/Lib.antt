@@ -1,3 +1,7 @@
+mod BarredFollow
+mod BarredNets
+mod BlockedLemmas
+mod ChangedBars
 mod ChangedShapes
 mod FollowLemmas
 mod HeadLemmas
@@ -7,6 +11,7 @@ mod LackingLemmas
 mod LastOnes
 mod ListedNets
 mod NearLemmas
+mod NearNames
 mod NearPairs
 mod NoteLemmas
 mod OneEntry

@@ -1,7 +1,10 @@
 use Rattle.std.proofs.Common.{rules, ◌≡◌, ◌∙◌, ◌+◌, ◌≤◌, ◌++◌, List, Option, Some, None, true, ap, arith, map, refl, subst, sym}
 use Rattle.std.specs.Prelude.{IfSome}
 use Rattle.def_grammar.specs.Records.{Record}
-use Rattle.connection_rules.specs.NetLines.{NetShape, layer_name}
+use Rattle.connection_rules.specs.NetLines.{NetShape, barriers, layer_name}
+use Rattle.design_rules.specs.Boxes.{scale}
+use Rattle.line_laws.specs.Lines.{SameThings}
+use Rattle.net_touches.specs.Barriers.{barrier_view}
 use Rattle.design_text.specs.Exchanges.{records_in}
 use Rattle.followed_nets.specs.Exchanging.{AreToldIn}
 use Rattle.followed_nets.specs.Noted.{said}
@@ -10,9 +13,10 @@ use Rattle.followed_nets.specs.ToldViews.{star_view, stars_of, told_view}
 use Rattle.followed_nets.specs.declared.exchanging.FollowedOnNets.{FollowedOnNets}
 use Rattle.followed_nets.specs.declared.star_exchange.ToldExchange.{ToldExchange}
 use Rattle.followed_nets.specs.declared.touched.TouchedComponent.{TouchedComponent}
+use Rattle.followed_nets.proofs.BarredNets.{told_alike}
 use Rattle.followed_nets.proofs.FollowLemmas.{all_exchanged, if_none_so}
 use Rattle.followed_nets.proofs.HeadsStay.{heads_stay}
-use Rattle.followed_nets.proofs.followed.FollowedNets.follow.Goals as goal
+use Rattle.followed_nets.proofs.followed.FollowedNets.follow_nets.Goals as goal
 
 pub told_nets-requires : goal.told_nets-requires
 told_nets-requires g c =
@@ -49,8 +53,12 @@ exchange-requires g c =
     let last = records_in c.args.text.now in
     let both = alone c.requires.0 c.args.self.now.common c.requires.1 t.lists c.requires.3.nets.common_are yes in
     let told = rw (c.in-Some.is) at c.in_ok-after.ensures.told in
-    let named = rw (c.in-Some.is) at c.in_ok-after.ensures.named ∙ c.deref-2.ensures.value in
-    let then_told = subst (λ (d : List Record). AreToldIn library d (map told_view c.in-Some.after.items)) (sym c.statements_are_kept.ensures.said) told in
+    let named = rw (c.in-Some.is) at c.in_ok-after.ensures.named ∙ c.deref-3.ensures.value in
+    let then_bars = barriers library (said c.requires.0) (scale (said c.requires.0)) in
+    let bars_are : SameThings (map barrier_view c.deref-2.result.now) then_bars = rw (c.deref-2.ensures.value) (rw (← c.self.view_is) at c.requires.3.nets.bars_are) in
+    let then_told =
+    told_alike library (map barrier_view c.deref-2.result.now) then_bars bars_are (said last) (map told_view c.in-Some.after.items)
+    (subst (λ (d : List Record). AreToldIn library (map barrier_view c.deref-2.result.now) d (map told_view c.in-Some.after.items)) (sym c.statements_are_kept.ensures.said) told) in
     let none = if_none_so c.touched.inside.component (λ h. (h.0, ap (λ (e : ToldExchange _). map told_view e.gone.items) h.1, ap (λ (e : ToldExchange _). map told_view e.come.items) h.1)) (rw (c.in-Some-2.is) at c.in_ok-all.ensures.none) in
     let all = all_exchanged library c.requires.0 last c.args.self.now c.args.kept _ _ c.told_nets_are_exchanged.ensures c.one_entry_tells.ensures c.same_lines_sort_alike.ensures c.short_is_symmetric.ensures t c.requires.3 both.0 fits then_told named
     c.touched.inside.component (λ (x : TouchedComponent _). x.name) (λ (x : TouchedComponent _). map star_view x.stars.items) refl (λ own is. ap (λ (x : Option (TouchedComponent _)). stars_of x) is)
@@ -67,8 +75,12 @@ returns-clause-lines g c = λ old exchanges touched followed.
     let last = records_in c.args.text.now in
     let both = alone old c.args.self.now.common exchanges t.lists followed.nets.common_are yes in
     let told = rw (c.in-Some.is) at c.in_ok-after.ensures.told in
-    let named = rw (c.in-Some.is) at c.in_ok-after.ensures.named ∙ c.deref-2.ensures.value in
-    let then_told = subst (λ (d : List Record). AreToldIn library d (map told_view c.in-Some.after.items)) (sym c.statements_are_kept.ensures.said) told in
+    let named = rw (c.in-Some.is) at c.in_ok-after.ensures.named ∙ c.deref-3.ensures.value in
+    let then_bars = barriers library (said old) (scale (said old)) in
+    let bars_are : SameThings (map barrier_view c.deref-2.result.now) then_bars = rw (c.deref-2.ensures.value) (rw (← c.self.view_is) at followed.nets.bars_are) in
+    let then_told =
+    told_alike library (map barrier_view c.deref-2.result.now) then_bars bars_are (said last) (map told_view c.in-Some.after.items)
+    (subst (λ (d : List Record). AreToldIn library (map barrier_view c.deref-2.result.now) d (map told_view c.in-Some.after.items)) (sym c.statements_are_kept.ensures.said) told) in
     let none = if_none_so c.touched.inside.component (λ h. (h.0, ap (λ (e : ToldExchange _). map told_view e.gone.items) h.1, ap (λ (e : ToldExchange _). map told_view e.come.items) h.1)) (rw (c.in-Some-2.is) at c.in_ok-all.ensures.none) in
     let all = all_exchanged library old last c.args.self.now c.args.kept _ _ c.told_nets_are_exchanged.ensures c.one_entry_tells.ensures c.same_lines_sort_alike.ensures c.short_is_symmetric.ensures t followed both.0 fits then_told named
     c.touched.inside.component (λ (x : TouchedComponent _). x.name) (λ (x : TouchedComponent _). map star_view x.stars.items) refl (λ own is. ap (λ (x : Option (TouchedComponent _)). stars_of x) is)
@@ -81,6 +93,7 @@ returns-clause-lines g c = λ old exchanges touched followed.
       nets = record {
         shapes_are = p.then_shapes c.exchange.new.self.shapes c.in-Some-3.followed.lines.lines on;
         common_are = rw (c.in_ok-followed.ensures.common, c.in_ok-all.ensures.common) both.1;
+        bars_are = rw (c.in_ok-followed.ensures.bars, c.in_ok-all.ensures.bars) followed.nets.bars_are;
         stars_are = rw (c.in_ok-followed.ensures.stars) all.then_stars;
         heads_are =
             rw (c.in_ok-followed.ensures.heads, c.in_ok-all.ensures.heads)
@@ -99,8 +112,12 @@ returns-clause-tests g c = λ old exchanges touched followed.
     let last = records_in c.args.text.now in
     let both = alone old c.args.self.now.common exchanges t.lists followed.nets.common_are yes in
     let told = rw (c.in-Some.is) at c.in_ok-after.ensures.told in
-    let named = rw (c.in-Some.is) at c.in_ok-after.ensures.named ∙ c.deref-2.ensures.value in
-    let then_told = subst (λ (d : List Record). AreToldIn library d (map told_view c.in-Some.after.items)) (sym c.statements_are_kept.ensures.said) told in
+    let named = rw (c.in-Some.is) at c.in_ok-after.ensures.named ∙ c.deref-3.ensures.value in
+    let then_bars = barriers library (said old) (scale (said old)) in
+    let bars_are : SameThings (map barrier_view c.deref-2.result.now) then_bars = rw (c.deref-2.ensures.value) (rw (← c.self.view_is) at followed.nets.bars_are) in
+    let then_told =
+    told_alike library (map barrier_view c.deref-2.result.now) then_bars bars_are (said last) (map told_view c.in-Some.after.items)
+    (subst (λ (d : List Record). AreToldIn library (map barrier_view c.deref-2.result.now) d (map told_view c.in-Some.after.items)) (sym c.statements_are_kept.ensures.said) told) in
     let none = if_none_so c.touched.inside.component (λ h. (h.0, ap (λ (e : ToldExchange _). map told_view e.gone.items) h.1, ap (λ (e : ToldExchange _). map told_view e.come.items) h.1)) (rw (c.in-Some-2.is) at c.in_ok-all.ensures.none) in
     let all = all_exchanged library old last c.args.self.now c.args.kept _ _ c.told_nets_are_exchanged.ensures c.one_entry_tells.ensures c.same_lines_sort_alike.ensures c.short_is_symmetric.ensures t followed both.0 fits then_told named
     c.touched.inside.component (λ (x : TouchedComponent _). x.name) (λ (x : TouchedComponent _). map star_view x.stars.items) refl (λ own is. ap (λ (x : Option (TouchedComponent _)). stars_of x) is)
