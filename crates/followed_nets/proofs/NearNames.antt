@@ -1,9 +1,9 @@
 -- Lists that are gone over one by one, for rectangles where routing is blocked.
-use Rattle.std.proofs.Common.{◌≡◌, ◌∙◌, ◌<◌, ◌+◌, ℕ, zero, suc, Bool, true, false, ◌||◌, List, [], ◌∷◌, ◌++◌, drop, get_or, length, slice_get, Some, refl, sym, ap, ap₂, arith, append_assoc, subst}
+use Rattle.std.proofs.Common.{◌≡◌, ◌∙◌, ◌<◌, ◌≤◌, ◌+◌, ℕ, zero, suc, Bool, true, false, ◌||◌, List, [], ◌∷◌, ◌++◌, drop, get_or, length, slice_get, Some, refl, sym, ap, ap₂, arith, append_assoc, subst}
 use Rattle.std.specs.Prelude.{flat_map}
 use Rattle.std.specs.List.{AllByRecursion}
 use Rattle.std.specs.Str.{bytes_eq}
-use Rattle.std.proofs.lemmas.List.{drop_more}
+use Rattle.std.proofs.lemmas.List.{append-nil, drop_all, drop_more}
 use Rattle.std.proofs.lemmas.Option.{get_or_from_slice_get, slice_get_within}
 use Rattle.line_laws.specs.Lines.{SameLines}
 use Rattle.line_laws.proofs.PairSums.{times-append}
@@ -18,6 +18,14 @@ next_put {A = A} {B = B} f xs n x now new all is h pushed =
     ∙ append_assoc now (f x) (flat_map f (drop (n + 1) xs))
     ∙ sym (ap (λ (l : List A). now ++ flat_map f l) there)
     ∙ h
+
+-- at the end of the list
+pub none_left : {A B : Type 0} (f : A → List B) (xs : List A) (n : ℕ) (now all : List B) → length xs ≤ n → now ++ flat_map f (drop n xs) ≡ all → now ≡ all
+none_left {A = A} f xs n now all past h = sym (ap (λ (l : List A). now ++ flat_map f l) (drop_all n xs past) ∙ append-nil now) ∙ h
+
+pub or_none : (a b : Bool) → b ≡ false → a ≡ (a || b)
+or_none true b h = refl
+or_none false b h = sym h
 
 or_assoc : (a b c : Bool) → ((a || b) || c) ≡ (a || (b || c))
 or_assoc true b c = refl

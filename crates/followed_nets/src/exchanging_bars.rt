@@ -80,6 +80,32 @@ pub(crate) fn exchange_bars<A: Allocator + Copy>(
     Ok(take_bars(bars, &gone))
 }
 
+/// The lines that are kept once others come, unless that would move too many.
+fn with_lines<A: Allocator + Copy>(
+    alloc: A,
+    kept: KeptLines<A>,
+    put: Lines<A>,
+) -> Result<Option<KeptLines<A>>, AllocError>
+    requires { (before : List (List ℕ)) × (after : List (List ℕ)) × (kept.lines ≡ sorted_by_bytes before) × LinesFollow before after [] put }
+    ensures { (before after : List (List ℕ)) → kept.lines ≡ sorted_by_bytes before → LinesFollow before after [] put → IfOk result (λ found. IfSome found (λ k. k.lines ≡ sorted_by_bytes after)) }
+{
+    let none = Lines::new(alloc);
+    kept.followed(none, put, MOST_MOVED)
+}
+
+/// The same once some go.
+fn without_lines<A: Allocator + Copy>(
+    alloc: A,
+    kept: KeptLines<A>,
+    out: Lines<A>,
+) -> Result<Option<KeptLines<A>>, AllocError>
+    requires { (before : List (List ℕ)) × (after : List (List ℕ)) × (kept.lines ≡ sorted_by_bytes before) × LinesFollow before after out [] }
+    ensures { (before after : List (List ℕ)) → kept.lines ≡ sorted_by_bytes before → LinesFollow before after out [] → IfOk result (λ found. IfSome found (λ k. k.lines ≡ sorted_by_bytes after)) }
+{
+    let none = Lines::new(alloc);
+    kept.followed(out, none, MOST_MOVED)
+}
+
 /// The lines that are kept, once the lines with rectangles that came are put in, and then those with rectangles that went are taken out;
 /// `None` where they are sooner made anew.
 pub(crate) fn exchange_lines<A: Allocator + Copy>(
@@ -92,12 +118,10 @@ pub(crate) fn exchange_lines<A: Allocator + Copy>(
         → IfOk result (λ found. IfSome found (λ k. k.lines ≡ sorted_by_bytes after)) }
 {
     let BarredLines { out, put } = lines;
-    let none = Lines::new(alloc);
-    let Some(more) = kept.followed(none, put, MOST_MOVED)? else {
+    let Some(more) = with_lines(alloc, kept, put)? else {
         return Ok(None);
     };
-    let none = Lines::new(alloc);
-    let Some(left) = more.followed(out, none, MOST_MOVED)? else {
+    let Some(left) = without_lines(alloc, more, out)? else {
         return Ok(None);
     };
     Ok(Some(left))

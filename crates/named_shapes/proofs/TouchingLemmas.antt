@@ -34,6 +34,12 @@ module _ (test : ℕ → Bool) where
       let both = none_of_both (test p) (list_any test xs) none in
       one_is p k (p == k) xs refl there both.0 (λ h. among_them k xs h both.1)
 
+  -- one more behind them
+  pub pushed_none : (xs ys : List ℕ) (x : ℕ) → ys ≡ xs ++ x ∷ [] → list_any test ys ≡ false → (list_any test xs ≡ false) × (test x ≡ false)
+  pushed_none xs ys x is none =
+      let both = none_of_both (list_any test xs) (list_any test (x ∷ [])) (sym (ap (list_any test) is ∙ list_any-append test xs (x ∷ [])) ∙ none) in
+      (both.0, (none_of_both (test x) false both.1).0)
+
   -- one more of a list
   pub next_none : (xs : List ℕ) (i x : ℕ) → i < length xs → x ≡ get_or xs i x → test x ≡ false → list_any test (drop (i + 1) xs) ≡ false → list_any test (drop i xs) ≡ false
   next_none xs i x below is here later =
@@ -88,16 +94,10 @@ module _ (out : ℕ → Bool) where
   abbrev passing : List Shape → ℕ × Shape → ℕ
   passing some p = cond (touches_one some p.1 && out p.0) 1 0
 
-  one_of : (o : Shape) (p : ℕ × Shape) → ℕ
-  one_of o p = cond (touch p.1 o && out p.0) 1 0
-
   touched_counted : (o : Shape) (placed : List (ℕ × Shape)) → count_by out (touched_by placed o) ≡ sum_by (λ p. cond (touch p.1 o && out p.0) 1 0) placed
   touched_counted o [] = refl
   touched_counted o (p ∷ placed) = by (touch p.1 o) (touched_counted o placed)
     where
-      rest : List (ℕ × Shape)
-      rest = filter (λ (r : ℕ × Shape). touch r.1 o) placed
-
       by : (b : Bool) → count_by out (map (λ (r : ℕ × Shape). r.0) (filter (λ (r : ℕ × Shape). touch r.1 o) placed)) ≡ sum_by (λ r. cond (touch r.1 o && out r.0) 1 0) placed
           → count_by out (map (λ (r : ℕ × Shape). r.0) (cond b (p ∷ filter (λ (r : ℕ × Shape). touch r.1 o) placed) (filter (λ (r : ℕ × Shape). touch r.1 o) placed)))
           ≡ cond (b && out p.0) 1 0 + sum_by (λ r. cond (touch r.1 o && out r.0) 1 0) placed

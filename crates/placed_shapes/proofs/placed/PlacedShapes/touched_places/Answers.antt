@@ -6,7 +6,7 @@ use Rattle.placed_shapes.proofs.TouchedLists.{all_touched, next_touched, touchin
 use Rattle.placed_shapes.proofs.placed.PlacedShapes.touched_places.Goals as goal
 
 pub loop-shape-init : goal.loop-shape-init
-loop-shape-init g c = record { places = record { sums = λ w. refl }; tests = omega arith }
+loop-shape-init g c = record { places = rw (c.new-places.ensures.items) (record { sums = λ w. refl }); tests = omega arith }
 
 pub loop-shape-preserved : goal.loop-shape-preserved
 loop-shape-preserved g c = record {
