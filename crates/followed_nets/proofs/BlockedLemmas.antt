@@ -1,8 +1,9 @@
 -- The lines of nets with rectangles where routing is blocked are those of the nets that have shapes there.
-use Rattle.std.proofs.Common.{◌≡◌, ◌∙◌, ◌≤◌, ◌+◌, ℕ, Bool, true, false, not, ◌&&◌, ◌||◌, ◌==◌, cond, List, [], ◌∷◌, ◌++◌, filter, map, sum_by, refl, sym, ap, ap₂, arith, subst, if◌then◌else◌}
-use Rattle.std.specs.Prelude.{flat_map}
-use Rattle.std.specs.List.{list_any}
+use Rattle.std.proofs.Common.{◌≡◌, ◌∙◌, ◌≤◌, ◌+◌, ℕ, Bool, true, false, not, ◌&&◌, ◌||◌, ◌==◌, cond, List, [], ◌∷◌, ◌++◌, filter, map, sum_by, Option, Some, None, refl, sym, ap, ap₂, arith, subst, if◌then◌else◌}
+use Rattle.std.specs.Prelude.{IfSome, flat_map}
+use Rattle.std.specs.List.{AllByRecursion, list_any}
 use Rattle.std.specs.Str.{bytes_eq}
+use Rattle.std.proofs.lemmas.List.{map-append}
 use Rattle.std.proofs.lemmas.List.Folds.{list_any-append}
 use Rattle.std.proofs.lemmas.List.Sums.{sum_by-append, sum_by-cons}
 use Rattle.design_model.specs.Families.{cross_lines}
@@ -24,6 +25,7 @@ use Rattle.net_touches.specs.Things.{barrier, shape_of_net}
 use Rattle.net_touches.proofs.LineLemmas.{apart_none, layers_none}
 use Rattle.followed_nets.specs.Blocked.{AllTell, barred_lines}
 use Rattle.followed_nets.specs.Listed.{AreApart}
+use Rattle.followed_nets.specs.Stars.{AreStars, IsStar}
 use Rattle.followed_nets.specs.Tests.{bar_shape}
 use Rattle.followed_nets.proofs.FollowLemmas.{apart_tell}
 use Rattle.followed_nets.proofs.PieceLemmas.{sum_named}
@@ -156,3 +158,29 @@ module _ (name_of : ℕ → List ℕ) (names : List (List ℕ)) (all bars : List
 pub touches_neither : (gone come : List Barrier) (s : Shape) → touches_one (map bar_shape gone ++ map bar_shape come) s ≡ false → (touches_one (map bar_shape gone) s ≡ false) × (touches_one (map bar_shape come) s ≡ false)
 touches_neither gone come s h =
     none_of_both (touches_one (map bar_shape gone) s) (touches_one (map bar_shape come) s) (sym (list_any-append (λ (o : Shape). touch s o) (map bar_shape gone) (map bar_shape come)) ∙ h)
+
+-- the lines of all nets are those of the nets near
+module _ (name_of : ℕ → List ℕ) (library : Library) (design : List Record) (law : ToldNetsAreExchanged) (names : List (List ℕ)) (gone come : List Barrier) (apart : AreApart names) (tell : AllTell design names)
+    (shapes : List NetShape) (touching : AreTouching shapes (map bar_shape gone ++ map bar_shape come) names) (kept : SameThings shapes (shapes_by_name (all_nets library design (scale design)))) (lines : List (List ℕ)) where
+  abbrev all_shapes : List NetShape
+  all_shapes = flat_map shapes_of_net (all_nets library design (scale design))
+
+  both : map bar_shape gone ++ map bar_shape come ≡ map bar_shape (gone ++ come)
+  both = sym (map-append bar_shape gone come)
+
+  touch_both : AreTouching shapes (map bar_shape (gone ++ come)) names
+  touch_both = subst (λ (some : List Shape). AreTouching shapes some names) both touching
+
+  neither : (s : Shape) → touches_one (map bar_shape (gone ++ come)) s ≡ false → (touches_one (map bar_shape gone) s ≡ false) × (touches_one (map bar_shape come) s ≡ false)
+  neither s h = touches_neither gone come s (ap (λ (some : List Shape). touches_one some s) both ∙ h)
+
+  pub lines_of_gone : SameLines lines (flat_map (barred_lines name_of library design gone) names) → SameLines lines (cross_lines (routeblock_of name_of) all_shapes gone)
+  lines_of_gone are = record { often = λ q. are.often q ∙ sym (often_near name_of names (gone ++ come) gone (λ s h. (neither s h).0) q library design law apart tell shapes touch_both kept) }
+
+  pub lines_of_come : SameLines lines (flat_map (barred_lines name_of library design come) names) → SameLines lines (cross_lines (routeblock_of name_of) all_shapes come)
+  lines_of_come are = record { often = λ q. are.often q ∙ sym (often_near name_of names (gone ++ come) come (λ s h. (neither s h).1) q library design law apart tell shapes touch_both kept) }
+
+-- nets that are kept with their parts
+pub kept_stars : (library : Library) (design : List Record) (stars : Option (List Net)) → IfSome stars (AreStars library design) → IfSome stars (AllByRecursion (IsStar library design))
+kept_stars library design None are = tt
+kept_stars library design (Some stars) are = are.kept

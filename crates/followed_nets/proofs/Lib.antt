@@ -13,6 +13,7 @@ mod ListedNets
 mod NearLemmas
 mod NearNames
 mod NearPairs
+mod NetWalls
 mod NoteLemmas
 mod OneEntry
 mod OthersLeft

@@ -68,3 +68,11 @@ all_at {A = A} P xs i x below is all =
     from ys zero h = h
     from [] (suc n) h = tt
     from (y ∷ ys) (suc n) h = from ys n h.1
+
+-- at the end of a list
+pub all_past : {A : Type 0} (P : A → Type 0) (xs : List A) (i : ℕ) → length xs ≤ i → AllByRecursion P (drop i xs)
+all_past P xs i past = subst (AllByRecursion P) (sym (drop_all i xs past)) tt
+
+pub all_lines : {A : Type 0} (f : A → List (List ℕ)) (xs : List A) (i : ℕ) (now all : List (List ℕ)) → length xs ≤ i → SameLines (now ++ flat_map f (drop i xs)) all → SameLines now all
+all_lines {A = A} f xs i now all past h =
+    subst (λ (ls : List (List ℕ)). SameLines ls all) (ap (λ (l : List A). now ++ flat_map f l) (drop_all i xs past) ∙ append-nil now) h

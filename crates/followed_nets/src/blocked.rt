@@ -213,7 +213,33 @@ fn put_told<A: Allocator + Copy>(
     Ok(())
 }
 
-/// Puts the lines of a net of a text behind others, and says whether it could be told.
+/// Puts the lines of a net of a text, by its statements alone, behind others, and says whether it could be told so.
+fn put_by_statements<A: Allocator + Copy>(
+    alloc: A,
+    library: &Library<'_, A>,
+    text: &DesignText<A>,
+    common: &[StmtId],
+    layers: &[&[u8]],
+    net: &[u8],
+    changed: &ChangedBars<A>,
+    lines: &mut BarredLines<A>,
+) -> Result<bool, AllocError>
+    requires { AreCommon (records_in text.now) common.now }
+    ensures tells { IfOk result (λ there. IsTrue there → (some : List Record) × TellNet some (design_of text.now) net.now) }
+    ensures out { IfOk result (λ there. IsTrue there → Adds lines.old.out (barred_lines (name_at (map (λ w. w.now) layers.now)) library.now (design_of text.now) (map barrier_view changed.now.gone.items) net.now) lines.new.out) }
+    ensures put { IfOk result (λ there. IsTrue there → Adds lines.old.put (barred_lines (name_at (map (λ w. w.now) layers.now)) library.now (design_of text.now) (map barrier_view changed.now.come.items) net.now) lines.new.put) }
+{
+    one_net_is_told();
+    scales_are_good();
+    text.design_is_read();
+    let Some(statements) = told_statements(alloc, text, common, net)? else {
+        return Ok(false);
+    };
+    put_told(alloc, library, &statements, layers, changed, lines)?;
+    Ok(true)
+}
+
+/// Puts the lines of a net of a text behind others, by its parts where it is kept with them, and says whether it could be told.
 fn put_net<A: Allocator + Copy>(
     alloc: A,
     library: &Library<'_, A>,
@@ -231,19 +257,14 @@ fn put_net<A: Allocator + Copy>(
     ensures out { IfOk result (λ there. IsTrue there → Adds lines.old.out (barred_lines (name_at (map (λ w. w.now) layers.now)) library.now (design_of text.now) (map barrier_view changed.now.gone.items) net.now) lines.new.out) }
     ensures put { IfOk result (λ there. IsTrue there → Adds lines.old.put (barred_lines (name_at (map (λ w. w.now) layers.now)) library.now (design_of text.now) (map barrier_view changed.now.come.items) net.now) lines.new.put) }
 {
-    one_net_is_told();
     one_entry_tells();
-    scales_are_good();
-    text.design_is_read();
-    if let Some(star) = star_named(stars, net) {
-        put_star(layers, star, changed, lines)?;
-        return Ok(true);
+    match star_named(stars, net) {
+        Some(star) => {
+            put_star(layers, star, changed, lines)?;
+            Ok(true)
+        }
+        None => put_by_statements(alloc, library, text, common, layers, net, changed, lines),
     }
-    let Some(statements) = told_statements(alloc, text, common, net)? else {
-        return Ok(false);
-    };
-    put_told(alloc, library, &statements, layers, changed, lines)?;
-    Ok(true)
 }
 
 /// The lines of these nets of a text, unless one of them can't be told.

@@ -210,6 +210,7 @@ impl<A: Allocator + Copy> FollowedNets<A> {
         ensures touched { IfOk result (λ found. IfSome found (AreTouched library.now (design_of text.now))) }
         ensures names { IfOk result (λ found. IfSome found (λ t. (t.names ≡ net.now ∷ []) × (t.stars ≡ []) × (t.component ≡ None))) }
     {
+        text.statements_are_kept();
         let mut names = Vec::new(alloc);
         names.push(OwnName::copy_of(alloc, net)?)?;
         self.touched(alloc, library, text, names, None)
@@ -429,12 +430,16 @@ impl<A: Allocator + Copy> FollowedNets<A> {
         layers_have_their_names();
         text.statements_are_kept();
         let layers = layer_names(alloc, library)?;
-        let none = Vec::new(alloc);
-        let stars = match &self.stars {
-            Some(stars) => stars.as_slice(),
-            None => none.as_slice(),
-        };
-        lines_near(alloc, library, text, &self.common, stars, &layers, names, changed)
+        let common = &self.common;
+        match &self.stars {
+            Some(stars) => {
+                lines_near(alloc, library, text, common, stars, &layers, names, changed)
+            }
+            None => {
+                let none = Vec::new(alloc);
+                lines_near(alloc, library, text, common, &none, &layers, names, changed)
+            }
+        }
     }
 
     /// The lines on the nets of a text once these rectangles went and came.
@@ -519,6 +524,7 @@ impl<A: Allocator + Copy> FollowedNets<A> {
             → let names = touched.names ++ star_names touched.stars in let new = said (records_in text.now) in
             IfOk result (λ found. IfSome found (λ f. FewTests library.now (said old) new names f.tests)) }
     {
+        bars_are_exchanged();
         let Some(followed) = self.follow_nets(alloc, library, text, made, touched, kept)? else {
             return Ok(None);
         };
