@@ -1,6 +1,6 @@
 //! Rectangles where routing is blocked that an edit takes away or brings, and the lines of nets there.
 
-ghost use Rattle.std.specs.Prelude.{◌≡◌, ◌<◌, ◌≤◌, ◌++◌, ℕ, IfOk, IfSome, IsTrue, List, OnOk, flat_map, map};
+ghost use Rattle.std.specs.Prelude.{◌≡◌, ◌<◌, ◌≤◌, ◌++◌, [], ℕ, IfOk, IfSome, IsTrue, List, OnOk, flat_map, map};
 ghost use Rattle.std.specs.List.{AllByRecursion};
 ghost use Rattle.design_model.specs.declared.identifier.StmtId.{StmtId as Number};
 ghost use Rattle.design_model.specs.Families.{cross_lines};
@@ -56,6 +56,15 @@ const MOST_NETS: usize = 512;
 pub(crate) struct ChangedBars<A: Allocator> {
     pub(crate) gone: Vec<Barrier, A>,
     pub(crate) come: Vec<Barrier, A>,
+}
+
+impl<A: Allocator + Copy> ChangedBars<A> {
+    /// Whether none went and none came.
+    pub(crate) fn are_none(&self) -> bool
+        ensures { IsTrue result → (self.now.gone.items ≡ []) × (self.now.come.items ≡ []) }
+    {
+        self.gone.is_empty() && self.come.is_empty()
+    }
 }
 
 /// The lines of nets with rectangles that went, and those with rectangles that came.

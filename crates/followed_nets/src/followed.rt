@@ -496,7 +496,7 @@ impl<A: Allocator + Copy> FollowedNets<A> {
         let Some(changed) = changed_bars(alloc, library, text, made)? else {
             return Ok(None);
         };
-        if changed.gone.is_empty() && changed.come.is_empty() {
+        if changed.are_none() {
             return Ok(Some(followed));
         }
         let Some(found) = self.exchange_blocked(alloc, library, text, changed, followed)? else {

@@ -41,14 +41,13 @@ module _ (test : ℕ → Bool) where
       (both.0, (none_of_both (test x) false both.1).0)
 
   -- one more of a list
-  pub next_none : (xs : List ℕ) (i x : ℕ) → i < length xs → x ≡ get_or xs i x → test x ≡ false → list_any test (drop (i + 1) xs) ≡ false → list_any test (drop i xs) ≡ false
-  next_none xs i x below is here later =
-      ap (list_any test) (drop_more xs i x below ∙ ap (λ (y : ℕ). y ∷ drop (i + 1) xs) (sym is)) ∙ ap₂ (λ (a b : Bool). a || b) here later
+  pub next_none : (xs : List ℕ) (i : ℕ) → i < length xs → test (get_or xs i 0) ≡ false → list_any test (drop (i + 1) xs) ≡ false → list_any test (drop i xs) ≡ false
+  next_none xs i below here later = ap (list_any test) (drop_more xs i 0 below) ∙ ap₂ (λ (a b : Bool). a || b) here later
 
   pub none_left : (xs : List ℕ) (i : ℕ) → length xs ≤ i → list_any test (drop i xs) ≡ false
   none_left xs i past = ap (list_any test) (drop_all i xs past)
 
-  counted_or_not : (b : Bool) → b ≡ false → cond b 1 0 ≡ 0
+  counted_or_not : (b : Bool) → b ≡ false → ◌≡◌ {A = ℕ} (cond b 1 0) 0
   counted_or_not b h = ap (λ (c : Bool). cond c 1 0) h
 
   none_counted : (xs : List ℕ) → list_any test xs ≡ false → count_by test xs ≡ 0
@@ -96,13 +95,13 @@ module _ (out : ℕ → Bool) where
 
   touched_counted : (o : Shape) (placed : List (ℕ × Shape)) → count_by out (touched_by placed o) ≡ sum_by (λ p. cond (touch p.1 o && out p.0) 1 0) placed
   touched_counted o [] = refl
-  touched_counted o (p ∷ placed) = by (touch p.1 o) (touched_counted o placed)
+  touched_counted o (p ∷ placed) = by (touch p.1 o) (touched_counted o placed) ∙ sym (sum_by-cons (λ (r : ℕ × Shape). cond (touch r.1 o && out r.0) 1 0) p placed)
     where
       by : (b : Bool) → count_by out (map (λ (r : ℕ × Shape). r.0) (filter (λ (r : ℕ × Shape). touch r.1 o) placed)) ≡ sum_by (λ r. cond (touch r.1 o && out r.0) 1 0) placed
           → count_by out (map (λ (r : ℕ × Shape). r.0) (cond b (p ∷ filter (λ (r : ℕ × Shape). touch r.1 o) placed) (filter (λ (r : ℕ × Shape). touch r.1 o) placed)))
           ≡ cond (b && out p.0) 1 0 + sum_by (λ r. cond (touch r.1 o && out r.0) 1 0) placed
       by true later = omega (arith, later, sum_by-cons (λ (n : ℕ). cond (out n) 1 0) p.0 (map (λ (r : ℕ × Shape). r.0) (filter (λ (r : ℕ × Shape). touch r.1 o) placed)))
-      by false later = later
+      by false later = omega (arith, later)
 
   either : (a b c : Bool) → cond ((a || b) && c) 1 0 ≤ cond (a && c) 1 0 + cond (b && c) 1 0
   either true b true = omega arith

@@ -1,4 +1,4 @@
-use Rattle.std.proofs.Common.{rules, ◌≤◌, length, not, ap}
+use Rattle.std.proofs.Common.{rules, ◌≤◌, get_or, length, not, ap}
 use Rattle.named_shapes.specs.Touching.{is_known}
 use Rattle.named_shapes.proofs.TouchingLemmas.{next_none, none_left}
 use Rattle.named_shapes.proofs.near.names_at.Goals as goal
@@ -8,7 +8,7 @@ loop-place-preserved g c = λ more stay rest.
     let names = c.args.names.now in
     let put = c.in_ok-add_name.ensures in
     c.loop-place.invariant more (λ n known. stay n (put.stay n known))
-    (next_none (λ n. not (is_known names more n)) c.args.places.now c.loop-place.place-index c.place-item.result c.loop-place-test.true c.place-item.is (ap not (stay c.place-item.result put.known)) rest)
+    (next_none (λ n. not (is_known names more n)) c.args.places.now c.loop-place.place-index c.loop-place-test.true (ap not (stay (get_or c.args.places.now c.loop-place.place-index 0) put.known)) rest)
 
 pub returns : goal.returns
 returns g c =

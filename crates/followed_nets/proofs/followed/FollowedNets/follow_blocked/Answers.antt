@@ -36,3 +36,19 @@ returns-clause-tests g c =
     let gone = rw (c.in-Some.is) at c.in_ok-changed.ensures.gone in
     let come = rw (c.in-Some.is) at c.in_ok-changed.ensures.come in
     rw (← gone, ← come) (rw (c.in-Some-2.is) at c.in_ok-found.ensures.tests)
+
+pub returns-then-are_none-clause-lines : goal.returns-then-are_none-clause-lines
+returns-then-are_none-clause-lines g c = λ old exchanges are.
+    let library = c.args.library.now in
+    let last = records_in c.args.text.now in
+    let gone = rw (c.in-Some.is) at c.in_ok-changed.ensures.gone in
+    let come = rw (c.in-Some.is) at c.in_ok-changed.ensures.come in
+    let none = c.are_none.ensures (search (rules, c.if-are_none.true)) in
+    let change = bars_change c.args.text.now.pieces.table.slots library c.bars_are_exchanged.ensures old last c.args.made.now.exchanges exchanges in
+    let slots = c.args.text.now.pieces.table.slots in
+    let made = c.args.made.now.exchanges in
+    let same = none_changed (barriers library (said old) (scale (said old))) (barriers library (said last) (scale (said last))) (bars_gone library slots made) (bars_come library slots made) (sym gone ∙ ap (map barrier_view) none.0) (sym come ∙ ap (map barrier_view) none.1) change in
+    same_bars c.same_lines_sort_alike.ensures library last (barriers library (said old) (scale (said old))) (barriers library (said last) (scale (said last))) c.args.self.now c.args.followed.lines same are
+
+pub returns-then-are_none-clause-tests : goal.returns-then-are_none-clause-tests
+returns-then-are_none-clause-tests g c = omega arith
