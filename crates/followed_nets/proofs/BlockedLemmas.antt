@@ -61,7 +61,7 @@ module _ (name_of : ℕ → List ℕ) (names : List (List ℕ)) (all bars : List
   abbrev barred : NetShape → ℕ
   barred s = times q (flat_map (routeblock_of name_of s) bars)
 
-  by_touch : (s : NetShape) (t : Bool) → touches_one (map bar_shape all) s.shape ≡ t → cond (t && true) 1 0 ≡ 0 → barred s ≡ 0
+  by_touch : (s : NetShape) (t : Bool) → touches_one (map bar_shape all) s.shape ≡ t → ◌≡◌ {A = ℕ} (cond (t && true) 1 0) 0 → barred s ≡ 0
   by_touch s true is none = absurd (cc)
   by_touch s false is none = ap (times q) (none_barred name_of s bars (among s.shape is))
 

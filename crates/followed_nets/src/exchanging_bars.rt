@@ -26,9 +26,7 @@ fn is_rectangle(a: &Rect, b: &Rect) -> bool
 fn is_same(a: &Barrier, b: &Barrier) -> bool
     ensures { IsTrue result → barrier_view a.now ≡ barrier_view b.now }
 {
-    a.layer.0 == b.layer.0
-        && a.spares_power == b.spares_power
-        && is_rectangle(&a.rect, &b.rect)
+    a.layer.0 == b.layer.0 && a.spares_power == b.spares_power && is_rectangle(&a.rect, &b.rect)
 }
 
 /// The last place of a rectangle, if it is there.

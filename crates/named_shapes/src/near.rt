@@ -33,7 +33,10 @@ fn is_one_of(places: &[usize], place: usize) -> bool
 }
 
 /// Puts a place behind others, unless it is one of them.
-fn add_place<A: Allocator + Copy>(places: &mut Vec<usize, A>, place: usize) -> Result<(), AllocError>
+fn add_place<A: Allocator + Copy>(
+    places: &mut Vec<usize, A>,
+    place: usize,
+) -> Result<(), AllocError>
     ensures { (test : ℕ → Bool) → OnOk result (list_any test places.new.items ≡ false → (list_any test places.old.items ≡ false) × (test place ≡ false)) }
 {
     if !is_one_of(places, place) {

@@ -41,11 +41,11 @@ impl<A: Allocator + Copy> PlacedShapes<A> {
         ensures places { IfOk result (λ t. SameThings t.places.items (places.items ++ touched_by self.now (shape_view shape.now))) }
         ensures tests { IfOk result (λ t. t.tests ≤ near_shapes (shape_view shape.now) (map (λ p. p.1) self.now)) }
     {
-        let (found, tests) =
-            self.tiles()
-                .for_met(shape.layer, shape.rect, Ok(places), |places, _, met| {
-                    push_place(places, met)
-                });
+        let (found, tests) = self
+            .tiles()
+            .for_met(shape.layer, shape.rect, Ok(places), |places, _, met| {
+                push_place(places, met)
+            });
         let places = found?;
         Ok(TouchedPlaces { places, tests })
     }

@@ -38,8 +38,7 @@ exchange_lines-requires g c =
     let all_out = lines_of_gone (layer_name library.layers) library design law names gone come apart tell c.self.inside.shapes near (rw (← c.self.view_is) at are.nets.shapes_are) _ out in
     let all_put = lines_of_come (layer_name library.layers) library design law names gone come apart tell c.self.inside.shapes near (rw (← c.self.view_is) at are.nets.shapes_are) _ put in
     let follow = c.barred_lines_follow.ensures in
-    let on = with_bars follow (layer_name library.layers) nets old new gone come c.requires.2 in
-    (
+    let on = with_bars follow (layer_name library.layers) nets old new gone come c.requires.2 in (
       on old,
       on (old ++ come),
       on new,
