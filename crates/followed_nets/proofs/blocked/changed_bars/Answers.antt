@@ -11,8 +11,8 @@ push_bars-requires g c =
     let i = c.loop-place.invariant.left in
     (next_of c.args.text.now.pieces.table.slots i.0 (records_in c.args.text.now) c.args.made.now.exchanges c.loop-place.place (exchange_view c.in-Some.exchange) c.in-Some.ensures i.1).1.went
 
-pub push_bars-2-requires : goal.push_bars-2-requires
-push_bars-2-requires g c =
+pub push_bars-requires-in-loop-place : goal.push_bars-requires-in-loop-place
+push_bars-requires-in-loop-place g c =
     let i = c.loop-place.invariant.left in
     (next_of c.args.text.now.pieces.table.slots i.0 (records_in c.args.text.now) c.args.made.now.exchanges c.loop-place.place (exchange_view c.in-Some.exchange) c.in-Some.ensures i.1).1.came
 
