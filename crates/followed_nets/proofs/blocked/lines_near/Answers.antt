@@ -21,11 +21,10 @@ loop-name-preserved g c =
     let layers = name_at (map (λ w. w.now) c.args.layers.now) in
     let names = c.args.names.now in
     let put = rw (c.bytes.ensures) at c.in_ok-put_net.ensures in
-    let yes = search (rules, c.if-not-branch.false) in
     record {
-      tells = next_all names c.loop-name.name-index c.name-item.result c.loop-name-test.true c.name-item.is (λ n. (some : List Record) × TellNet some design n) c.loop-name.invariant.tells (put.tells yes);
-      out = next_lines names c.loop-name.name-index c.name-item.result c.loop-name-test.true c.name-item.is (barred_lines layers library design (map barrier_view c.args.changed.now.gone.items)) _ _ _ c.loop-name.invariant.out (put.out yes);
-      put = next_lines names c.loop-name.name-index c.name-item.result c.loop-name-test.true c.name-item.is (barred_lines layers library design (map barrier_view c.args.changed.now.come.items)) _ _ _ c.loop-name.invariant.put (put.put yes);
+      tells = next_all names c.loop-name.name-index c.name-item.result c.loop-name-test.true c.name-item.is (λ n. (some : List Record) × TellNet some design n) c.loop-name.invariant.tells (put.tells (search (rules, c.if-not-branch.false)));
+      out = next_lines names c.loop-name.name-index c.name-item.result c.loop-name-test.true c.name-item.is (barred_lines layers library design (map barrier_view c.args.changed.now.gone.items)) _ _ _ c.loop-name.invariant.out (put.out (search (rules, c.if-not-branch.false)));
+      put = next_lines names c.loop-name.name-index c.name-item.result c.loop-name-test.true c.name-item.is (barred_lines layers library design (map barrier_view c.args.changed.now.come.items)) _ _ _ c.loop-name.invariant.put (put.put (search (rules, c.if-not-branch.false)));
     }
 
 pub returns-clause-tells : goal.returns-clause-tells

@@ -12,4 +12,4 @@ pub lines_near-requires-clause-stars : goal.lines_near-requires-clause-stars
 lines_near-requires-clause-stars g c =
     let library = c.args.library.now in
     let kept = rw (c.in-Some.is) at (rw (← c.self.view_is) at c.requires.stars) in
-    rw (c.deref-2.ensures.value) (subst (λ (d : List Record). AllByRecursion (IsStar library d) c.in-Some.stars.items) c.statements_are_kept.ensures.said kept)
+    rw (c.deref-in-Some.ensures.value) (subst (λ (d : List Record). AllByRecursion (IsStar library d) c.in-Some.stars.items) c.statements_are_kept.ensures.said kept)
