@@ -9,5 +9,7 @@
 #![tactic(auto)]
 
 mod kept;
+mod merged;
 
 pub use kept::KeptLines;
+pub use merged::all_merged;
