@@ -36,7 +36,10 @@ impl<A: Allocator> Model for KeptLines<A> {
 }
 
 /// A copy of a line.
-fn copy_of<A: Allocator + Copy>(line: &DiagLine<A>, alloc: A) -> Result<DiagLine<A>, AllocError>
+pub(crate) fn copy_of<A: Allocator + Copy>(
+    line: &DiagLine<A>,
+    alloc: A,
+) -> Result<DiagLine<A>, AllocError>
     ensures { IfOk result (λ l. l ≡ line.now) }
 {
     Ok(DiagLine {

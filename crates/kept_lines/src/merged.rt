@@ -2,11 +2,13 @@
 
 ghost use Rattle.std.specs.Prelude.{◌≡◌, ◌++◌, ◌∷◌, [], IfOk, MatchOption, map};
 ghost use Rattle.design_model.specs.Order.{sorted_by_bytes, texts};
+ghost use Rattle.report_lines.specs.Kinds.{HaveTheirKinds};
 ghost use Rattle.kept_lines.specs.Kept.{AreInOrder};
 ghost use Rattle.kept_lines.specs.Merging.{left_of};
 
-use crate::kept::KeptLines;
-use design_model::diagnostic::DiagLine;
+use crate::kept::{KeptLines, copy_of};
+use design_model::diagnostic::{DiagLine, DiagLines};
+use design_model::sequence::Sequence;
 use std::alloc::{AllocError, Allocator};
 
 /// The line that comes first of what is left of two lists in order, and how much of each stands before what is left behind it. Where
@@ -43,6 +45,7 @@ fn merged<'s, 'k: 's, A: Allocator + Copy>(
     requires second { AreInOrder (map (λ l. l.now) second.now) }
     ensures lines { IfOk result (λ v. texts (map (λ l. l.now) v.items) ≡ sorted_by_bytes (texts (map (λ l. l.now) first.now) ++ texts (map (λ l. l.now) second.now))) }
     ensures in_order { IfOk result (λ v. AreInOrder (map (λ l. l.now) v.items)) }
+    ensures kinds { IfOk result (λ v. HaveTheirKinds (map (λ l. l.now) v.items)) }
 {
     let mut lines = Vec::with_capacity(alloc, first.len().saturating_add(second.len()))?;
     let mut first_at = 0;
@@ -78,11 +81,26 @@ pub fn all_merged<'k, A: Allocator + Copy>(
     third: &'k KeptLines<A>,
 ) -> Result<Vec<&'k DiagLine<A>, A>, AllocError>
     ensures lines { IfOk result (λ v. texts (map (λ l. l.now) v.items) ≡ sorted_by_bytes (first.now.lines ++ (second.now.lines ++ third.now.lines))) }
-    ensures in_order { IfOk result (λ v. AreInOrder (map (λ l. l.now) v.items)) }
+    ensures kinds { IfOk result (λ v. HaveTheirKinds (map (λ l. l.now) v.items)) }
 {
     let second_lent = lent(alloc, second)?;
     let third_lent = lent(alloc, third)?;
     let behind = merged(alloc, &second_lent, &third_lent)?;
     let first_lent = lent(alloc, first)?;
     merged(alloc, &first_lent, &behind)
+}
+
+/// Copies of lines that are lent, in their order. It takes one allocation for the list and at most one for each line.
+pub fn copies<A: Allocator + Copy>(
+    alloc: A,
+    lines: &[&DiagLine<A>],
+) -> Result<DiagLines<A>, AllocError>
+    ensures lines { IfOk result (λ l. texts l ≡ texts (map (λ l. l.now) lines.now)) }
+    ensures kinds { HaveTheirKinds (map (λ l. l.now) lines.now) → IfOk result (λ l. HaveTheirKinds l) }
+{
+    let mut copied = Vec::with_capacity(alloc, lines.len())?;
+    for line in lines {
+        copied.push(copy_of(line, alloc)?)?;
+    }
+    Ok(Sequence::from_vec(copied))
 }

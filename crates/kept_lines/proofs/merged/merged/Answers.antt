@@ -15,3 +15,10 @@ returns-clause-in_order g c =
     let second = c.args.second.now in
     let all = all_pushed c.loop-line.lines.items (left_of first second c.loop-line.first_at c.loop-line.second_at) (left_of first second 0 0) c.loop-line.invariant c.in_default.ensures in
     merged_in_order first second c.loop-line.lines.items all c.requires.first c.requires.second
+
+pub returns-clause-kinds : goal.returns-clause-kinds
+returns-clause-kinds g c =
+    let first = c.args.first.now in
+    let second = c.args.second.now in
+    let all = all_pushed c.loop-line.lines.items (left_of first second c.loop-line.first_at c.loop-line.second_at) (left_of first second 0 0) c.loop-line.invariant c.in_default.ensures in
+    (merged_in_order first second c.loop-line.lines.items all c.requires.first c.requires.second).kinds
