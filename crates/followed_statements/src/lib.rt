@@ -13,6 +13,7 @@ mod counts;
 mod defined_text;
 mod following;
 mod lines;
+mod listing;
 mod places;
 mod seeing;
 mod showing;
