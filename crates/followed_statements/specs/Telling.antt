@@ -9,8 +9,8 @@ use Rattle.followed_statements.specs.Seen.{IsNoPinName, listing_one}
 use Rattle.followed_statements.specs.declared.telling.ToldStatements.{ToldStatements}
 
 -- the lines on headers, and on the entries that list a component
-pub record AreToldLines (library : Library) (design : List Record) (component : Option (List ℕ)) (lines : List (List ℕ)) : Type 0 where
-  pub lines : SameLines lines (count_lines design ++ flat_map (statement_lines library design) (listing_one component design))
+pub record AreToldLines (library : Library) (design : List Record) (component : Option (List ℕ)) (told : List (List ℕ)) : Type 0 where
+  pub lines : SameLines told (count_lines design ++ flat_map (statement_lines library design) (listing_one component design))
   pub no_pin : IsNoPinName component
 
 abbrev pub AreStatementsTold : {A : Type 0} → Library → List Record → ToldStatements A → Type 0

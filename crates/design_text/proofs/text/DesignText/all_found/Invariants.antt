@@ -1,10 +1,8 @@
-use Rattle.std.proofs.Common.{length, map}
+use Rattle.std.proofs.Common.{◌≡◌, ◌++◌, drop, map}
+use Rattle.std.specs.List.{filter_map}
 use Rattle.def_reader.specs.StatementViews.{record_view}
-use Rattle.design_text.proofs.ListedEntries.{Going}
+use Rattle.design_text.specs.Listings.{said_under}
 use Rattle.design_text.proofs.text.DesignText.all_found.Given as goal
 
 abbrev pub invariant-loop-id : goal.invariant-loop-id
-invariant-loop-id g l = Going l.self l.initial.left l.left l.last (map record_view l.statements.items)
-
-abbrev pub decreases-loop-id : goal.decreases-loop-id
-decreases-loop-id g l = length l.left
+invariant-loop-id g l = map record_view l.statements.items ++ filter_map (said_under l.self) (drop l.id-index l.ids) ≡ filter_map (said_under l.self) l.ids
