@@ -12,7 +12,7 @@ use crate::lines::lines_under;
 use crate::listing::told_lines;
 use crate::seeing::shows_all_but;
 use crate::showing::shows_same;
-use crate::telling::ToldStatements;
+use crate::telling::{ToldStatements, name_in};
 use agreement_laws::{lines_follow_one_name, same_outline_same_counts, same_shown_same_lines};
 use cell_library::library::Library;
 use design_text::made::{Exchange, Made};
@@ -102,7 +102,7 @@ fn follow_told<A: Allocator + Copy>(
     same_shown_same_lines();
     lines_follow_one_name();
     text.statements_are_kept();
-    let component = told.component.as_ref().map(|name| name.bytes());
+    let component = name_in(&told.component);
     if !shows_all_but(alloc, text, made, component)? {
         return follow_same(alloc, library, text, made, kept);
     }

@@ -49,7 +49,7 @@ pub(crate) fn told_lines<A: Allocator + Copy>(
     text: &DesignText<A>,
     component: Option<&[u8]>,
 ) -> Result<Option<Lines<A>>, AllocError>
-    ensures { IfOk result (λ found. IfSome found (AreToldLines library.now (design_of text.now) (option_map (λ c. c.now) component))) }
+    ensures { IfOk result (λ found. IfSome found (AreToldLines library.now (design_of text.now) (option_map (λ c. c.now) component.entry))) }
 {
     let mut lines = lines_on_headers(alloc, text)?;
     let Some(component) = component else {

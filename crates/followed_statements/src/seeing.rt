@@ -122,7 +122,10 @@ fn exchange_shows_all_but<A: Allocator + Copy>(
 {
     let went = text.kept(alloc, exchange.went)?;
     let came = text.kept(alloc, exchange.came)?;
-    if have_nets(&went) || have_nets(&came) {
+    if have_nets(&went) {
+        return Ok(false);
+    }
+    if have_nets(&came) {
         return Ok(false);
     }
     Ok(seen_show_same(&went, &came, component))

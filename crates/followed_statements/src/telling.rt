@@ -25,11 +25,21 @@ fn copied<A: Allocator + Copy>(
     alloc: A,
     name: Option<&[u8]>,
 ) -> Result<Option<OwnName<A>>, AllocError>
-    ensures { IfOk result (λ own. own ≡ option_map (λ c. c.now) name) }
+    ensures { IfOk result (λ own. own ≡ option_map (λ c. c.now) name.entry) }
 {
     match name {
         Some(name) => Ok(Some(OwnName::copy_of(alloc, name)?)),
         None => Ok(None),
+    }
+}
+
+/// A name that is kept, if there is one.
+pub(crate) fn name_in<A: Allocator>(name: &Option<OwnName<A>>) -> Option<&[u8]>
+    ensures { option_map (λ c. c.now) result ≡ name.now }
+{
+    match name {
+        Some(name) => Some(name.bytes()),
+        None => None,
     }
 }
 

@@ -20,10 +20,10 @@ returns g c = λ old new exchange same.
     let came = kept slots c.args.exchange.came.now in
     let any = λ (some : List Statement). list_any is_of_net (map record_view some) in
     let none_went : list_any is_of_net went ≡ false =
-    sym (c.have_nets.ensures ∙ ap any c.deref.ensures.value ∙ ap (list_any is_of_net) c.in_ok-went.ensures) ∙ c.if-or.false
+    sym (c.have_nets.ensures ∙ ap any c.deref.ensures.value ∙ ap (list_any is_of_net) c.in_ok-went.ensures) ∙ c.if-have_nets.false
     in
     let none_came : list_any is_of_net came ≡ false =
-    sym (c.have_nets-2.ensures ∙ ap any c.deref-2.ensures.value ∙ ap (list_any is_of_net) c.in_ok-came.ensures) ∙ c.if-or-2.false
+    sym (c.have_nets-2.ensures ∙ ap any c.deref-2.ensures.value ∙ ap (list_any is_of_net) c.in_ok-came.ensures) ∙ c.if-have_nets-2.false
     in
     let read : ShowSame (filter test (map record_view c.in_ok-went.went.items)) (filter test (map record_view c.in_ok-came.came.items)) =
     rw (c.deref-3.ensures.value, c.deref-4.ensures.value) at (c.seen_show_same.ensures same)
