@@ -82,21 +82,50 @@ fn component_begun<A: Allocator + Copy>(text: &DesignText<A>, position: usize) -
     }
 }
 
-/// A change as one of a section, or of what others see of a component, if it is one.
-fn section_change<'s, A: Allocator + Copy>(
-    text: &'s DesignText<A>,
-    change: Change<'_, 's>,
-) -> Option<SectionEdit<'s>> {
-    match change {
-        Change::Design(edit) => section_edit(edit),
-        Change::Text(position) => Some(SectionEdit {
-            component: Some(component_begun(text, position)?),
-        }),
+/// What is told of a text before an edit that is of this component at most. Where memory is refused nothing is.
+fn tell<A: Allocator + Copy>(
+    alloc: A,
+    library: &Library<'_, A>,
+    text: &DesignText<A>,
+    component: Option<&[u8]>,
+) -> Option<ToldStatements<A>>
+    ensures { IfSome result (AreStatementsTold library.now (said (records_in text.now))) }
+{
+    text.statements_are_kept();
+    match tell_statements(alloc, library, text, component) {
+        Ok(told) => told,
+        Err(_) => None,
     }
 }
 
+/// The same before an edit of the design, if it is one of a section or of what others see of a component.
+fn tell_by_edit<A: Allocator + Copy>(
+    alloc: A,
+    library: &Library<'_, A>,
+    text: &DesignText<A>,
+    edit: &Edit<'_>,
+) -> Option<ToldStatements<A>>
+    ensures { IfSome result (AreStatementsTold library.now (said (records_in text.now))) }
+{
+    let sections = section_edit(edit)?;
+    tell(alloc, library, text, sections.component)
+}
+
+/// The same before an edit of the text from a position on, if it may give a component another macro.
+fn tell_by_text<A: Allocator + Copy>(
+    alloc: A,
+    library: &Library<'_, A>,
+    text: &DesignText<A>,
+    position: usize,
+) -> Option<ToldStatements<A>>
+    ensures { IfSome result (AreStatementsTold library.now (said (records_in text.now))) }
+{
+    let component = component_begun(text, position)?;
+    tell(alloc, library, text, Some(component))
+}
+
 /// What is told of a text before an edit of its sections, or of what others see of a component, while the lines on its statements are
-/// known. Where memory is refused nothing is.
+/// known.
 pub(crate) fn tell_known<A: Allocator + Copy>(
     alloc: A,
     library: &Library<'_, A>,
@@ -106,14 +135,12 @@ pub(crate) fn tell_known<A: Allocator + Copy>(
 ) -> Option<ToldStatements<A>>
     ensures { IfSome result (AreStatementsTold library.now (said (records_in text.now))) }
 {
-    text.statements_are_kept();
     if known.statements.is_none() {
         return None;
     }
-    let sections = section_change(text, change)?;
-    match tell_statements(alloc, library, text, sections.component) {
-        Ok(told) => told,
-        Err(_) => None,
+    match change {
+        Change::Design(edit) => tell_by_edit(alloc, library, text, edit),
+        Change::Text(position) => tell_by_text(alloc, library, text, position),
     }
 }
 
