@@ -31,7 +31,7 @@ pub fn put_statement<'a, 't: 'a, K: Known, A: Allocator + Copy>(
 }
 
 /// Puts the lines on each of some statements by itself behind others.
-fn put_statements<'a, 't: 'a, K: Known, A: Allocator + Copy>(
+pub(crate) fn put_statements<'a, 't: 'a, K: Known, A: Allocator + Copy>(
     checks: &mut StatementChecks<'a, 't, K, A>,
     statements: &[Statement<'t>],
     lines: &mut Lines<A>,
@@ -42,21 +42,6 @@ fn put_statements<'a, 't: 'a, K: Known, A: Allocator + Copy>(
         put_statement(checks, statement, lines)?;
     }
     Ok(())
-}
-
-/// Puts the lines on each of some statements by itself behind others, by what names stand for in a text.
-pub(crate) fn put_by_text<A: Allocator + Copy>(
-    alloc: A,
-    library: &Library<'_, A>,
-    text: &DesignText<A>,
-    statements: &[Statement<'_>],
-    lines: &mut Lines<A>,
-) -> Result<(), AllocError>
-    ensures { OnOk result (lines.new ≡ lines.old ++ flat_map (statement_lines library.now (design_of text.now)) (records_view statements.now)) }
-{
-    let defined = DefinedText { library, text };
-    let mut checks = StatementChecks::new(alloc, &defined);
-    put_statements(&mut checks, statements, lines)
 }
 
 /// The lines on the statements that are kept under some numbers.
@@ -70,7 +55,9 @@ pub(crate) fn lines_under<A: Allocator + Copy>(
     ensures { IfOk result (λ lines. lines ≡ flat_map (statement_lines library.now (design_of text.now)) (map (λ id. record_of (kept_at text.now.pieces.table.slots id)) ids.now)) }
 {
     let statements = text.kept(alloc, ids)?;
+    let defined = DefinedText { library, text };
+    let mut checks = StatementChecks::new(alloc, &defined);
     let mut lines = Lines::new(alloc);
-    put_by_text(alloc, library, text, &statements, &mut lines)?;
+    put_statements(&mut checks, &statements, &mut lines)?;
     Ok(lines)
 }

@@ -9,9 +9,11 @@ ghost use Rattle.followed_statements.specs.Seen.{IsNoPin, listing};
 ghost use Rattle.followed_statements.specs.Telling.{AreToldLines};
 
 use crate::counts::lines_on_headers;
-use crate::lines::put_by_text;
+use crate::defined_text::DefinedText;
+use crate::lines::put_statements;
 use cell_library::library::Library;
 use design_text::text::DesignText;
+use entry_checks::statement_lines::StatementChecks;
 use lefdef_tokens::is_word;
 use report_lines::Lines;
 use std::alloc::{AllocError, Allocator};
@@ -37,7 +39,9 @@ fn put_listing<A: Allocator + Copy>(
     let Some(entries) = text.entries_listing(alloc, component, MOST_ENTRIES)? else {
         return Ok(false);
     };
-    put_by_text(alloc, library, text, &entries, lines)?;
+    let defined = DefinedText { library, text };
+    let mut checks = StatementChecks::new(alloc, &defined);
+    put_statements(&mut checks, &entries, lines)?;
     Ok(true)
 }
 
