@@ -1,8 +1,8 @@
 -- Statements that are found by the numbers of those that pass a test, each number once.
 use Rattle.std.proofs.Common.{◌≡◌, ◌≢◌, ◌&&◌, ◌||◌, ◌+◌, ℕ, Bool, true, false, cond, List, [], ◌∷◌, ◌++◌, length, map, Option, Some, None, refl, sym, ap, ap₂, subst, ◌∙◌, ⊎_elim, inl, inr, arith}
-use Rattle.std.specs.Prelude.{◌==◌, filter, sum_by}
+use Rattle.std.specs.Prelude.{◌==◌, filter, flat_map, sum_by}
 use Rattle.std.specs.List.{cons_option, filter_map, list_any, zip}
-use Rattle.std.specs.Option.{option_map}
+use Rattle.std.specs.Option.{option_map, option_to_list}
 use Rattle.std.proofs.lemmas.Bool.{cases_Bool, cases_eq}
 use Rattle.std.proofs.lemmas.List.Elements.{filter_map-append}
 use Rattle.std.proofs.lemmas.List.Folds.{list_any-append}
@@ -195,6 +195,18 @@ module _ (wide : Record → Bool) where
 same_found : {A B : Type 0} (f g : A → Option B) → ((x : A) → f x ≡ g x) → (xs : List A) → filter_map f xs ≡ filter_map g xs
 same_found f g h [] = refl
 same_found {A} {B} f g h (x ∷ xs) = ap₂ (λ (o : Option B) (l : List B). cons_option o l) (h x) (same_found f g h xs)
+
+-- each of some, where there is one
+each_one : {A B : Type 0} (f : A → Option B) (xs : List A) → flat_map (λ x. option_to_list (f x)) xs ≡ filter_map f xs
+each_one f [] = refl
+each_one {A} {B} f (x ∷ xs) = one (f x) (flat_map (λ y. option_to_list (f y)) xs) (filter_map f xs) (each_one f xs)
+  where
+    one : (o : Option B) (l m : List B) → l ≡ m → option_to_list o ++ l ≡ cons_option o m
+    one None l m same = same
+    one (Some y) l m same = ap (λ (n : List B). y ∷ n) same
+
+pub as_found : (c : Content) (ids : List StmtId) → flat_map (λ id. option_to_list (said_under c id)) ids ≡ filter_map (said_under c) ids
+as_found c ids = each_one (said_under c) ids
 
 module _ (c : Content) (design : List Record) (k : IsNumbered c design) where
   said_is : (id : StmtId) → said_under c id ≡ look_up id (zip (numbers_of c) design)

@@ -1,8 +1,8 @@
 //! The entries of nets that list a component, by the tables.
 
-ghost use Rattle.std.specs.Prelude.{◌≡◌, ◌++◌, IfOk, IfSome, OnOk, map};
-ghost use Rattle.std.specs.List.{filter_map, list_any};
-ghost use Rattle.std.specs.Option.{option_map, option_to_list};
+ghost use Rattle.std.specs.Prelude.{◌≡◌, ◌++◌, IfOk, IfSome, OnOk, flat_map, map};
+ghost use Rattle.std.specs.List.{list_any};
+ghost use Rattle.std.specs.Option.{option_to_list};
 ghost use Rattle.design_model.specs.declared.identifier.StmtId.{StmtId as Number};
 ghost use Rattle.def_reader.specs.StatementViews.{record_view};
 ghost use Rattle.text_pieces.specs.Chunks.{AreOnce};
@@ -12,7 +12,6 @@ ghost use Rattle.design_text.specs.Listings.{HasListing, ListsOnce, said_under};
 
 use crate::text::DesignText;
 use def_reader::statement::Statement;
-use def_splice::lying::Lying;
 use design_model::identifier::StmtId;
 use design_tables::Numbers;
 use std::alloc::{AllocError, Allocator};
@@ -51,31 +50,28 @@ fn each_once<A: Allocator + Copy>(
     Ok(Some(ids))
 }
 
-/// Puts a statement that was found behind others.
-fn push_found<'t, A: Allocator + Copy>(
-    statements: &mut Vec<Statement<'t>, A>,
-    found: Option<(Statement<'t>, Lying<'t>)>,
-) -> Result<(), AllocError>
-    ensures { OnOk result (map record_view statements.new.items ≡ map record_view statements.old.items ++ option_to_list (option_map (λ x. record_view x.0) found.entry)) }
-{
-    if let Some((statement, _)) = found {
-        statements.push(statement)?;
-    }
-    Ok(())
-}
-
 impl<A: Allocator + Copy> DesignText<A> {
+    /// Puts the statement of a number behind others.
+    fn push_found<'t>(
+        &'t self,
+        id: StmtId,
+        statements: &mut Vec<Statement<'t>, A>,
+    ) -> Result<(), AllocError>
+        ensures { OnOk result (map record_view statements.new.items ≡ map record_view statements.old.items ++ option_to_list (said_under self.entry.now id)) }
+    {
+        if let Some((statement, _)) = self.found(id) {
+            statements.push(statement)?;
+        }
+        Ok(())
+    }
+
     /// The statements of some numbers.
-    fn all_found(
-        &self,
-        alloc: A,
-        ids: &[StmtId],
-    ) -> Result<Vec<Statement<'_>, A>, AllocError>
-        ensures { IfOk result (λ v. map record_view v.items ≡ filter_map (said_under self.entry.now) ids.now) }
+    fn all_found(&self, alloc: A, ids: &[StmtId]) -> Result<Vec<Statement<'_>, A>, AllocError>
+        ensures { IfOk result (λ v. map record_view v.items ≡ flat_map (λ id. option_to_list (said_under self.entry.now id)) ids.now) }
     {
         let mut statements = Vec::new(alloc);
         for id in ids {
-            push_found(&mut statements, self.found(*id))?;
+            self.push_found(*id, &mut statements)?;
         }
         Ok(statements)
     }
