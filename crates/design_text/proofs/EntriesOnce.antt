@@ -160,20 +160,20 @@ module _ (wide : Record → Bool) where
         let no_back = absent_after i at.before at.after alone in
         let left = at.before ++ at.after in
         let rest : FindsAll wide (zip is rs) left = λ id. ⊎_elim
-            (λ (e : id.0 ≡ i.0).
-            let it : i ≡ id = ap (λ (k : ℕ). record { 0 = k }) (sym e) in
-            subst (λ (x : StmtId). list_any (is_number x) left ≡ numbers_one wide (zip is rs) x) it
-            (not_among i left (absent_append i at.before at.after no_front no_back) ∙ sym (absent_number wide i is rs once.0)))
-            (λ (other : id.0 ≢ i.0).
-            let no = differ id.0 i.0 other in
-            let before : numbers_one wide (zip (i ∷ is) (r ∷ rs)) id ≡ numbers_one wide (zip is rs) id = rw no refl in
-            list_any-append (is_number id) at.before at.after
-            ∙ sym (among_others (list_any (is_number id) at.before) (is_number id i) (list_any (is_number id) at.after) no)
-            ∙ sym (list_any-append (is_number id) at.before (i ∷ at.after))
-            ∙ ap (list_any (is_number id)) (sym at.is)
-            ∙ all id
-            ∙ before)
-            (cases_eq id.0 i.0) in
+        (λ (e : id.0 ≡ i.0).
+        let it : i ≡ id = ap (λ (k : ℕ). record { 0 = k }) (sym e) in
+        subst (λ (x : StmtId). list_any (is_number x) left ≡ numbers_one wide (zip is rs) x) it
+        (not_among i left (absent_append i at.before at.after no_front no_back) ∙ sym (absent_number wide i is rs once.0)))
+        (λ (other : id.0 ≢ i.0).
+        let no = differ id.0 i.0 other in
+        let before : numbers_one wide (zip (i ∷ is) (r ∷ rs)) id ≡ numbers_one wide (zip is rs) id = rw no refl in
+        list_any-append (is_number id) at.before at.after
+        ∙ sym (among_others (list_any (is_number id) at.before) (is_number id i) (list_any (is_number id) at.after) no)
+        ∙ sym (list_any-append (is_number id) at.before (i ∷ at.after))
+        ∙ ap (list_any (is_number id)) (sym at.is)
+        ∙ all id
+        ∙ before)
+        (cases_eq id.0 i.0) in
         let later = each_found w is rs left (omega (arith, many)) once.1 (once_without i at.before at.after alone) rest in
         let here = finds w i is r rs at.before at.after no_front no_back in
         let there = ap (λ (l : List StmtId). sum_by w (found (i ∷ is) (r ∷ rs) l)) at.is in

@@ -93,19 +93,33 @@ module _ (lines : SameShownSameLines) (one : LinesFollowOneName) (library : Libr
       often = λ q.
           let rest = unchecked_in_library library in
           let told = went.lines.often q in
-          omega (arith, told, all_parted q before c old,
-          times-append q (count_lines old) (flat_map before old ++ rest), times-append q (flat_map before old) rest,
-          times-append q (count_lines old) (flat_map before (listing_one c old)),
-          times-append q out (flat_map before (others c old) ++ rest), times-append q (flat_map before (others c old)) rest);
+          omega (
+            arith,
+            told,
+            all_parted q before c old,
+            times-append q (count_lines old) (flat_map before old ++ rest),
+            times-append q (flat_map before old) rest,
+            times-append q (count_lines old) (flat_map before (listing_one c old)),
+            times-append q out (flat_map before (others c old) ++ rest),
+            times-append q (flat_map before (others c old)) rest,
+          );
     };
     new_is = record {
       often = λ q.
           let rest = unchecked_in_library library in
           let told = came.lines.often q in
           let listed = ap (λ (rs : List Record). times q (flat_map after rs)) shows.listing in
-          omega (arith, told, listed, all_parted q before c old, differ_there c shows.seen came.no_pin q,
-          times-append q (count_lines new) (flat_map after old ++ rest), times-append q (flat_map after old) rest,
-          times-append q (count_lines new) (flat_map after (listing_one c new)),
-          times-append q put (flat_map before (others c old) ++ rest), times-append q (flat_map before (others c old)) rest);
+          omega (
+            arith,
+            told,
+            listed,
+            all_parted q before c old,
+            differ_there c shows.seen came.no_pin q,
+            times-append q (count_lines new) (flat_map after old ++ rest),
+            times-append q (flat_map after old) rest,
+            times-append q (count_lines new) (flat_map after (listing_one c new)),
+            times-append q put (flat_map before (others c old) ++ rest),
+            times-append q (flat_map before (others c old)) rest,
+          );
     };
   }
