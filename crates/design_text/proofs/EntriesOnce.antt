@@ -1,5 +1,5 @@
 -- Statements that are found by the numbers of those that pass a test, each number once.
-use Rattle.std.proofs.Common.{◌≡◌, ◌≢◌, ◌&&◌, ◌||◌, ◌+◌, ℕ, Bool, true, false, cond, List, [], ◌∷◌, ◌++◌, length, map, Option, Some, None, refl, sym, ap, ap₂, subst, ◌∙◌, ⊎_elim, inl, inr, arith}
+use Rattle.std.proofs.Common.{◌≡◌, ◌≢◌, ◌&&◌, ◌||◌, ◌+◌, ℕ, Bool, true, false, List, [], ◌∷◌, ◌++◌, length, Option, Some, None, refl, sym, ap, ap₂, subst, ◌∙◌, ⊎_elim, inl, inr, arith}
 use Rattle.std.specs.Prelude.{◌==◌, filter, flat_map, sum_by}
 use Rattle.std.specs.List.{cons_option, filter_map, list_any, zip}
 use Rattle.std.specs.Option.{option_map, option_to_list}
@@ -12,11 +12,27 @@ use Rattle.statement_model.specs.Tokens.{Token}
 use Rattle.def_grammar.specs.Records.{Record}
 use Rattle.text_pieces.specs.Chunks.{AreOnce, IsAbsent}
 use Rattle.text_pieces.specs.Statements.{look_up, statements_of}
-use Rattle.text_pieces.proofs.Ids.{absent_after, absent_append, absent_before}
 use Rattle.design_tables.specs.Lookups.{FindsAll, is_number, numbers_one}
 use Rattle.design_text.specs.DesignTexts.{Content, IsNumbered, numbers_of, says_one, statement_under, text_of}
 use Rattle.design_text.specs.Listings.{said_under}
 use Rattle.design_text.proofs.FoundStatements.{absent_number, differ, look_map, many_are, same}
+
+absent_append : (id : StmtId) (xs ys : List StmtId) → IsAbsent id xs → IsAbsent id ys → IsAbsent id (xs ++ ys)
+absent_append id [] ys h k = k
+absent_append id (x ∷ xs) ys h k = (h.0, absent_append id xs ys h.1 k)
+
+absent_between : (x id : StmtId) (xs ys : List StmtId) → IsAbsent x (xs ++ id ∷ ys) → x.0 ≢ id.0
+absent_between x id [] ys h = h.0
+absent_between x id (y ∷ xs) ys h = absent_between x id xs ys h.1
+
+-- of numbers that stand once, one is neither before nor behind its place
+absent_before : (id : StmtId) (xs ys : List StmtId) → AreOnce (xs ++ id ∷ ys) → IsAbsent id xs
+absent_before id [] ys h = tt
+absent_before id (x ∷ xs) ys h = (λ e. absent_between x id xs ys h.0 (sym e), absent_before id xs ys h.1)
+
+absent_after : (id : StmtId) (xs ys : List StmtId) → AreOnce (xs ++ id ∷ ys) → IsAbsent id ys
+absent_after id [] ys h = h.0
+absent_after id (x ∷ xs) ys h = absent_after id xs ys h.1
 
 -- numbers that stand once, with one more that isn't among them
 absent_now : (id : StmtId) (ids : List StmtId) → list_any (is_number id) ids ≡ false → IsAbsent id ids
