@@ -16,9 +16,9 @@ abbrev design : List Record
 design =
     records_of (read_def (codes "UNITS DISTANCE MICRONS 1 ;\nDIEAREA ( 0 0 ) ( 9 9 ) ;\nVIAS 1 ;\n- v + RECT met1 ( 0 0 ) ( 1 1 ) ;\nEND VIAS\nNONDEFAULTRULES 1 ;\n- w + LAYER met1 WIDTH 3 ;\nEND NONDEFAULTRULES\nCOMPONENTS 3 ;\n- c M ;\n- d M ;\n- PIN2 M ;\nEND COMPONENTS\nPINS 1 ;\n- p + NET n ;\nEND PINS\nBLOCKAGES 1 ;\n- LAYER met1 RECT ( 4 4 ) ( 9 9 ) ;\nEND BLOCKAGES\nSPECIALNETS 1 ;\n- n ( * Z ) + USE POWER ;\nEND SPECIALNETS\nNETS 4 ;\n- m ( d A ) ( d B + SYNTHESIZED ) ( VPIN x ) ;\n- MUSTJOIN ( c A ) ;\n- n ( c A ) ( PIN p ) ;\n- o + SUBNET n ( c A ) ;\nEND NETS\nEND DESIGN\n"))
 
--- UNITS, the via, the rule, the pin and the blockage; not the die, no component, no net, no header and no end
+-- UNITS, the via, the rule and the pin; not the die, no component, no blockage, no net, no header and no end
 of_each_kind : map is_common design
-    ≡ true ∷ false ∷ false ∷ true ∷ false ∷ false ∷ true ∷ false ∷ false ∷ false ∷ false ∷ false ∷ false ∷ false ∷ true ∷ false ∷ false ∷ true ∷ false ∷ false ∷ false ∷ false ∷ false ∷ false ∷ false ∷ false ∷ false ∷ false ∷ false ∷ []
+    ≡ true ∷ false ∷ false ∷ true ∷ false ∷ false ∷ true ∷ false ∷ false ∷ false ∷ false ∷ false ∷ false ∷ false ∷ true ∷ false ∷ false ∷ false ∷ false ∷ false ∷ false ∷ false ∷ false ∷ false ∷ false ∷ false ∷ false ∷ false ∷ false ∷ []
 unfolding def_lines
 of_each_kind = refl
 
@@ -62,14 +62,14 @@ some_nets : (map (λ (n : Net). n.name) (nets_where square_library design 1 (λ 
 unfolding def_lines
 some_nets = (refl, refl)
 
--- entries of the net m, the component d, and what no net is made of, as a header or an entry of MUSTJOIN
+-- entries of the net m, the component d, and what no net is made of, as a header, a blockage or an entry of MUSTJOIN
 within_one : map (is_within (codes "m" ∷ []) (Some (codes "d"))) design
-    ≡ false ∷ true ∷ true ∷ false ∷ true ∷ true ∷ false ∷ true ∷ true ∷ false ∷ true ∷ false ∷ true ∷ true ∷ false ∷ true ∷ true ∷ false ∷ true ∷ true ∷ false ∷ true ∷ true ∷ true ∷ true ∷ false ∷ false ∷ true ∷ true ∷ []
+    ≡ false ∷ true ∷ true ∷ false ∷ true ∷ true ∷ false ∷ true ∷ true ∷ false ∷ true ∷ false ∷ true ∷ true ∷ false ∷ true ∷ true ∷ true ∷ true ∷ true ∷ false ∷ true ∷ true ∷ true ∷ true ∷ false ∷ false ∷ true ∷ true ∷ []
 unfolding def_lines
 within_one = refl
 
 -- of two nets, and of no component
 within_two : map (is_within (codes "o" ∷ codes "n" ∷ []) None) design
-    ≡ false ∷ true ∷ true ∷ false ∷ true ∷ true ∷ false ∷ true ∷ true ∷ false ∷ false ∷ false ∷ true ∷ true ∷ false ∷ true ∷ true ∷ false ∷ true ∷ true ∷ true ∷ true ∷ true ∷ false ∷ true ∷ true ∷ true ∷ true ∷ true ∷ []
+    ≡ false ∷ true ∷ true ∷ false ∷ true ∷ true ∷ false ∷ true ∷ true ∷ false ∷ false ∷ false ∷ true ∷ true ∷ false ∷ true ∷ true ∷ true ∷ true ∷ true ∷ true ∷ true ∷ true ∷ false ∷ true ∷ true ∷ true ∷ true ∷ true ∷ []
 unfolding def_lines
 within_two = refl

@@ -2,11 +2,14 @@
 use Rattle.std.proofs.Common.{◌≡◌, ◌≤◌, ◌+◌, ℕ, Bool, true, false, ◌||◌, List, [], ◌∷◌, ◌++◌, Option, Some, None, Result, Ok, Err, refl, sym, ap, ◌∙◌, arith}
 use Rattle.std.specs.Prelude.{IfOk, IfSome}
 use Rattle.std.specs.Str.{bytes_eq}
+use Rattle.std.proofs.lemmas.List.Sums.{sum_by-append}
 use Rattle.def_grammar.specs.Records.{Record}
 use Rattle.lef_grammar.specs.Library.{Library}
+use Rattle.connection_rules.specs.NetLines.{barriers}
+use Rattle.design_rules.specs.Boxes.{scale}
 use Rattle.net_laws.specs.NetChanges.{is_one_of}
 use Rattle.followed_nets.specs.Listed.{AllList, AreApart}
-use Rattle.followed_nets.specs.Tests.{near_pairs}
+use Rattle.followed_nets.specs.Tests.{FewTests}
 use Rattle.followed_nets.specs.Touched.{Touched, star_names}
 use Rattle.edit_rules.specs.Edits.{change_of}
 use Rattle.edit_session.specs.declared.change.Change as session
@@ -34,10 +37,23 @@ found P Q (Ok None) law h = tt
 found P Q (Err e) law h = tt
 
 pub none_compared : (library : Library) (old new : List Record) (subject : Option Subject) (tests : ℕ) → tests ≡ 0 → FewShapes library old new subject tests
-none_compared library old new subject tests none = record { nets = []; apart = tt; are_touched = λ name among. absurd (cc); few = omega (arith, none) }
+none_compared library old new subject tests none =
+    let bars = barriers library old (scale old) in
+    let then_bars = barriers library new (scale new) in
+    record {
+      nets = [];
+      apart = tt;
+      are_touched = λ name among. absurd (cc);
+      few = record {
+        gone = bars;
+        come = then_bars;
+        changed = record { same = record { sums = λ w. omega (arith, sum_by-append w bars then_bars, sum_by-append w then_bars bars) } };
+        few = omega (arith, none);
+      };
+    }
 
 pub few_shapes : (library : Library) (old new : List Record) (subject : Option Subject) (t : Touched) (tests : ℕ) → AreApart (t.names ++ star_names t.stars) → TouchesOnly old subject t
-    → tests ≤ near_pairs library old (t.names ++ star_names t.stars) + near_pairs library new (t.names ++ star_names t.stars) → FewShapes library old new subject tests
+    → FewTests library old new (t.names ++ star_names t.stars) tests → FewShapes library old new subject tests
 few_shapes library old new subject t tests apart touched few = record { nets = t.names ++ star_names t.stars; apart = apart; are_touched = touched; few = few }
 
 -- no net is touched by what touches none

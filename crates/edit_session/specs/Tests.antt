@@ -13,7 +13,7 @@ use Rattle.net_laws.specs.NetsTold.{terminals_in}
 use Rattle.shape_index.specs.Near.{are_near}
 use Rattle.staying_laws.specs.PlaceStatements.{boxes_among}
 use Rattle.followed_nets.specs.Listed.{AreApart}
-use Rattle.followed_nets.specs.Tests.{near_pairs}
+use Rattle.followed_nets.specs.Tests.{FewTests}
 use Rattle.followed_nets.specs.Touched.{Touched, star_names}
 use Rattle.edit_session.specs.declared.change.Change as session
 use Rattle.edit_session.specs.declared.change.Change.TheVariants.{Design, Text}
@@ -76,15 +76,16 @@ abbrev pub IsSubject : session.Change → Option Subject → Type 0
 IsSubject (Design edit) subject = subject ≡ subject_of (change_of edit.now)
 IsSubject (Text position) subject = Unit {0}
 
--- each of some nets is touched, none stands twice among them, and so many pairs of shapes are near
+-- each of some nets is touched, none stands twice among them, and so many pairs of shapes are near, with those of rectangles where routing
+-- is blocked that went or came
 pub record FewShapes (library : Library) (old new : List Record) (subject : Option Subject) (tests : ℕ) : Type 0 where
   pub nets : List (List ℕ)
   pub apart : AreApart nets
   pub are_touched : TouchesEach old subject nets
-  pub few : tests ≤ near_pairs library old nets + near_pairs library new nets
+  pub few : FewTests library old new nets tests
 
--- Shapes of nets that the edit touches are compared with shapes near them, as they were and as they are then; so are boxes of components
--- that go or come; and nothing else.
+-- Shapes of nets that the edit touches are compared with shapes near them, as they were and as they are then; so are rectangles where
+-- routing is blocked, and boxes of components, that go or come; and nothing else.
 pub record TestsFew (library : Library) (old new : List Record) (subject : Option Subject) (tests : ℕ) : Type 0 where
   pub by_shapes : ℕ
   pub by_boxes : ℕ

@@ -44,7 +44,7 @@ pub(crate) fn net_of<'e>(edit: &Edit<'e>) -> Option<&'e [u8]>
     }
 }
 
-/// The nets that an edit of a component or of a net is about to change.
+/// The nets that an edit of the design is about to change: none where it is neither of a component nor of a net.
 fn touched_by_edit<A: Allocator + Copy>(
     alloc: A,
     library: &Library<'_, A>,
@@ -62,7 +62,7 @@ fn touched_by_edit<A: Allocator + Copy>(
     }
     match component_of(edit) {
         Some(component) => nets.touched_by_component(alloc, library, text, component),
-        None => Ok(None),
+        None => Ok(Some(TouchedNets::none(alloc))),
     }
 }
 
@@ -127,15 +127,14 @@ fn touched<A: Allocator + Copy>(
     }
 }
 
-/// Whether an edit isn't one of what any net may be made of, as `UNITS`, vias, rules, pins of the design and blockages are.
+/// Whether an edit isn't one of what any net may be made of, as `UNITS`, vias, rules and pins of the design are.
 fn is_followed<A: Allocator + Copy>(text: &DesignText<A>, change: Change<'_, '_>) -> bool {
     match change {
-        Change::Design(edit) => net_of(edit).is_some() || component_of(edit).is_some(),
+        Change::Design(_) => true,
         Change::Text(position) => match text.statement_at(position) {
-            Some(Statement::Entry(entry)) => !matches!(
-                entry,
-                Entry::Pin(_) | Entry::Blockage(_) | Entry::Via(_) | Entry::Rule(_)
-            ),
+            Some(Statement::Entry(entry)) => {
+                !matches!(entry, Entry::Pin(_) | Entry::Via(_) | Entry::Rule(_))
+            }
             Some(Statement::Units(_)) => false,
             _ => true,
         },

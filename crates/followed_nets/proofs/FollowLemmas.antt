@@ -13,8 +13,9 @@ use Rattle.def_grammar.specs.Terminals.{is_of_all}
 use Rattle.lef_grammar.specs.Library.{Library}
 use Rattle.lef_grammar.specs.Measures.{Shape}
 use Rattle.design_rules.specs.Boxes.{scale}
-use Rattle.connection_rules.specs.NetLines.{Barrier, NetShape, barriers, class_lines, layer_name, net_lines, net_shapes, shapes_of_net, short_of}
+use Rattle.connection_rules.specs.NetLines.{Barrier, NetShape, barriers, class_lines, layer_name, net_shapes, shapes_of_net, short_of}
 use Rattle.connection_rules.specs.NetParts.{Net, Part, all_nets, net_named}
+use Rattle.following_laws.specs.DesignLaws.{lines_on_nets}
 use Rattle.kept_lines.specs.Kept.{Kept}
 use Rattle.line_laws.specs.Lines.{SameThings, times}
 use Rattle.line_laws.specs.PairLaws.{IsSymmetric}
@@ -29,6 +30,7 @@ use Rattle.net_laws.specs.PinLines.{ArePins, PinLinesFollow}
 use Rattle.net_laws.specs.StarNets.{OneComponentExchanged, OneEntryTells, PinsAreExchanged, pins_by_one, tells_of}
 use Rattle.net_queries.specs.ShortLaws.{ShortIsSymmetric}
 use Rattle.shape_index.specs.Near.{near_shapes}
+use Rattle.followed_nets.specs.Blocked.{AllTell}
 use Rattle.followed_nets.specs.Exchanging.{AreToldIn, name_of, nets_told}
 use Rattle.followed_nets.specs.FollowedNets.{HasNets, Nets}
 use Rattle.followed_nets.specs.Listed.{AreApart}
@@ -45,19 +47,15 @@ use Rattle.followed_nets.proofs.PartedNets.{Splits, as_pieces, both_pieces, in_p
 use Rattle.followed_nets.proofs.PinPieces.{left_piece, net_splits, pins_piece, pins_told, same_left, they_are_pins}
 use Rattle.followed_nets.proofs.ShortLines.{same_shorts}
 
--- each of some nets is told by some statements
-abbrev AllTell : List Record → List (List ℕ) → Type 0
-AllTell design names = AllByRecursion (λ (n : List ℕ). (some : List Record) × TellNet some design n) names
-
-tells : (library : Library) (design : List Record) (ts : List Told) → AreToldIn library design ts → AllTell design (map name_of ts)
-tells library design [] told = tt
-tells library design (t ∷ ts) told = ((told.0.some, told.0.tell), tells library design ts told.1)
+tells : (library : Library) (bars : List Barrier) (design : List Record) (ts : List Told) → AreToldIn library bars design ts → AllTell design (map name_of ts)
+tells library bars design [] told = tt
+tells library bars design (t ∷ ts) told = ((told.0.some, told.0.tell), tells library bars design ts told.1)
 
 all_of_both : {A : Type 0} (P : A → Type 0) (xs ys : List A) → AllByRecursion P xs → AllByRecursion P ys → AllByRecursion P (xs ++ ys)
 all_of_both P [] ys h g = g
 all_of_both P (x ∷ xs) ys h g = (h.0, all_of_both P xs ys h.1 g)
 
-apart_tell : (design : List Record) (names : List (List ℕ)) → AreApart names → AllTell design names → net_changes.AreToldIn design names
+pub apart_tell : (design : List Record) (names : List (List ℕ)) → AreApart names → AllTell design names → net_changes.AreToldIn design names
 apart_tell design [] apart tell = tt
 apart_tell design (n ∷ names) apart tell = (apart.0, tell.0, apart_tell design names apart.1 tell.1)
 
@@ -86,7 +84,8 @@ pub record AreExchanged (library : Library) (old new : List Record) (names stars
   pub comes : ArePieces (layer_name library.layers) bars put come
   pub had : AreOnPieces (layer_name library.layers) bars (out ++ rest) shapes lines
   pub then_shapes : (now : List NetShape) (then : List (List ℕ)) → AreOnPieces (layer_name library.layers) bars (put ++ rest) now then → SameThings now (shapes_by_name (all_nets library new (scale new)))
-  pub then_lines : (now : List NetShape) (then : List (List ℕ)) → AreOnPieces (layer_name library.layers) bars (put ++ rest) now then → then ≡ sorted_by_bytes (net_lines library new (scale new))
+  pub then_lines : (now : List NetShape) (then : List (List ℕ)) → AreOnPieces (layer_name library.layers) bars (put ++ rest) now then
+      → then ≡ sorted_by_bytes (lines_on_nets (layer_name library.layers) (all_nets library new (scale new)) (barriers library old (scale old)))
   pub few : near_told gone shapes ≤ near_pairs library old (names ++ stars)
   pub then_few : (now : List NetShape) → SameThings now (shapes_by_name (all_nets library new (scale new))) → near_told come now ≤ near_pairs library new (names ++ stars)
 
@@ -101,7 +100,7 @@ near_as library design names more same =
 module _ (library : Library) (records then_records : List (StmtId × Record)) (noted : Nets) (kept : Kept) (t : Touched) (after : List Told)
     (exchanged : ToldNetsAreExchanged) (entries : OneEntryTells) (sorted : SameLinesSortAlike) (symmetric : ShortIsSymmetric)
     (touched : AreTouched library (said records) t) (followed : AreFollowed library records noted kept) (leaves : LeavesOthers (said records) (said then_records) t) (fits : Fits noted.stars noted.heads t)
-    (then_told : AreToldIn library (said then_records) after) (then_named : map name_of after ≡ t.names) where
+    (then_told : AreToldIn library (barriers library (said records) (scale (said records))) (said then_records) after) (then_named : map name_of after ≡ t.names) where
   abbrev old : List Record
   old = said records
 
@@ -135,8 +134,8 @@ module _ (library : Library) (records then_records : List (StmtId × Record)) (n
       let both = stars_are_told t.component refl in
       let TellIn = λ (design : List Record). λ (n : List ℕ). (some : List Record) × TellNet some design n in
       exchanged library old new (t.names ++ stars) leaves.apart
-      (apart_tell old (t.names ++ stars) touched.apart (all_of_both (TellIn old) t.names stars (subst (AllTell old) touched.named (tells library old t.before touched.told)) both.0))
-      (apart_tell new (t.names ++ stars) touched.apart (all_of_both (TellIn new) t.names stars (subst (AllTell new) then_named (tells library new after then_told)) both.1))
+      (apart_tell old (t.names ++ stars) touched.apart (all_of_both (TellIn old) t.names stars (subst (AllTell old) touched.named (tells library (barriers library old (scale old)) old t.before touched.told)) both.0))
+      (apart_tell new (t.names ++ stars) touched.apart (all_of_both (TellIn new) t.names stars (subst (AllTell new) then_named (tells library (barriers library old (scale old)) new after then_told)) both.1))
 
   abbrev name_of_layer : ℕ → List ℕ
   name_of_layer = layer_name library.layers
@@ -146,9 +145,6 @@ module _ (library : Library) (records then_records : List (StmtId × Record)) (n
 
   abbrev old_bars : List Barrier
   old_bars = barriers library old (scale old)
-
-  abbrev new_bars : List Barrier
-  new_bars = barriers library new (scale new)
 
   had : AreOnPieces name_of_layer old_bars (map piece_of (all_nets library old (scale old))) noted.shapes kept.lines
   had = as_pieces name_of_layer old_bars (all_nets library old (scale old)) noted.shapes kept.lines followed.nets.shapes_are followed.lines
@@ -169,28 +165,27 @@ module _ (library : Library) (records then_records : List (StmtId × Record)) (n
     gone_told : ArePieces name_of_layer old_bars (map piece_of (nets_of library old t.names) ++ map gone_part (map name_of out)) (t.before ++ out)
     gone_told =
         both_pieces name_of_layer old_bars (map piece_of (nets_of library old t.names)) (map gone_part (map name_of out)) t.before out
-        (subst (λ (ns : List Net). ArePieces name_of_layer old_bars (map piece_of ns) t.before) (nets_are library old t.before ∙ ap (nets_of library old) touched.named) (told_pieces library old t.before touched.told))
+        (subst (λ (ns : List Net). ArePieces name_of_layer old_bars (map piece_of ns) t.before) (nets_are library old t.before ∙ ap (nets_of library old) touched.named) (told_pieces library old_bars old t.before touched.told))
         (out_are old_bars)
 
     come_told : ArePieces name_of_layer old_bars (map piece_of (nets_of library new t.names) ++ map come_part (map name_of put)) (after ++ put)
     come_told =
         both_pieces name_of_layer old_bars (map piece_of (nets_of library new t.names)) (map come_part (map name_of put)) after put
-        (subst (λ (bars : List Barrier). ArePieces name_of_layer bars (map piece_of (nets_of library new t.names)) after) (sym told.bars)
-        (subst (λ (ns : List Net). ArePieces name_of_layer new_bars (map piece_of ns) after) (nets_are library new after ∙ ap (nets_of library new) then_named) (told_pieces library new after then_told)))
+        (subst (λ (ns : List Net). ArePieces name_of_layer old_bars (map piece_of ns) after) (nets_are library new after ∙ ap (nets_of library new) then_named) (told_pieces library old_bars new after then_told))
         (put_are old_bars)
 
     come_whole : (shapes : List NetShape) (lines : List (List ℕ)) → AreOnPieces name_of_layer old_bars ((map piece_of (nets_of library new t.names) ++ map come_part (map name_of put)) ++ rest) shapes lines
-        → AreOnPieces name_of_layer new_bars (map piece_of (all_nets library new (scale new))) shapes lines
+        → AreOnPieces name_of_layer old_bars (map piece_of (all_nets library new (scale new))) shapes lines
     come_whole shapes lines are =
-        made_whole library new come_part left_part come_split t.names stars (map name_of put) put_names stay (all_nets library new (scale new)) told.exchange.new_is name_of_layer new_bars sorted symmetric_shorts shapes lines
-        (subst (λ (bars : List Barrier). AreOnPieces name_of_layer bars ((map piece_of (nets_of library new t.names) ++ map come_part (map name_of put)) ++ rest) shapes lines) told.bars are)
+        made_whole library new come_part left_part come_split t.names stars (map name_of put) put_names stay (all_nets library new (scale new)) told.exchange.new_is name_of_layer old_bars sorted symmetric_shorts shapes lines
+        are
 
-    near_both : (design : List Record) (ts more : List Told) (shapes : List NetShape) → AreToldIn library design ts → map name_of ts ≡ t.names → SameThings (map name_of more) stars
+    near_both : (design : List Record) (ts more : List Told) (shapes : List NetShape) → AreToldIn library old_bars design ts → map name_of ts ≡ t.names → SameThings (map name_of more) stars
         → SameThings shapes (shapes_by_name (all_nets library design (scale design))) → near_told more shapes ≤ near_pairs library design (map name_of more)
         → near_told (ts ++ more) shapes ≤ near_pairs library design (t.names ++ stars)
     near_both design ts more shapes are named names all few =
         let w = λ (u : Told). near_each u.shapes shapes in
-        let own = near_nets library design shapes all ts are ∙ ap (near_pairs library design) named in
+        let own = near_nets library design shapes all old_bars ts are ∙ ap (near_pairs library design) named in
         let same = near_as library design (map name_of more) stars names in
         omega (arith, own, same, few, sum_by-append w ts more, near_append library design t.names stars)
 
@@ -203,8 +198,8 @@ module _ (library : Library) (records then_records : List (StmtId × Record)) (n
       goes = gone_told;
       comes = come_told;
       had = gone_in;
-      then_shapes = λ shapes lines are. shapes_as_nets name_of_layer new_bars (all_nets library new (scale new)) shapes lines (come_whole shapes lines are);
-      then_lines = λ shapes lines are. lines_as_nets name_of_layer new_bars (all_nets library new (scale new)) shapes lines (come_whole shapes lines are);
+      then_shapes = λ shapes lines are. shapes_as_nets name_of_layer old_bars (all_nets library new (scale new)) shapes lines (come_whole shapes lines are);
+      then_lines = λ shapes lines are. lines_as_nets name_of_layer old_bars (all_nets library new (scale new)) shapes lines (come_whole shapes lines are);
       few = near_both old t.before out noted.shapes touched.told touched.named out_names followed.nets.shapes_are out_near;
       then_few = λ shapes all. near_both new after put shapes then_told then_named put_names all (put_near shapes all);
     }

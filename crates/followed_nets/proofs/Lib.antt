@@ -1,3 +1,7 @@
+mod BarredFollow
+mod BarredNets
+mod BlockedLemmas
+mod ChangedBars
 mod ChangedShapes
 mod FollowLemmas
 mod HeadLemmas
@@ -7,7 +11,9 @@ mod LackingLemmas
 mod LastOnes
 mod ListedNets
 mod NearLemmas
+mod NearNames
 mod NearPairs
+mod NetWalls
 mod NoteLemmas
 mod OneEntry
 mod OthersLeft

@@ -6,7 +6,7 @@ use Rattle.std.proofs.lemmas.List.Sums.{sum_by-append, sum_by-cons}
 use Rattle.def_grammar.specs.Records.{Record}
 use Rattle.lef_grammar.specs.Library.{Library}
 use Rattle.lef_grammar.specs.Measures.{Shape}
-use Rattle.connection_rules.specs.NetLines.{NetShape, net_shapes, shapes_of_net, shapes_of_part}
+use Rattle.connection_rules.specs.NetLines.{Barrier, NetShape, net_shapes, shapes_of_net, shapes_of_part}
 use Rattle.connection_rules.specs.NetParts.{Net, Part, all_nets, net_named}
 use Rattle.design_rules.specs.Boxes.{scale}
 use Rattle.kept_nets.specs.Parts.{shapes_in}
@@ -17,7 +17,7 @@ use Rattle.net_laws.specs.StarNets.{pins_by_one}
 use Rattle.shape_index.specs.Near.{near_shapes}
 use Rattle.followed_nets.specs.Exchanging.{AreToldIn, name_of}
 use Rattle.followed_nets.specs.StarExchanges.{AreItsPins}
-use Rattle.followed_nets.specs.Tests.{near_each, near_pairs, near_told, plain}
+use Rattle.followed_nets.specs.Tests.{bar_shape, near_barred, near_bars, near_each, near_pairs, near_told, plain}
 use Rattle.followed_nets.specs.Told.{Told}
 use Rattle.followed_nets.proofs.NearLemmas.{near_one, sum_near}
 use Rattle.followed_nets.proofs.PieceLemmas.{sum_named}
@@ -65,9 +65,23 @@ module _ (library : Library) (design : List Record) (shapes : List NetShape) (al
   near_own : (own : List Shape) → near_each own shapes ≡ sum_by near own
   near_own own = sum_by-same (λ (s : Shape). near_shapes s (plain shapes)) near near_all own
 
-  pub near_nets : (ts : List Told) → AreToldIn library design ts → near_told ts shapes ≡ near_pairs library design (map name_of ts)
-  near_nets [] told = refl
-  near_nets (t ∷ ts) told =
+  -- how many shapes of the design are near rectangles
+  pub near_walls : (bars : List Barrier) → near_barred bars shapes ≡ near_bars library design bars
+  near_walls [] = refl
+  near_walls (b ∷ bars) =
+      let here = near_all (bar_shape b) in
+      let later = near_walls bars in
+      omega (
+        arith,
+        here,
+        later,
+        sum_by-cons (λ (s : Shape). near_shapes s (plain shapes)) (bar_shape b) (map bar_shape bars),
+        sum_by-cons (λ (c : Barrier). near (bar_shape c)) b bars,
+      )
+
+  pub near_nets : (bars : List Barrier) (ts : List Told) → AreToldIn library bars design ts → near_told ts shapes ≡ near_pairs library design (map name_of ts)
+  near_nets bars [] told = refl
+  near_nets bars (t ∷ ts) told =
       let is = told.0.told in
       let net = whole t.name in
       let own : t.shapes ≡ plain (shapes_of_net net) =
@@ -76,7 +90,7 @@ module _ (library : Library) (design : List Record) (shapes : List NetShape) (al
       ∙ plain_by_name (shapes_of_net net ++ [])
       ∙ ap plain (append-nil (shapes_of_net net)) in
       let here = near_own t.shapes ∙ ap (sum_by near) own in
-      let later = near_nets ts told.1 in
+      let later = near_nets bars ts told.1 in
       omega (
         arith,
         here,

@@ -6,7 +6,7 @@ use Rattle.std.proofs.lemmas.List.Sums.{sum_by-append, sum_by-cons}
 use Rattle.def_grammar.specs.Records.{Record}
 use Rattle.design_model.specs.Order.{sorted_by_bytes}
 use Rattle.lef_grammar.specs.Library.{Library}
-use Rattle.connection_rules.specs.NetLines.{Barrier, NetShape, barriers, class_lines, layer_name, shapes_of_net, short_of}
+use Rattle.connection_rules.specs.NetLines.{Barrier, NetShape, class_lines, layer_name, shapes_of_net, short_of}
 use Rattle.connection_rules.specs.NetParts.{Net, net_named}
 use Rattle.design_rules.specs.Boxes.{scale}
 use Rattle.following_laws.specs.DesignLaws.{lines_on_nets}
@@ -54,17 +54,17 @@ module _ (name_of : ℕ → List ℕ) (bars : List Barrier) where
   both_pieces (p ∷ ps) qs (t ∷ ts) us told then = (told.0, both_pieces ps qs ts us told.1 then)
 
 -- nets that are told are whole pieces
-pub told_pieces : (library : Library) (design : List Record) (ts : List Told) → AreToldIn library design ts
-    → ArePieces (layer_name library.layers) (barriers library design (scale design)) (map piece_of (nets_told library design ts)) ts
-told_pieces library design [] told = tt
-told_pieces library design (t ∷ ts) told =
+pub told_pieces : (library : Library) (bars : List Barrier) (design : List Record) (ts : List Told) → AreToldIn library bars design ts
+    → ArePieces (layer_name library.layers) bars (map piece_of (nets_told library design ts)) ts
+told_pieces library bars design [] told = tt
+told_pieces library bars design (t ∷ ts) told =
     let net = net_named library design (scale design) t.name in
     let is = told.0.told in (
       record {
-        lines_are = subst (λ (ls : List (List ℕ)). SameLines t.lines ls) (sym (whole_lines (layer_name library.layers) (barriers library design (scale design)) (net ∷ []))) is.lines_are;
+        lines_are = subst (λ (ls : List (List ℕ)). SameLines t.lines ls) (sym (whole_lines (layer_name library.layers) bars (net ∷ []))) is.lines_are;
         shapes_are = ap (λ (n : List ℕ). map (named n) t.shapes) is.name_is ∙ is.shapes_are ∙ ap (map by_name) (sym (whole_shapes (net ∷ [])) ∙ append-nil (shapes_of_net net));
       },
-      told_pieces library design ts told.1,
+      told_pieces library bars design ts told.1,
     )
 
 -- a piece is in two parts

@@ -8,6 +8,7 @@ use Rattle.std.proofs.lemmas.Slice.Eq.{bytes_eq-Decides}
 use Rattle.def_grammar.specs.Records.{Record}
 use Rattle.def_grammar.specs.Terminals.{Terminal, is_of_all, is_of_design, is_virtual}
 use Rattle.lef_grammar.specs.Library.{Library}
+use Rattle.connection_rules.specs.NetLines.{Barrier}
 use Rattle.connection_rules.specs.NetParts.{Net}
 use Rattle.design_rules.specs.Boxes.{scale}
 use Rattle.net_laws.specs.NetChanges.{is_one_of}
@@ -30,16 +31,16 @@ all_and_one : {A : Type 0} (P : A → Type 0) (xs : List A) (x : A) → AllByRec
 all_and_one P [] x h p = (p, tt)
 all_and_one P (y ∷ xs) x h p = (h.0, all_and_one P xs x h.1 p)
 
-module _ (library : Library) (design : List Record) where
+module _ (library : Library) (bars : List Barrier) (design : List Record) where
   -- what is told has the net's name
-  pub named_so : (n : List ℕ) (t : Told) → IsToldIn library design n t → t.name ≡ n
+  pub named_so : (n : List ℕ) (t : Told) → IsToldIn library bars design n t → t.name ≡ n
   named_so n t is = is.told.name_is
 
-  pub one_more_told : (ts : List Told) (n : List ℕ) (t : Told) → AreToldIn library design ts → IsToldIn library design n t → AreToldIn library design (ts ++ t ∷ [])
+  pub one_more_told : (ts : List Told) (n : List ℕ) (t : Told) → AreToldIn library bars design ts → IsToldIn library bars design n t → AreToldIn library bars design (ts ++ t ∷ [])
   one_more_told ts n t told is =
-      all_and_one (λ (x : Told). IsToldIn library design x.name x) ts t told (subst (λ (name : List ℕ). IsToldIn library design name t) (sym (named_so n t is)) is)
+      all_and_one (λ (x : Told). IsToldIn library bars design x.name x) ts t told (subst (λ (name : List ℕ). IsToldIn library bars design name t) (sym (named_so n t is)) is)
 
-  pub one_more_named : (ts : List Told) (names : List (List ℕ)) (i : ℕ) (n : List ℕ) (t : Told) → i < length names → n ≡ get_or names i n → IsToldIn library design n t
+  pub one_more_named : (ts : List Told) (names : List (List ℕ)) (i : ℕ) (n : List ℕ) (t : Told) → i < length names → n ≡ get_or names i n → IsToldIn library bars design n t
       → map name_of ts ++ drop i names ≡ names → map name_of (ts ++ t ∷ []) ++ drop (i + 1) names ≡ names
   one_more_named ts names i n t below at is named =
       ap (λ (l : List (List ℕ)). l ++ drop (i + 1) names) (map-append name_of ts (t ∷ []))

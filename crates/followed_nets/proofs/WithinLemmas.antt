@@ -29,7 +29,7 @@ finds_itself : (design : List Record) (ts : List Terminal) → AllByRecursion (F
 finds_itself design [] = tt
 finds_itself design (t ∷ ts) = (record { named = refl; all = λ h. refl }, finds_itself design ts)
 
-agrees : (design : List Record) (test : List ℕ → Bool) → AgreeApart design design test
+pub agrees : (design : List Record) (test : List ℕ → Bool) → AgreeApart design design test
 agrees design test = record { common = refl; names = refl; agree = λ net h. record { common = refl; entries = refl; components = finds_itself design (terminals_in design net) } }
 
 -- numbered statements by what they say

@@ -1,3 +1,4 @@
+pub mod Blocked
 pub mod Exchanging
 pub mod FollowedNets
 pub mod Heads

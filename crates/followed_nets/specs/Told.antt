@@ -3,7 +3,7 @@ use Rattle.std.specs.Prelude.{◌≡◌, ℕ, List, [], ◌∷◌, map}
 use Rattle.def_grammar.specs.Records.{Record}
 use Rattle.lef_grammar.specs.Library.{Library}
 use Rattle.lef_grammar.specs.Measures.{Shape}
-use Rattle.connection_rules.specs.NetLines.{Barrier, barriers, layer_name}
+use Rattle.connection_rules.specs.NetLines.{Barrier, layer_name}
 use Rattle.connection_rules.specs.NetParts.{Net, net_named}
 use Rattle.design_rules.specs.Boxes.{scale}
 use Rattle.following_laws.specs.DesignLaws.{lines_on_nets}
@@ -23,8 +23,8 @@ pub record IsTold (library : Library) (bars : List Barrier) (net : Net) (t : Tol
   pub lines_are : SameLines t.lines (lines_on_nets (layer_name library.layers) (net ∷ []) bars)
   pub shapes_are : map (named net.name) t.shapes ≡ shapes_by_name (net ∷ [])
 
--- those of a net of a design, which some of its statements tell
-pub record IsToldIn (library : Library) (design : List Record) (net : List ℕ) (t : Told) : Type 0 where
+-- those of a net of a design, which some of its statements tell, where these rectangles block routing
+pub record IsToldIn (library : Library) (bars : List Barrier) (design : List Record) (net : List ℕ) (t : Told) : Type 0 where
   pub some : List Record
   pub tell : TellNet some design net
-  pub told : IsTold library (barriers library design (scale design)) (net_named library design (scale design) net) t
+  pub told : IsTold library bars (net_named library design (scale design) net) t

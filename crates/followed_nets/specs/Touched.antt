@@ -5,14 +5,15 @@ use Rattle.design_model.specs.declared.identifier.StmtId.{StmtId}
 use Rattle.design_model.specs.Order.{sorted_by_bytes}
 use Rattle.def_grammar.specs.Records.{Record}
 use Rattle.lef_grammar.specs.Library.{Library}
-use Rattle.connection_rules.specs.NetLines.{net_lines}
-use Rattle.connection_rules.specs.NetParts.{Part}
+use Rattle.connection_rules.specs.NetLines.{Barrier, barriers, layer_name}
+use Rattle.connection_rules.specs.NetParts.{Part, all_nets}
 use Rattle.design_rules.specs.Boxes.{scale}
+use Rattle.following_laws.specs.DesignLaws.{lines_on_nets}
 use Rattle.kept_lines.specs.Kept.{Kept}
 use Rattle.net_laws.specs.StarNets.{pins_by_one}
 use Rattle.net_laws.specs.Within.{NoOtherLists}
 use Rattle.followed_nets.specs.Exchanging.{AreToldIn, name_of}
-use Rattle.followed_nets.specs.FollowedNets.{HasNets, Nets}
+use Rattle.followed_nets.specs.FollowedNets.{HasNetsBarred, Nets}
 use Rattle.followed_nets.specs.Listed.{AreApart}
 use Rattle.followed_nets.specs.Noted.{said}
 use Rattle.followed_nets.specs.Told.{Told}
@@ -44,11 +45,15 @@ ArePinsOf library design (Some component) stars = ArePinsBy library design compo
 pub record AreTouched (library : Library) (design : List Record) (t : Touched) : Type 0 where
   pub apart : AreApart (t.names ++ star_names t.stars)
   pub lists : NoOtherLists design (t.names ++ star_names t.stars) t.component
-  pub told : AreToldIn library design t.before
+  pub told : AreToldIn library (barriers library design (scale design)) design t.before
   pub named : map name_of t.before ≡ t.names
   pub pins : ArePinsOf library design t.component t.stars
 
--- nets are those of numbered statements, and kept lines are those on them
-pub record AreFollowed (library : Library) (records : List (StmtId × Record)) (n : Nets) (kept : Kept) : Type 0 where
-  pub nets : HasNets library records n
-  pub lines : kept.lines ≡ sorted_by_bytes (net_lines library (said records) (scale (said records)))
+-- nets are those of numbered statements, and kept lines are those on them, where these rectangles block routing
+pub record AreBarred (library : Library) (records : List (StmtId × Record)) (bars : List Barrier) (n : Nets) (kept : Kept) : Type 0 where
+  pub nets : HasNetsBarred library records bars n
+  pub lines : kept.lines ≡ sorted_by_bytes (lines_on_nets (layer_name library.layers) (all_nets library (said records) (scale (said records))) bars)
+
+-- where those of the statements do: the lines are `net_lines` then
+abbrev pub AreFollowed : Library → List (StmtId × Record) → Nets → Kept → Type 0
+AreFollowed library records n kept = AreBarred library records (barriers library (said records) (scale (said records))) n kept

@@ -21,7 +21,7 @@ use report_lines::{Checked, Lines};
 use std::alloc::{AllocError, Allocator, Global};
 
 /// How many lines the exchange of a net may move: beyond that, making them anew is sooner done.
-const MOST_MOVED: usize = 268435456;
+pub(crate) const MOST_MOVED: usize = 268435456;
 
 /// The lines on nets after an edit, and how many pairs of shapes were compared for them.
 #[derive(Drop)]

@@ -1,29 +1,36 @@
 //! The nets of a text that are noted, and the lines on them that follow.
 
-ghost use Rattle.std.specs.Prelude.{◌≡◌, ◌++◌, ◌∷◌, ◌+◌, ◌≤◌, ℕ, [], false, true, IfNone, IfOk, IfSome, IsTrue, List, None, Some, map};
+ghost use Rattle.std.specs.Prelude.{◌≡◌, ◌++◌, ◌∷◌, ◌+◌, ◌≤◌, ℕ, [], false, true, IfNone, IfOk, IfSome, IsTrue, List, None, Some, flat_map, map};
 ghost use Rattle.std.specs.List.{AllByRecursion};
 ghost use Rattle.std.specs.Option.{option_map};
 ghost use Rattle.design_model.specs.declared.identifier.StmtId.{StmtId as Number};
 ghost use Rattle.def_grammar.specs.Records.{Record};
-ghost use Rattle.connection_rules.specs.NetLines.{Barrier, layer_name};
+ghost use Rattle.connection_rules.specs.NetLines.{Barrier as TheBarrier, barriers, layer_name};
 ghost use Rattle.connection_rules.specs.NetParts.{Net};
+ghost use Rattle.design_rules.specs.Boxes.{scale};
+ghost use Rattle.line_laws.specs.Lines.{SameLines, SameThings};
+ghost use Rattle.net_laws.specs.Blocked.{BarsChange};
 ghost use Rattle.net_laws.specs.NetChanges.{is_one_of};
 ghost use Rattle.net_laws.specs.Within.{NoOtherLists};
 ghost use Rattle.design_text.specs.DesignTexts.{design_of};
 ghost use Rattle.design_text.specs.Exchanges.{AreExchanges, records_in};
+ghost use Rattle.net_touches.specs.Barriers.{barrier_view};
+ghost use Rattle.followed_nets.specs.Blocked.{AllTell, bars_come, bars_gone, barred_lines};
 ghost use Rattle.followed_nets.specs.FollowedNets.{HasNets};
 ghost use Rattle.followed_nets.specs.Heads.{IsHead};
 ghost use Rattle.followed_nets.specs.Listed.{AllList, AreApart};
 ghost use Rattle.followed_nets.specs.Noted.{AreCommon, said};
 ghost use Rattle.followed_nets.specs.Pieces.{AreOnPieces, ArePieces, Piece};
 ghost use Rattle.followed_nets.specs.StarExchanges.{AwaitsOwn, HaveComponent};
-ghost use Rattle.followed_nets.specs.Stars.{names_of};
-ghost use Rattle.followed_nets.specs.Tests.{near_pairs, near_told};
+ghost use Rattle.followed_nets.specs.Stars.{IsStar, names_of};
+ghost use Rattle.followed_nets.specs.Tests.{FewTests, near_barred, near_pairs, near_told};
 ghost use Rattle.followed_nets.specs.ToldViews.{star_view, stars_of, told_view};
-ghost use Rattle.followed_nets.specs.Touched.{AreFollowed, ArePinsOf, AreTouched, star_names};
+ghost use Rattle.followed_nets.specs.Touched.{AreBarred, AreFollowed, ArePinsOf, AreTouched, star_names};
 ghost use Rattle.followed_nets.specs.Within.{Fits, LeavesOthers};
 
+use crate::blocked::{BarredLines, ChangedBars, changed_bars, lines_near, nets_near};
 use crate::exchanging::{FollowedOnNets, exchange_nets};
+use crate::exchanging_bars::{exchange_bars, exchange_lines};
 use crate::heads::{Head, are_of_others, heads_if};
 use crate::listed::{add_name, nets_listing};
 use crate::noted::{common_numbers, drawn_nets, star_names};
@@ -42,19 +49,22 @@ use name_keys::OwnName;
 use named_shapes::NamedShapes;
 use net_checks::layer_names::layer_names;
 use net_laws::{
-    nets_are_told, one_component_exchanged, one_entry_tells, pin_lines_follow,
-    told_nets_are_exchanged,
+    barred_lines_follow, bars_are_exchanged, nets_are_told, one_component_exchanged,
+    one_entry_tells, pin_lines_follow, told_nets_are_exchanged,
 };
 use net_queries::short_is_symmetric;
-use net_touches::layers_have_their_names;
+use net_touches::{Barrier, layers_have_their_names};
 use std::alloc::{AllocError, Allocator, Global};
 use std::marker::Model;
 
-/// The shapes of the nets of a text under the nets' names, and which statements are of what any net may be made of.
+/// The shapes of the nets of a text under the nets' names, which statements are of what any net may be made of, and where routing is
+/// blocked.
 #[derive(Drop)]
 pub struct FollowedNets<A: Allocator = Global> {
     shapes: NamedShapes<A>,
     common: Vec<StmtId, A>,
+    /// Where routing is blocked.
+    bars: Vec<Barrier, A>,
     /// The nets that list a pin of all components, unless they aren't kept.
     stars: Option<Vec<KeptNet<A>, A>>,
     /// Heads of these, which are read at each edit of a component. A net without one isn't followed then.
@@ -64,12 +74,13 @@ pub struct FollowedNets<A: Allocator = Global> {
 impl<A: Allocator> Model for FollowedNets<A> {
     ghost use Rattle.std.specs.Prelude.{map};
     ghost use Rattle.std.specs.Option.{option_map};
+    ghost use Rattle.net_touches.specs.Barriers.{barrier_view};
     ghost use Rattle.followed_nets.specs.FollowedNets.{Nets};
     ghost use Rattle.followed_nets.specs.ToldViews.{head_view};
 
     ghost Value = { Nets };
 
-    ghost view = { λ n. record { shapes = n.shapes; common = n.common.items; stars = option_map (λ v. v.items) n.stars; heads = map head_view n.heads.items } };
+    ghost view = { λ n. record { shapes = n.shapes; common = n.common.items; bars = map barrier_view n.bars.items; stars = option_map (λ v. v.items) n.stars; heads = map head_view n.heads.items } };
 }
 
 impl<A: Allocator + Copy> TouchedNets<A> {
@@ -151,6 +162,7 @@ impl<A: Allocator + Copy> FollowedNets<A> {
         Ok(FollowedNets {
             shapes: drawn.shapes,
             common,
+            bars: drawn.bars,
             stars: drawn.stars,
             heads,
         })
@@ -166,6 +178,7 @@ impl<A: Allocator + Copy> FollowedNets<A> {
         component: Option<TouchedComponent<A>>,
     ) -> Result<Option<TouchedNets<A>>, AllocError>
         requires common { AreCommon (records_in text.now) self.now.common }
+        requires bars { SameThings self.now.bars (barriers library.now (design_of text.now) (scale (design_of text.now))) }
         requires apart { AreApart (names.items ++ star_names (stars_of component)) }
         requires lists { NoOtherLists (design_of text.now) (names.items ++ star_names (stars_of component)) (option_map (λ c. c.name) component) }
         requires pins { ArePinsOf library.now (design_of text.now) (option_map (λ c. c.name) component) (stars_of component) }
@@ -173,7 +186,9 @@ impl<A: Allocator + Copy> FollowedNets<A> {
         ensures names { IfOk result (λ found. IfSome found (λ t. t.names ≡ names.items)) }
         ensures component { IfOk result (λ found. IfSome found (λ t. (t.component ≡ option_map (λ c. c.name) component) × (t.stars ≡ stars_of component))) }
     {
-        let Some(before) = told_nets(alloc, library, text, &self.common, &names)? else {
+        let common = &self.common;
+        let bars = &self.bars;
+        let Some(before) = told_nets(alloc, library, text, common, bars, &names)? else {
             return Ok(None);
         };
         Ok(Some(TouchedNets {
@@ -195,6 +210,7 @@ impl<A: Allocator + Copy> FollowedNets<A> {
         ensures touched { IfOk result (λ found. IfSome found (AreTouched library.now (design_of text.now))) }
         ensures names { IfOk result (λ found. IfSome found (λ t. (t.names ≡ net.now ∷ []) × (t.stars ≡ []) × (t.component ≡ None))) }
     {
+        text.statements_are_kept();
         let mut names = Vec::new(alloc);
         names.push(OwnName::copy_of(alloc, net)?)?;
         self.touched(alloc, library, text, names, None)
@@ -269,6 +285,7 @@ impl<A: Allocator + Copy> FollowedNets<A> {
         requires heads { AllByRecursion (IsHead (said (records_in text.now))) self.old.heads }
         ensures shapes { self.new.shapes ≡ self.old.shapes }
         ensures common { self.new.common ≡ self.old.common }
+        ensures bars { self.new.bars ≡ self.old.bars }
         ensures heads { self.new.heads ≡ self.old.heads }
         ensures own { (old : List Record) (stars : List Net) → self.old.stars ≡ Some stars → AwaitsOwn library.now old (said (records_in text.now)) own.name stars (map star_view own.stars.items)
             → IfOk result (λ found. IfSome found (λ e. HaveComponent library.now old (said (records_in text.now)) own.name (names_of stars) (map told_view told.gone.items) (map told_view told.come.items) self.new.stars (map told_view e.gone.items) (map told_view e.come.items))) }
@@ -305,6 +322,7 @@ impl<A: Allocator + Copy> FollowedNets<A> {
         requires heads { AllByRecursion (IsHead (said (records_in text.now))) self.old.heads }
         ensures shapes { self.new.shapes ≡ self.old.shapes }
         ensures common { self.new.common ≡ self.old.common }
+        ensures bars { self.new.bars ≡ self.old.bars }
         ensures heads { self.new.heads ≡ self.old.heads }
         ensures none { IfNone component (self.new.stars ≡ self.old.stars × IfOk result (λ found. IfSome found (λ e. e ≡ told))) }
         ensures own { IfSome component (λ own. (old : List Record) (stars : List Net) → self.old.stars ≡ Some stars → AwaitsOwn library.now old (said (records_in text.now)) own.name stars (map star_view own.stars.items)
@@ -325,11 +343,12 @@ impl<A: Allocator + Copy> FollowedNets<A> {
         told: ToldExchange<A>,
         kept: KeptLines<A>,
     ) -> Result<Option<FollowedOnNets<A>>, AllocError>
-        requires { (bars : List Barrier) × (out : List Piece) × (put : List Piece) × (rest : List Piece) × ArePieces (layer_name library.now.layers) bars out (map told_view told.gone.items) × ArePieces (layer_name library.now.layers) bars put (map told_view told.come.items) × AreOnPieces (layer_name library.now.layers) bars (out ++ rest) self.old.shapes kept.lines }
+        requires { (bars : List TheBarrier) × (out : List Piece) × (put : List Piece) × (rest : List Piece) × ArePieces (layer_name library.now.layers) bars out (map told_view told.gone.items) × ArePieces (layer_name library.now.layers) bars put (map told_view told.come.items) × AreOnPieces (layer_name library.now.layers) bars (out ++ rest) self.old.shapes kept.lines }
         ensures common { self.new.common ≡ self.old.common }
+        ensures bars { self.new.bars ≡ self.old.bars }
         ensures heads { self.new.heads ≡ self.old.heads }
         ensures stars { self.new.stars ≡ self.old.stars }
-        ensures lines { (bars : List Barrier) (out put rest : List Piece) → ArePieces (layer_name library.now.layers) bars out (map told_view told.gone.items) → ArePieces (layer_name library.now.layers) bars put (map told_view told.come.items) → AreOnPieces (layer_name library.now.layers) bars (out ++ rest) self.old.shapes kept.lines
+        ensures lines { (bars : List TheBarrier) (out put rest : List Piece) → ArePieces (layer_name library.now.layers) bars out (map told_view told.gone.items) → ArePieces (layer_name library.now.layers) bars put (map told_view told.come.items) → AreOnPieces (layer_name library.now.layers) bars (out ++ rest) self.old.shapes kept.lines
             → IfOk result (λ found. IfSome found (λ f. AreOnPieces (layer_name library.now.layers) bars (put ++ rest) self.new.shapes f.lines.lines)) }
         ensures tests { IfOk result (λ found. IfSome found (λ f. f.tests ≤ near_told (map told_view told.gone.items) self.old.shapes + near_told (map told_view told.come.items) self.new.shapes)) }
     {
@@ -339,10 +358,8 @@ impl<A: Allocator + Copy> FollowedNets<A> {
         Ok(found)
     }
 
-    /// The lines on the nets of a text after an edit, from those before it, where it changed no other nets than those that it touched, and how
-    /// many pairs of shapes were compared; `None` where the lines are to be made anew. What is noted then follows, too, and else isn't to be
-    /// used any more.
-    pub fn follow(
+    /// The lines on the nets of a text after an edit, with the rectangles where routing was blocked before it, from the lines then.
+    fn follow_nets(
         &mut self,
         alloc: A,
         library: &Library<'_, A>,
@@ -353,7 +370,7 @@ impl<A: Allocator + Copy> FollowedNets<A> {
     ) -> Result<Option<FollowedOnNets<A>>, AllocError>
         requires { (old : List (Number × Record)) × AreExchanges text.now.pieces.table.slots old made.now.exchanges (records_in text.now) × AreTouched library.now (said old) touched × AreFollowed library.now old self.old kept }
         ensures lines { (old : List (Number × Record)) → AreExchanges text.now.pieces.table.slots old made.now.exchanges (records_in text.now) → AreTouched library.now (said old) touched → AreFollowed library.now old self.old kept
-            → IfOk result (λ found. IfSome found (λ f. AreFollowed library.now (records_in text.now) self.new f.lines)) }
+            → IfOk result (λ found. IfSome found (λ f. AreBarred library.now (records_in text.now) (barriers library.now (said old) (scale (said old))) self.new f.lines)) }
         ensures tests { (old : List (Number × Record)) → AreExchanges text.now.pieces.table.slots old made.now.exchanges (records_in text.now) → AreTouched library.now (said old) touched → AreFollowed library.now old self.old kept
             → let names = touched.names ++ star_names touched.stars in
             IfOk result (λ found. IfSome found (λ f. f.tests ≤ near_pairs library.now (said old) names + near_pairs library.now (said (records_in text.now)) names)) }
@@ -377,7 +394,9 @@ impl<A: Allocator + Copy> FollowedNets<A> {
             before,
             component,
         } = touched;
-        let Some(after) = told_nets(alloc, library, text, &self.common, &names)? else {
+        let common = &self.common;
+        let bars = &self.bars;
+        let Some(after) = told_nets(alloc, library, text, common, bars, &names)? else {
             return Ok(None);
         };
         let told = ToldExchange {
@@ -391,5 +410,127 @@ impl<A: Allocator + Copy> FollowedNets<A> {
             return Ok(None);
         };
         Ok(Some(followed))
+    }
+
+    /// The lines of nets with rectangles that went or came, told net by net.
+    fn barred_lines(
+        &self,
+        alloc: A,
+        library: &Library<'_, A>,
+        text: &DesignText<A>,
+        names: &[OwnName<A>],
+        changed: &ChangedBars<A>,
+    ) -> Result<Option<BarredLines<A>>, AllocError>
+        requires common { AreCommon (records_in text.now) self.now.common }
+        requires stars { IfSome self.now.stars (AllByRecursion (IsStar library.now (said (records_in text.now)))) }
+        ensures tells { IfOk result (λ found. IfSome found (λ _. AllTell (said (records_in text.now)) names.now)) }
+        ensures out { IfOk result (λ found. IfSome found (λ l. SameLines l.out (flat_map (barred_lines (layer_name library.now.layers) library.now (said (records_in text.now)) (map barrier_view changed.now.gone.items)) names.now))) }
+        ensures put { IfOk result (λ found. IfSome found (λ l. SameLines l.put (flat_map (barred_lines (layer_name library.now.layers) library.now (said (records_in text.now)) (map barrier_view changed.now.come.items)) names.now))) }
+    {
+        layers_have_their_names();
+        text.statements_are_kept();
+        let layers = layer_names(alloc, library)?;
+        let common = &self.common;
+        match &self.stars {
+            Some(stars) => {
+                lines_near(alloc, library, text, common, stars, &layers, names, changed)
+            }
+            None => {
+                let none = Vec::new(alloc);
+                lines_near(alloc, library, text, common, &none, &layers, names, changed)
+            }
+        }
+    }
+
+    /// The lines on the nets of a text once these rectangles went and came.
+    fn exchange_blocked(
+        &mut self,
+        alloc: A,
+        library: &Library<'_, A>,
+        text: &DesignText<A>,
+        changed: ChangedBars<A>,
+        followed: FollowedOnNets<A>,
+    ) -> Result<Option<FollowedOnNets<A>>, AllocError>
+        requires { (old : List TheBarrier) × (new : List TheBarrier) × BarsChange old new (map barrier_view changed.gone.items) (map barrier_view changed.come.items) × AreBarred library.now (records_in text.now) old self.old followed.lines }
+        ensures lines { (old new : List TheBarrier) → BarsChange old new (map barrier_view changed.gone.items) (map barrier_view changed.come.items) → AreBarred library.now (records_in text.now) old self.old followed.lines
+            → IfOk result (λ found. IfSome found (λ f. AreBarred library.now (records_in text.now) new self.new f.lines)) }
+        ensures tests { IfOk result (λ found. IfSome found (λ f. f.tests ≤ followed.tests + near_barred (map barrier_view changed.gone.items ++ map barrier_view changed.come.items) self.old.shapes)) }
+    {
+        told_nets_are_exchanged();
+        barred_lines_follow();
+        same_lines_sort_alike();
+        let Some(near) = nets_near(alloc, &self.shapes, &changed)? else {
+            return Ok(None);
+        };
+        let Some(lines) = self.barred_lines(alloc, library, text, &near.names, &changed)? else {
+            return Ok(None);
+        };
+        let FollowedOnNets { lines: kept, tests } = followed;
+        let Some(lines) = exchange_lines(alloc, kept, lines)? else {
+            return Ok(None);
+        };
+        if !exchange_bars(&mut self.bars, changed)? {
+            return Ok(None);
+        }
+        let tests = tests.saturating_add(near.tests);
+        Ok(Some(FollowedOnNets { lines, tests }))
+    }
+
+    /// The lines on the nets of a text once the rectangles of the statements that an edit exchanged went and came.
+    fn follow_blocked(
+        &mut self,
+        alloc: A,
+        library: &Library<'_, A>,
+        text: &DesignText<A>,
+        made: &Made<A>,
+        followed: FollowedOnNets<A>,
+    ) -> Result<Option<FollowedOnNets<A>>, AllocError>
+        requires { (old : List (Number × Record)) × AreExchanges text.now.pieces.table.slots old made.now.exchanges (records_in text.now) × AreBarred library.now (records_in text.now) (barriers library.now (said old) (scale (said old))) self.old followed.lines }
+        ensures lines { (old : List (Number × Record)) → AreExchanges text.now.pieces.table.slots old made.now.exchanges (records_in text.now) → AreBarred library.now (records_in text.now) (barriers library.now (said old) (scale (said old))) self.old followed.lines
+            → IfOk result (λ found. IfSome found (λ f. AreFollowed library.now (records_in text.now) self.new f.lines)) }
+        ensures tests { let slots = text.now.pieces.table.slots in
+            IfOk result (λ found. IfSome found (λ f. f.tests ≤ followed.tests + near_barred (bars_gone library.now slots made.now.exchanges ++ bars_come library.now slots made.now.exchanges) self.old.shapes)) }
+    {
+        bars_are_exchanged();
+        same_lines_sort_alike();
+        let Some(changed) = changed_bars(alloc, library, text, made)? else {
+            return Ok(None);
+        };
+        if changed.are_none() {
+            return Ok(Some(followed));
+        }
+        let Some(found) = self.exchange_blocked(alloc, library, text, changed, followed)? else {
+            return Ok(None);
+        };
+        Ok(Some(found))
+    }
+
+    /// The lines on the nets of a text after an edit, from those before it, where it changed no other nets than those that it touched, and how
+    /// many pairs of shapes were compared; `None` where the lines are to be made anew. What is noted then follows, too, and else isn't to be
+    /// used any more.
+    pub fn follow(
+        &mut self,
+        alloc: A,
+        library: &Library<'_, A>,
+        text: &DesignText<A>,
+        made: &Made<A>,
+        touched: TouchedNets<A>,
+        kept: KeptLines<A>,
+    ) -> Result<Option<FollowedOnNets<A>>, AllocError>
+        requires { (old : List (Number × Record)) × AreExchanges text.now.pieces.table.slots old made.now.exchanges (records_in text.now) × AreTouched library.now (said old) touched × AreFollowed library.now old self.old kept }
+        ensures lines { (old : List (Number × Record)) → AreExchanges text.now.pieces.table.slots old made.now.exchanges (records_in text.now) → AreTouched library.now (said old) touched → AreFollowed library.now old self.old kept
+            → IfOk result (λ found. IfSome found (λ f. AreFollowed library.now (records_in text.now) self.new f.lines)) }
+        ensures tests { (old : List (Number × Record)) → AreExchanges text.now.pieces.table.slots old made.now.exchanges (records_in text.now) → AreTouched library.now (said old) touched → AreFollowed library.now old self.old kept
+            → let names = touched.names ++ star_names touched.stars in let new = said (records_in text.now) in
+            IfOk result (λ found. IfSome found (λ f. FewTests library.now (said old) new names f.tests)) }
+    {
+        bars_are_exchanged();
+        let Some(followed) = self.follow_nets(alloc, library, text, made, touched, kept)? else {
+            return Ok(None);
+        };
+        let Some(found) = self.follow_blocked(alloc, library, text, made, followed)? else {
+            return Ok(None);
+        };
+        Ok(Some(found))
     }
 }

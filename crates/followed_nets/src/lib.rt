@@ -9,12 +9,17 @@
 //! the terminals are read then, which are kept without the wiring (`heads`). Both are pieces of
 //! `specs/Pieces`: first all that go are taken out, then all that come are put in (`exchanging`).
 //!
+//! Where routing is blocked tells no net: an edit that changes it goes and comes by the rectangles of the statements that it exchanges, and
+//! the nets that have shapes there are told for their lines with these (`blocked`, `exchanging_bars`).
+//!
 //! Who follows something else of nets finds the statements that tell one by `common_numbers` and `told_statements`, and whether an edit
 //! leaves all other nets by `exchanges_are_within`.
 #![tactic(auto)]
 
+mod blocked;
 mod changed_shapes;
 mod exchanging;
+mod exchanging_bars;
 mod followed;
 mod heads;
 mod listed;

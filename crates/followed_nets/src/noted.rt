@@ -5,8 +5,10 @@ ghost use Rattle.std.specs.List.{AllByRecursion};
 ghost use Rattle.def_reader.specs.StatementViews.{record_view};
 ghost use Rattle.design_rules.specs.Boxes.{scale};
 ghost use Rattle.lef_grammar.specs.Library.{Library as TheLibrary};
+ghost use Rattle.connection_rules.specs.NetLines.{barriers};
 ghost use Rattle.connection_rules.specs.NetParts.{Net, all_nets};
 ghost use Rattle.line_laws.specs.Lines.{SameThings};
+ghost use Rattle.net_touches.specs.Barriers.{barrier_view};
 ghost use Rattle.named_shapes.specs.Named.{shapes_by_name};
 ghost use Rattle.net_laws.specs.NetsTold.{is_common};
 ghost use Rattle.design_tables.specs.TableViews.{numbered_view};
@@ -30,17 +32,20 @@ use kept_nets::KeptNet;
 use line_laws::scales::scales_are_good;
 use name_keys::OwnName;
 use named_shapes::NamedShapes;
+use net_checks::barriers_of;
 use net_lists::NetList;
+use net_touches::Barrier;
 use std::alloc::{AllocError, Allocator};
 
 /// How many nets that list a pin of all components are kept with their parts. They are gone over for each edit of a component.
 const MOST_STARS: usize = 16;
 
-/// The shapes of all nets of a text, and the nets that list a pin of all components with their parts, unless these are many or one of
+/// The shapes of all nets of a text, the rectangles where routing is blocked, and the nets that list a pin of all components with their parts, unless these are many or one of
 /// them has two entries.
 #[derive(Drop)]
 pub(crate) struct DrawnNets<A: Allocator> {
     pub(crate) shapes: NamedShapes<A>,
+    pub(crate) bars: Vec<Barrier, A>,
     pub(crate) stars: Option<Vec<KeptNet<A>, A>>,
 }
 
@@ -51,7 +56,7 @@ fn is_common(statement: &Statement<'_>) -> bool
     match statement {
         Statement::Units(_) => true,
         Statement::Entry(entry) => match entry {
-            Entry::Pin(_) | Entry::Blockage(_) | Entry::Via(_) | Entry::Rule(_) => true,
+            Entry::Pin(_) | Entry::Via(_) | Entry::Rule(_) => true,
             _ => false,
         },
         _ => false,
@@ -172,6 +177,7 @@ pub(crate) fn drawn_nets<A: Allocator + Copy>(
     names: Option<Vec<OwnName<A>, A>>,
 ) -> Result<DrawnNets<A>, AllocError>
     ensures shapes { IfOk result (λ d. SameThings d.shapes (shapes_by_name (all_nets library.now (design_of text.now) (scale (design_of text.now))))) }
+    ensures bars { IfOk result (λ d. map barrier_view d.bars.items ≡ barriers library.now (design_of text.now) (scale (design_of text.now))) }
     ensures stars { IfSome names (λ v. AreStarNames (design_of text.now) v.items) → IfOk result (λ d. IfSome d.stars (λ v. AreStars library.now (design_of text.now) v.items)) }
 {
     scales_are_good();
@@ -182,5 +188,10 @@ pub(crate) fn drawn_nets<A: Allocator + Copy>(
     let nets = nets_of(alloc, library, &known, &wires)?;
     let shapes = NamedShapes::of(alloc, library.hash_builder(), &nets)?;
     let stars = stars_if(alloc, text, &nets, names)?;
-    Ok(DrawnNets { shapes, stars })
+    let bars = barriers_of(alloc, library, &records)?;
+    Ok(DrawnNets {
+        shapes,
+        bars,
+        stars,
+    })
 }

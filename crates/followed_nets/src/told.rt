@@ -4,13 +4,15 @@ ghost use Rattle.std.specs.Prelude.{◌≡◌, ◌<◌, ◌≤◌, ◌++◌, [],
 ghost use Rattle.def_grammar.specs.Records.{Record};
 ghost use Rattle.def_reader.specs.StatementViews.{record_view};
 ghost use Rattle.lef_grammar.specs.Library.{Library as TheLibrary};
-ghost use Rattle.connection_rules.specs.NetLines.{barriers, net_lines, shapes_of_net};
-ghost use Rattle.connection_rules.specs.NetParts.{net_named};
+ghost use Rattle.connection_rules.specs.NetLines.{Barrier as TheBarrier, layer_name, shapes_of_net};
+ghost use Rattle.connection_rules.specs.NetParts.{all_nets, net_named};
 ghost use Rattle.design_rules.specs.Boxes.{scale};
+ghost use Rattle.following_laws.specs.DesignLaws.{lines_on_nets};
 ghost use Rattle.line_laws.specs.Lines.{SameLines};
 ghost use Rattle.net_laws.specs.OneNet.{TellNet};
 ghost use Rattle.net_lists.specs.PartCuts.{shape_view};
-ghost use Rattle.net_checks.specs.Drawings.{IsDrawingOf};
+ghost use Rattle.net_touches.specs.Barriers.{barrier_view};
+ghost use Rattle.net_checks.specs.Drawings.{IsBarredDrawing};
 ghost use Rattle.design_text.specs.DesignTexts.{design_of};
 ghost use Rattle.design_text.specs.Exchanges.{records_in};
 ghost use Rattle.followed_nets.specs.Noted.{AreCommon};
@@ -27,6 +29,7 @@ use line_laws::scales::scales_are_good;
 use net_checks::NetDrawing;
 use net_laws::one_net_is_told;
 use net_lists::NetShape;
+use net_touches::Barrier;
 use report_lines::Lines;
 use std::alloc::{AllocError, Allocator, Global};
 
@@ -45,7 +48,8 @@ fn told_by<A: Allocator + Copy>(
     net: &[u8],
 ) -> Result<ToldNet<A>, AllocError>
     ensures name { IfOk result (λ t. t.name.items ≡ net.now) }
-    ensures lines { (library : TheLibrary) (design : List Record) → IsDrawingOf library design drawing.now → IfOk result (λ t. SameLines t.lines ([] ++ net_lines library design (scale design))) }
+    ensures lines { (library : TheLibrary) (design : List Record) (bars : List TheBarrier) → IsBarredDrawing library design bars drawing.now
+        → IfOk result (λ t. SameLines t.lines ([] ++ lines_on_nets (layer_name library.layers) (all_nets library design (scale design)) bars)) }
     ensures shapes { IfOk result (λ t. map shape_view t.shapes.items ≡ map (λ s. s.shape) (flat_map shapes_of_net drawing.now.nets)) }
 {
     let name = Vec::from_slice(alloc, net)?;
@@ -58,34 +62,36 @@ fn told_by<A: Allocator + Copy>(
     })
 }
 
-/// What statements tell of the net that they have an entry of.
+/// What statements tell of the net that they have an entry of, where these rectangles block routing.
 fn told_of<A: Allocator + Copy>(
     alloc: A,
     library: &Library<'_, A>,
+    bars: &[Barrier],
     statements: &[Statement<'_>],
     net: &[u8],
 ) -> Result<ToldNet<A>, AllocError>
     requires some { 0 < scale (map record_view statements.now) }
     requires few { scale (map record_view statements.now) ≤ 100000 }
     ensures { (design : List Record) → TellNet (map record_view statements.now) design net.now
-        → IfOk result (λ t. IsTold library.now (barriers library.now design (scale design)) (net_named library.now design (scale design) net.now) (told_view t)) }
+        → IfOk result (λ t. IsTold library.now (map barrier_view bars.now) (net_named library.now design (scale design) net.now) (told_view t)) }
 {
     one_net_is_told();
     let names = names_of(alloc, library.hash_builder(), statements)?;
-    let drawing = NetDrawing::new(alloc, library, &names)?;
+    let drawing = NetDrawing::barred(alloc, library, &names, bars)?;
     told_by(alloc, &drawing, net)
 }
 
-/// What is told of a net of a text, by its statements alone (`told_statements`).
+/// What is told of a net of a text, by its statements alone (`told_statements`), where these rectangles block routing.
 pub(crate) fn told_net<A: Allocator + Copy>(
     alloc: A,
     library: &Library<'_, A>,
     text: &DesignText<A>,
     common: &[StmtId],
+    bars: &[Barrier],
     net: &[u8],
 ) -> Result<Option<ToldNet<A>>, AllocError>
     requires { AreCommon (records_in text.now) common.now }
-    ensures { IfOk result (λ found. IfSome found (λ t. IsToldIn library.now (design_of text.now) net.now (told_view t))) }
+    ensures { IfOk result (λ found. IfSome found (λ t. IsToldIn library.now (map barrier_view bars.now) (design_of text.now) net.now (told_view t))) }
 {
     one_net_is_told();
     scales_are_good();
@@ -93,6 +99,6 @@ pub(crate) fn told_net<A: Allocator + Copy>(
     let Some(statements) = told_statements(alloc, text, common, net)? else {
         return Ok(None);
     };
-    let told = told_of(alloc, library, &statements, net)?;
+    let told = told_of(alloc, library, bars, &statements, net)?;
     Ok(Some(told))
 }

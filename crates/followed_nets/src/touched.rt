@@ -6,6 +6,7 @@ ghost use Rattle.def_grammar.specs.Records.{Record};
 ghost use Rattle.lef_grammar.specs.Library.{Library as TheLibrary};
 ghost use Rattle.design_rules.specs.Boxes.{scale};
 ghost use Rattle.net_laws.specs.StarNets.{pins_by_one};
+ghost use Rattle.net_touches.specs.Barriers.{barrier_view};
 ghost use Rattle.design_text.specs.DesignTexts.{design_of};
 ghost use Rattle.design_text.specs.Exchanges.{records_in};
 ghost use Rattle.followed_nets.specs.Exchanging.{AreToldIn, name_of};
@@ -23,6 +24,7 @@ use design_model::identifier::StmtId;
 use design_text::text::DesignText;
 use kept_nets::{KeptNet, KeptPart};
 use name_keys::OwnName;
+use net_touches::Barrier;
 use std::alloc::{AllocError, Allocator, Global};
 use std::marker::Model;
 
@@ -73,21 +75,22 @@ impl<A: Allocator + Copy> TouchedNets<A> {
     }
 }
 
-/// What is told of some nets of a text, unless something isn't told of one of them.
+/// What is told of some nets of a text, where these rectangles block routing, unless something isn't told of one of them.
 pub(crate) fn told_nets<A: Allocator + Copy>(
     alloc: A,
     library: &Library<'_, A>,
     text: &DesignText<A>,
     common: &[StmtId],
+    bars: &[Barrier],
     names: &[OwnName<A>],
 ) -> Result<Option<Vec<ToldNet<A>, A>>, AllocError>
     requires { AreCommon (records_in text.now) common.now }
-    ensures told { IfOk result (λ found. IfSome found (λ v. AreToldIn library.now (design_of text.now) (map told_view v.items))) }
+    ensures told { IfOk result (λ found. IfSome found (λ v. AreToldIn library.now (map barrier_view bars.now) (design_of text.now) (map told_view v.items))) }
     ensures named { IfOk result (λ found. IfSome found (λ v. map name_of (map told_view v.items) ≡ names.now)) }
 {
     let mut told = Vec::new(alloc);
     for name in names {
-        match told_net(alloc, library, text, common, name.bytes())? {
+        match told_net(alloc, library, text, common, bars, name.bytes())? {
             Some(net) => told.push(net)?,
             None => return Ok(None),
         }

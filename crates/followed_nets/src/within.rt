@@ -62,7 +62,7 @@ fn is_entry_within<A: Allocator>(
         Entry::Component(parts) => is_component(component, parts.name.bytes),
         Entry::Net(NetEntry::Net(net)) => is_one_of(nets, net.name.bytes),
         Entry::SpecialNet(net) => is_one_of(nets, net.name.bytes),
-        Entry::Pin(_) | Entry::Blockage(_) | Entry::Via(_) | Entry::Rule(_) => false,
+        Entry::Pin(_) | Entry::Via(_) | Entry::Rule(_) => false,
         _ => true,
     }
 }

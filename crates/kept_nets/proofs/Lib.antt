@@ -4,4 +4,4 @@ mod NearParts
 mod PartsAt
 mod PlacedParts
 mod Sums
-mod Taken
+pub mod Taken

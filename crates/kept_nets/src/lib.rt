@@ -1,7 +1,8 @@
 //! A net's parts, kept while some of its pins go and others come.
 //!
 //! Begin with `KeptNet::of`, which copies a net of a list. `take_out` takes parts out, each once, and says whether all of them were
-//! there; `put_in` puts parts in. `put_class_lines` gives the lines on how the net hangs together then. What that takes grows with the
+//! there; `put_in` puts parts in. `put_class_lines` gives the lines on how the net hangs together then, and `put_barred` those of its shapes
+//! where routing is blocked. What that takes grows with the
 //! parts near those that go and come, where these tell: a pin that touches none is a class by itself, and where those that it touches
 //! hang together with another pin, also without it, nothing changes. Else all parts are gone over. `pins_of` has the pins of a net of a
 //! list, `shapes_of` the shapes of parts, one after the other, and `is_same_shape` compares two.

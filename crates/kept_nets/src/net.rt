@@ -1,9 +1,11 @@
 //! A net with parts of its own.
 
-ghost use Rattle.std.specs.Prelude.{◌≡◌, ◌∷◌, ◌++◌, IfOk, IsTrue, OnOk, map};
-ghost use Rattle.connection_rules.specs.NetLines.{class_lines};
+ghost use Rattle.std.specs.Prelude.{◌≡◌, ◌∷◌, ◌++◌, [], IfOk, IsTrue, OnOk, flat_map, map};
+ghost use Rattle.connection_rules.specs.NetLines.{class_lines, routeblock_of, shapes_of_net, shapes_of_part};
+ghost use Rattle.design_model.specs.Families.{cross_lines};
 ghost use Rattle.line_laws.specs.Lines.{SameThings};
-ghost use Rattle.net_lists.specs.NetViews.{net_view};
+ghost use Rattle.net_lists.specs.NetViews.{net_view, net_with};
+ghost use Rattle.net_touches.specs.Barriers.{barrier_view, name_at};
 ghost use Rattle.kept_nets.specs.Parts.{part_view};
 
 use crate::joined::{with_pin, without_pin};
@@ -14,7 +16,9 @@ use crate::places::{place_of, placed_parts, with_last, without_part};
 use class_laws::{classes_are_few, same_parts_are_alike};
 use name_keys::OwnName;
 use net_classes::{NetClasses, net_classes_of, put_lines_of_classes};
-use net_lists::NetView;
+use net_lists::{NetHead, NetView, PartView};
+use net_queries::put_barred_part;
+use net_touches::Barrier;
 use placed_shapes::PlacedShapes;
 use report_lines::Lines;
 use std::alloc::{AllocError, Allocator, Global};
@@ -58,6 +62,26 @@ fn copied_parts<A: Allocator + Copy>(
         parts.push(KeptPart::of(alloc, part)?)?;
     }
     Ok(parts)
+}
+
+/// Puts the lines of the shapes of parts of a net with barriers behind others.
+fn put_barred_parts<A: Allocator + Copy>(
+    names: &[&[u8]],
+    head: &NetHead<'_>,
+    parts: &[KeptPart<A>],
+    barriers: &[Barrier],
+    lines: &mut Lines<A>,
+) -> Result<(), AllocError>
+    ensures { OnOk result (lines.new ≡ lines.old ++ cross_lines (routeblock_of (name_at (map (λ w. w.now) names.now))) (flat_map (shapes_of_part (net_with head.now [])) (map part_view parts.now)) (map barrier_view barriers.now)) }
+{
+    for part in parts {
+        let own = PartView {
+            is_pin: part.is_pin,
+            shapes: part.shapes.as_slice(),
+        };
+        put_barred_part(names, head, &own, barriers, lines)?;
+    }
+    Ok(())
 }
 
 impl<A: Allocator + Copy> KeptNet<A> {
@@ -180,5 +204,23 @@ impl<A: Allocator + Copy> KeptNet<A> {
             None => classes_of_parts(alloc, &self.parts)?,
         };
         put_lines_of_classes(self.name.bytes(), classes, lines)
+    }
+
+    /// Puts the lines of its shapes with rectangles where routing is blocked behind others, in an order that is left open. `names` are
+    /// those of the layers, by their places.
+    pub fn put_barred(
+        &self,
+        names: &[&[u8]],
+        barriers: &[Barrier],
+        lines: &mut Lines<A>,
+    ) -> Result<(), AllocError>
+        ensures { OnOk result (lines.new ≡ lines.old ++ cross_lines (routeblock_of (name_at (map (λ w. w.now) names.now))) (shapes_of_net self.now) (map barrier_view barriers.now)) }
+    {
+        let head = NetHead {
+            name: self.name.bytes(),
+            is_power: self.is_power,
+            parts: 0,
+        };
+        put_barred_parts(names, &head, &self.parts, barriers, lines)
     }
 }

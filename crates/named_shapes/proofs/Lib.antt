@@ -2,3 +2,4 @@ mod Gathered
 mod NamedLists
 mod NearShapes
 mod ShortSteps
+mod TouchingLemmas

@@ -58,7 +58,7 @@ module _ (names : List (List ℕ)) where
   owned_are_named [] = refl
   owned_are_named (e ∷ es) = ap (λ o. cons_option o (net_shapes_of (owner_in names) es)) (owned_is_named e.1) ∙ ap (cons_option (named_by names (placed_shape e.1))) (owned_are_named es)
 
-  abbrev weight : (NetShape → ℕ) → Option NetShape → ℕ
+  abbrev pub weight : (NetShape → ℕ) → Option NetShape → ℕ
   weight w None = 0
   weight w (Some s) = w s
 
@@ -66,7 +66,7 @@ module _ (names : List (List ℕ)) where
   one_more w None ss = omega arith
   one_more w (Some s) ss = sum_by-cons w s ss
 
-  sum_named : (w : NetShape → ℕ) (ps : List (ℕ × Shape)) → sum_by w (named_shapes names ps) ≡ sum_by (λ p. weight w (named_by names p)) ps
+  pub sum_named : (w : NetShape → ℕ) (ps : List (ℕ × Shape)) → sum_by w (named_shapes names ps) ≡ sum_by (λ p. weight w (named_by names p)) ps
   sum_named w [] = refl
   sum_named w (p ∷ ps) =
       let later = sum_named w ps in

@@ -49,3 +49,10 @@ pub next_tested : (near : Shape → ℕ) (shapes : List NetShape) (i : ℕ) (x :
 next_tested near shapes i x now one next all below is few step h =
     let left = ap (λ (l : List NetShape). sum_by near (map shape_view l)) (drop_more shapes i x below ∙ ap (λ (y : NetShape). y ∷ drop (i + 1) shapes) (sym is)) in
     omega (arith, left, few, step, h, sum_by-cons near (shape_view x) (map shape_view (drop (i + 1) shapes)))
+
+-- the shapes by their names are those that are placed
+pub plain_named : (names : List (List ℕ)) (placed : List (ℕ × Shape)) → HaveNames names placed → map (λ p. p.1) placed ≡ map (λ (n : net_lines.NetShape). n.shape) (named_shapes names placed)
+plain_named names [] have = refl
+plain_named names (p ∷ placed) have =
+    let parts = first_has names p placed have in
+    ap (λ (l : List Shape). p.1 ∷ l) (plain_named names placed parts.1) ∙ sym (named_is_there names p (named_shapes names placed) parts.0)

@@ -66,7 +66,7 @@ impl<A: Allocator + Copy> NetNames<A> {
     }
 
     /// The name at a place.
-    fn name(&self, place: usize) -> Option<&[u8]>
+    pub(crate) fn name(&self, place: usize) -> Option<&[u8]>
         ensures { option_map (λ w. w.now) result ≡ slice_get self.now place }
     {
         let own = self.names.get_index(place)?;

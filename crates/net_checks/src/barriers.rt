@@ -87,7 +87,7 @@ fn push_of_blockage<A: Allocator + Copy>(
 }
 
 /// The rectangles where routing is blocked on a layer, in the order of the text.
-pub(crate) fn barriers_of<A: Allocator + Copy>(
+pub fn barriers_of<A: Allocator + Copy>(
     alloc: A,
     library: &Library<'_, A>,
     records: &[Statement<'_>],

@@ -2,7 +2,8 @@
 //! together in each net.
 //!
 //! Begin with `NetDrawing::new`, whose `put_lines` puts them all behind others. They are `net_lines` of
-//! `connection_rules/specs/NetLines`, in an order that is left open. The nets come from `design_nets`, the lines on shapes from `net_touches`, and those on classes from
+//! `connection_rules/specs/NetLines`, in an order that is left open. `NetDrawing::barred` is the same with rectangles of the caller's, and
+//! `barriers_of` has those of statements. The nets come from `design_nets`, the lines on shapes from `net_touches`, and those on classes from
 //! `net_classes`.
 //!
 //! A `NetDrawing` holds the design's nets with all their shapes, and its blockages on layers; while it is made, the design's vias too.
@@ -13,4 +14,5 @@ mod barriers;
 pub mod layer_names;
 mod net_lines;
 
+pub use barriers::barriers_of;
 pub use net_lines::NetDrawing;

@@ -1,12 +1,14 @@
 //! The lines on the nets of a design.
 
-ghost use Rattle.std.specs.Prelude.{◌≡◌, ◌++◌, ◌<◌, ◌≤◌, IfOk, List};
+ghost use Rattle.std.specs.Prelude.{◌≡◌, ◌++◌, ◌<◌, ◌≤◌, IfOk, List, map};
 ghost use Rattle.def_grammar.specs.Records.{Record};
 ghost use Rattle.lef_grammar.specs.Library.{Library as TheLibrary};
 ghost use Rattle.design_rules.specs.Boxes.{scale};
-ghost use Rattle.connection_rules.specs.NetLines.{net_lines};
+ghost use Rattle.connection_rules.specs.NetLines.{Barrier as NetBarrier, layer_name};
+ghost use Rattle.connection_rules.specs.NetParts.{all_nets};
 ghost use Rattle.line_laws.specs.Lines.{SameLines};
-ghost use Rattle.net_checks.specs.Drawings.{IsDrawingOf};
+ghost use Rattle.net_touches.specs.Barriers.{barrier_view};
+ghost use Rattle.net_checks.specs.Drawings.{IsBarredDrawing, IsDrawingOf, lines_of_nets};
 
 use crate::barriers::barriers_of;
 use crate::layer_names::layer_names;
@@ -63,6 +65,28 @@ impl<'l, 't, A: Allocator + Copy> NetDrawing<'l, 't, A> {
         })
     }
 
+    /// The same with these rectangles in the place of the design's own.
+    pub fn barred(
+        alloc: A,
+        library: &Library<'l, A>,
+        names: &Names<'_, 't, A>,
+        barriers: &[Barrier],
+    ) -> Result<NetDrawing<'l, 't, A>, AllocError>
+        requires some { 0 < scale names.now }
+        requires few { scale names.now ≤ 100000 }
+        ensures { IfOk result (IsBarredDrawing library.now names.now (map barrier_view barriers.now)) }
+    {
+        let wires = DesignWires::new(alloc, library, names)?;
+        let nets = nets_of(alloc, library, names, &wires)?;
+        let barriers = Vec::from_slice(alloc, barriers)?;
+        let layers = layer_names(alloc, library)?;
+        Ok(NetDrawing {
+            nets,
+            barriers,
+            layers,
+        })
+    }
+
     /// The nets, with their parts and shapes.
     pub fn nets(&self) -> &NetList<'t, A>
         ensures { result.now ≡ self.now.nets }
@@ -73,7 +97,8 @@ impl<'l, 't, A: Allocator + Copy> NetDrawing<'l, 't, A> {
     /// Puts the lines on shapes of two nets that touch, on wires where routing is blocked, and on what hangs together in each net
     /// behind others, in an order that is left open.
     pub fn put_lines(&self, alloc: A, lines: Lines<A>) -> Result<Lines<A>, AllocError>
-        ensures { (library : TheLibrary) (design : List Record) → IsDrawingOf library design self.now → IfOk result (λ l. SameLines l (lines ++ net_lines library design (scale design))) }
+        ensures { (library : TheLibrary) (design : List Record) (bars : List NetBarrier) → IsBarredDrawing library design bars self.now
+            → IfOk result (λ l. SameLines l (lines ++ lines_of_nets (layer_name library.layers) (all_nets library design (scale design)) bars)) }
     {
         layers_have_their_names();
         same_lines_append();

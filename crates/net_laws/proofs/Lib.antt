@@ -1,3 +1,4 @@
+mod Blocked
 mod ComponentPins
 mod NetChanges
 mod NetNames

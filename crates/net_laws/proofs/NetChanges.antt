@@ -18,7 +18,7 @@ use Rattle.net_laws.specs.NetExchanges.{NetsAreExchanged, nets_where}
 use Rattle.net_laws.specs.NetsTold.{AgreeOnNet, FindsAlike, is_common, is_of_net, net_of_record, terminals_of}
 use Rattle.net_laws.specs.OneNet.{TellNet, is_net}
 use Rattle.net_laws.proofs.NetNames.{each_once_passing, names_of_net, parted, same_names, wired_names}
-use Rattle.net_laws.proofs.OneNet.{same_barriers, same_scale}
+use Rattle.net_laws.proofs.OneNet.{same_scale}
 use Rattle.net_laws.proofs.Selecting.{exchanged_alike, none_of_both}
 use Rattle.net_laws.proofs.ToldNets.{same_net}
 use Rattle.net_laws.proofs.Touched.{agree, bytes_eq_sym, same_stay}
@@ -163,5 +163,4 @@ told_nets_are_exchanged library old new nets apart told then_told =
             (told_where library (scale old) new (net_named library new (scale old)) nets then_told _ _ e.new_is);
       };
       scales = scales;
-      bars = same_barriers library old new (scale old) (scale new) apart.common;
     }

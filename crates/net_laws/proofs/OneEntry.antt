@@ -31,7 +31,7 @@ module _ (net : List ℕ) where
   common_told (entry (records.pin x)) h = refl
   common_told (entry (records.region x)) h = absurd (cc)
   common_told (entry (records.group x)) h = absurd (cc)
-  common_told (entry (records.blockage x)) h = refl
+  common_told (entry (records.blockage x)) h = absurd (cc)
   common_told (entry (records.net x)) h = absurd (cc)
   common_told (entry (records.special_net x)) h = absurd (cc)
   common_told (entry (records.via x)) h = refl
@@ -47,7 +47,7 @@ module _ (net : List ℕ) where
   net_told (entry (records.pin x)) h = refl
   net_told (entry (records.region x)) h = absurd (cc)
   net_told (entry (records.group x)) h = absurd (cc)
-  net_told (entry (records.blockage x)) h = refl
+  net_told (entry (records.blockage x)) h = absurd (cc)
   net_told (entry (records.net x)) h = h
   net_told (entry (records.special_net x)) h = h
   net_told (entry (records.via x)) h = refl

@@ -7,12 +7,11 @@ use Rattle.def_grammar.specs.Records.{Record, end_section, entry, in_properties,
 use Rattle.def_grammar.specs.Top.{end_design, extension, floor, header, kept, properties, units}
 use Rattle.lef_grammar.specs.Library.{Library}
 use Rattle.design_rules.specs.Boxes.{scale, units_or_1}
-use Rattle.connection_rules.specs.NetLines.{barriers, barriers_of}
 use Rattle.connection_rules.specs.NetParts.{Net, net_named, net_names}
 use Rattle.net_laws.specs.NetsTold.{is_common}
 use Rattle.net_laws.specs.OneNet.{IsNetTold, OneNetIsTold, TellNet}
 use Rattle.net_laws.proofs.NetNames.{wired_names}
-use Rattle.net_laws.proofs.Selecting.{listed_alike, selected_alike}
+use Rattle.net_laws.proofs.Selecting.{selected_alike}
 use Rattle.net_laws.proofs.ToldNets.{same_net}
 
 no_units : (r : Record) → is_common r ≡ false → units_of r ≡ None
@@ -28,26 +27,8 @@ no_units (in_properties p) h = refl
 no_units (end_section s) h = refl
 
 module _ (library : Library) where
-  no_barrier : (r : Record) → is_common r ≡ false → barriers_of library.layers r ≡ []
-  no_barrier (top t) h = refl
-  no_barrier (entry (records.component x)) h = refl
-  no_barrier (entry (records.pin x)) h = refl
-  no_barrier (entry (records.region x)) h = refl
-  no_barrier (entry (records.group x)) h = refl
-  no_barrier (entry (records.blockage x)) h = absurd (cc)
-  no_barrier (entry (records.net x)) h = refl
-  no_barrier (entry (records.special_net x)) h = refl
-  no_barrier (entry (records.via x)) h = refl
-  no_barrier (entry (records.rule x)) h = refl
-  no_barrier (entry (records.skipped s x)) h = refl
-  no_barrier (in_properties p) h = refl
-  no_barrier (end_section s) h = refl
-
   pub same_scale : (a b : List Record) → filter is_common a ≡ filter is_common b → scale a ≡ scale b
   same_scale a b same = ap (λ (ns : List (List ℕ)). units_or_1 (first ns)) (selected_alike is_common units_of no_units a b same)
-
-  pub same_barriers : (a b : List Record) (u v : ℕ) → filter is_common a ≡ filter is_common b → barriers library a u ≡ barriers library b v
-  same_barriers a b u v same = listed_alike is_common (barriers_of library.layers) no_barrier a b same
 
   module _ (some design : List Record) (net : List ℕ) (tell : TellNet some design net) where
     told_names : net_names library some (scale some) ≡ net ∷ []
@@ -62,7 +43,6 @@ module _ (library : Library) where
           nets =
               ap (map (net_named library some (scale some))) told_names
               ∙ ap (λ (n : Net). n ∷ []) (same_net library some design (scale some) net tell.agree ∙ ap (λ (u : ℕ). net_named library design u net) scales);
-          same_barriers = same_barriers some design (scale some) (scale design) tell.agree.common;
         }
 
 pub one_net_is_told : OneNetIsTold

@@ -233,7 +233,7 @@ module _ (net name : List ℕ) where
   common_tells (entry (records.pin x)) h = refl
   common_tells (entry (records.region x)) h = absurd (cc)
   common_tells (entry (records.group x)) h = absurd (cc)
-  common_tells (entry (records.blockage x)) h = refl
+  common_tells (entry (records.blockage x)) h = absurd (cc)
   common_tells (entry (records.net x)) h = absurd (cc)
   common_tells (entry (records.special_net x)) h = absurd (cc)
   common_tells (entry (records.via x)) h = refl

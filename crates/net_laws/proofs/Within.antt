@@ -33,7 +33,7 @@ module _ (nets : List (List ℕ)) (component : Option (List ℕ)) where
   no_common (entry (records.pin x)) h = absurd (cc)
   no_common (entry (records.region x)) h = refl
   no_common (entry (records.group x)) h = refl
-  no_common (entry (records.blockage x)) h = absurd (cc)
+  no_common (entry (records.blockage x)) h = refl
   no_common (entry (records.via x)) h = absurd (cc)
   no_common (entry (records.rule x)) h = absurd (cc)
   no_common (entry (records.skipped s x)) h = refl

@@ -1,3 +1,4 @@
+pub mod Blocked
 pub mod NetChanges
 pub mod NetExchanges
 pub mod NetsTold

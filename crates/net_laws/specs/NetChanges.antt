@@ -4,7 +4,6 @@ use Rattle.std.specs.List.{filter_map, list_any}
 use Rattle.std.specs.Str.{bytes_eq}
 use Rattle.def_grammar.specs.Records.{Record}
 use Rattle.lef_grammar.specs.Library.{Library}
-use Rattle.connection_rules.specs.NetLines.{barriers}
 use Rattle.connection_rules.specs.NetParts.{all_nets, net_named}
 use Rattle.design_rules.specs.Boxes.{scale}
 use Rattle.following_laws.specs.Following.{Exchange}
@@ -36,12 +35,11 @@ abbrev pub AreToldIn : List Record → List (List ℕ) → Type 0
 AreToldIn design [] = Unit {0}
 AreToldIn design (n ∷ ns) = (is_one_of ns n ≡ false) × ((some : List Record) × TellNet some design n) × AreToldIn design ns
 
--- Then these nets are exchanged, the others stay, and so do the scale and where routing is blocked.
+-- Then these nets are exchanged, the others stay, and so does the scale.
 pub record ToldExchange (library : Library) (old new : List Record) (nets : List (List ℕ)) : Type 0 where
   pub exchange : Exchange (all_nets library old (scale old)) (all_nets library new (scale new)) (map (net_named library old (scale old)) nets) (map (net_named library new (scale new)) nets)
       (nets_where library old (scale old) (λ net. not (is_one_of nets net)))
   pub scales : scale old ≡ scale new
-  pub bars : barriers library old (scale old) ≡ barriers library new (scale new)
 
 abbrev pub ToldNetsAreExchanged : Type 0
 ToldNetsAreExchanged = (library : Library) (old new : List Record) (nets : List (List ℕ)) → AgreeApart old new (is_one_of nets) → AreToldIn old nets → AreToldIn new nets

@@ -11,11 +11,10 @@ use Rattle.lef_grammar.specs.Library.{Library}
 use Rattle.entry_rules.specs.Unknown.{component_named}
 use Rattle.connection_rules.specs.NetParts.{net_named}
 
--- a statement of what any net may be made of: UNITS, a via, a nondefault rule, or a pin of the design; or of where its wires may not run
+-- a statement of what any net may be made of: UNITS, a via, a nondefault rule, or a pin of the design
 abbrev pub is_common : Record → Bool
 is_common (top (units n)) = true
 is_common (entry (records.pin p)) = true
-is_common (entry (records.blockage b)) = true
 is_common (entry (records.via v)) = true
 is_common (entry (records.rule r)) = true
 is_common _ = false

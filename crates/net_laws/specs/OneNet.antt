@@ -4,7 +4,6 @@ use Rattle.std.specs.List.{filter_map}
 use Rattle.std.specs.Str.{bytes_eq}
 use Rattle.def_grammar.specs.Records.{Record}
 use Rattle.lef_grammar.specs.Library.{Library}
-use Rattle.connection_rules.specs.NetLines.{barriers}
 use Rattle.connection_rules.specs.NetParts.{all_nets, net_named}
 use Rattle.design_rules.specs.Boxes.{scale}
 use Rattle.net_laws.specs.NetsTold.{AgreeOnNet, net_of_record}
@@ -14,11 +13,10 @@ pub record TellNet (some design : List Record) (net : List ℕ) : Type 0 where
   pub agree : AgreeOnNet some design net
   pub only : filter_map net_of_record some ≡ net ∷ []
 
--- Then that net is their only one, in the same scale, and its wires may not run where those of the design may not.
+-- Then that net is their only one, in the same scale.
 pub record IsNetTold (library : Library) (some design : List Record) (net : List ℕ) : Type 0 where
   pub same_scale : scale some ≡ scale design
   pub nets : all_nets library some (scale some) ≡ net_named library design (scale design) net ∷ []
-  pub same_barriers : barriers library some (scale some) ≡ barriers library design (scale design)
 
 abbrev pub OneNetIsTold : Type 0
 OneNetIsTold = (library : Library) (some design : List Record) (net : List ℕ) → TellNet some design net → IsNetTold library some design net

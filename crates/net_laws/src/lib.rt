@@ -4,9 +4,10 @@
 //! and by UNITS, vias, nondefault rules and pins of the design (`specs/NetsTold`). So where statements are exchanged for others, only
 //! those nets change of which one of these is an entry, or which list a component among them (`specs/NetExchanges`). One net is told by
 //! few statements (`specs/OneNet`), and where designs agree on all nets but some which are so told, these alone are exchanged
-//! (`specs/NetChanges`).
+//! (`specs/NetChanges`). Where routing is blocked tells no net, and has laws of its own (`specs/Blocked`).
 #![tactic(auto)]
 
+ghost use Rattle.net_laws.specs.Blocked.{BarredLinesFollow, BarsAreExchanged};
 ghost use Rattle.net_laws.specs.NetsTold.{NetsAreTold};
 ghost use Rattle.net_laws.specs.NetExchanges.{NetsAreExchanged, NoNetsNoLines};
 ghost use Rattle.net_laws.specs.NetChanges.{ApartOnAndOn, ToldNetsAreExchanged, TouchedApart};
@@ -83,4 +84,14 @@ pub fn pin_lines_follow()
 /// A net of one entry is told by some statements.
 pub fn one_entry_tells()
     ensures { OneEntryTells }
+{}
+
+/// Where statements are exchanged, so are the rectangles where they block routing.
+pub fn bars_are_exchanged()
+    ensures { BarsAreExchanged }
+{}
+
+/// With the same nets, the lines on nets follow an exchange of rectangles where routing is blocked.
+pub fn barred_lines_follow()
+    ensures { BarredLinesFollow }
 {}

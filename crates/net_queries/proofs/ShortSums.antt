@@ -60,7 +60,7 @@ next_put f xs i x before now all below is put h =
     ∙ sym (ap (λ ys. before ++ flat_map f ys) (drop_more xs i x below ∙ ap (λ y. y ∷ drop (i + 1) xs) (sym is)))
     ∙ h
 
-each_mapped : {X Y : Type 0} (f : Y → Lists) (g : X → Y) (xs : List X) → flat_map f (map g xs) ≡ flat_map (λ x. f (g x)) xs
+pub each_mapped : {X Y : Type 0} (f : Y → Lists) (g : X → Y) (xs : List X) → flat_map f (map g xs) ≡ flat_map (λ x. f (g x)) xs
 each_mapped f g [] = refl
 each_mapped f g (x ∷ xs) = ap (λ ls. f (g x) ++ ls) (each_mapped f g xs)
 

@@ -3,7 +3,8 @@
 //! Begin with `pieces_of`, which says how the parts of a net hang together, or with `shorts_of`, which gives the lines of one shape
 //! with those of a set and with barriers; each also says how many shapes it compared. The set's shapes have their part's number
 //! as their `net`. The parts of one net have numbers one after the other, and `PartOwners` tells whose each number is: `Owners`,
-//! which is two slices, or a table of the caller's own.
+//! which is two slices, or a table of the caller's own. `put_barred_nets` and `put_barred_part` put the lines of whole nets, or of a
+//! part of one, with barriers.
 //!
 //! What `pieces_of` says is `with_pins` and `without_pins` of `connection_rules/specs/PartClasses`, where the set holds the net's
 //! parts (`HoldsParts` of `specs/Held`); what `shorts_of` gives is `short_of` and `routeblock_of` of
@@ -15,12 +16,14 @@
 //! Nothing is lent. The one error is `AllocError`, and the set stays as it was.
 #![tactic(auto)]
 
+mod barred;
 mod joining;
 mod laws;
 mod owner;
 mod pieces;
 mod shorts;
 
+pub use barred::{put_barred_nets, put_barred_part};
 pub use laws::{parts_in_any_order, runs_are_held, shapes_in_any_order, short_is_symmetric};
 pub use owner::{Owners, PartOwner, PartOwners};
 pub use pieces::{NetState, pieces_of};

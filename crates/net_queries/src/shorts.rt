@@ -55,7 +55,7 @@ fn put_met<A: Allocator + Copy, O: PartOwners>(
 }
 
 /// Puts the lines of a shape with barriers behind others.
-fn put_barred<A: Allocator + Copy>(
+pub(crate) fn put_barred<A: Allocator + Copy>(
     names: &[&[u8]],
     shape: &ShapeOfNet<'_, '_>,
     barriers: &[Barrier],

@@ -1,2 +1,3 @@
+mod NearPlaces
 mod PlacedLists
 mod TouchedLists

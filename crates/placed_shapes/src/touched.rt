@@ -1,6 +1,7 @@
 //! The owners of shapes that touch others.
 
-ghost use Rattle.std.specs.Prelude.{◌≡◌, ◌++◌, IfOk, flat_map, map};
+ghost use Rattle.std.specs.Prelude.{◌≡◌, ◌++◌, ◌+◌, ◌≤◌, IfOk, flat_map, map, sum_by};
+ghost use Rattle.shape_index.specs.Near.{near_shapes};
 ghost use Rattle.shape_index.specs.Pushing.{Pushes};
 ghost use Rattle.line_laws.specs.Lines.{SameThings};
 ghost use Rattle.net_lists.specs.PartCuts.{shape_view};
@@ -9,7 +10,14 @@ ghost use Rattle.placed_shapes.specs.Placed.{touched_by};
 use crate::placed::PlacedShapes;
 use net_lists::NetShape;
 use shape_index::{Shape, ShapeSet};
-use std::alloc::{AllocError, Allocator};
+use std::alloc::{AllocError, Allocator, Global};
+
+/// The places of owners of shapes, and how many shapes were compared to find them.
+#[derive(Drop)]
+pub struct TouchedPlaces<A: Allocator = Global> {
+    pub places: Vec<usize, A>,
+    pub tests: u64,
+}
 
 /// Puts the place of a shape's owner behind others.
 fn push_place<A: Allocator>(
@@ -24,30 +32,49 @@ fn push_place<A: Allocator>(
 }
 
 impl<A: Allocator + Copy> PlacedShapes<A> {
-    /// Puts the places of the owners of shapes that touch one behind others.
+    /// Puts the places of the owners of shapes that touch one behind others, and says how many shapes were compared for them.
     fn push_touched(
         &self,
         shape: &NetShape,
         places: Vec<usize, A>,
-    ) -> Result<Vec<usize, A>, AllocError>
-        ensures { IfOk result (λ v. SameThings v.items (places.items ++ touched_by self.now (shape_view shape.now))) }
+    ) -> Result<TouchedPlaces<A>, AllocError>
+        ensures places { IfOk result (λ t. SameThings t.places.items (places.items ++ touched_by self.now (shape_view shape.now))) }
+        ensures tests { IfOk result (λ t. t.tests ≤ near_shapes (shape_view shape.now) (map (λ p. p.1) self.now)) }
     {
-        let (found, _) = self
+        let (found, tests) = self
             .tiles()
             .for_met(shape.layer, shape.rect, Ok(places), |places, _, met| {
                 push_place(places, met)
             });
-        found
+        let places = found?;
+        Ok(TouchedPlaces { places, tests })
     }
 
-    /// The places of the owners of shapes that touch some of these, in an order that is left open; one may stand several times.
+    /// The places of the owners of shapes that touch some of these, in an order that is left open, and how many pairs of shapes were
+    /// compared for them; one may stand several times.
+    pub fn touched_places(
+        &self,
+        alloc: A,
+        shapes: &[NetShape],
+    ) -> Result<TouchedPlaces<A>, AllocError>
+        ensures places { IfOk result (λ t. SameThings t.places.items (flat_map (touched_by self.now) (map shape_view shapes.now))) }
+        ensures tests { IfOk result (λ t. t.tests ≤ sum_by (λ s. near_shapes s (map (λ p. p.1) self.now)) (map shape_view shapes.now)) }
+    {
+        let mut places = Vec::new(alloc);
+        let mut tests: u64 = 0;
+        for shape in shapes {
+            let touched = self.push_touched(shape, places)?;
+            places = touched.places;
+            tests = tests.saturating_add(touched.tests);
+        }
+        Ok(TouchedPlaces { places, tests })
+    }
+
+    /// The same places alone.
     pub fn touched(&self, alloc: A, shapes: &[NetShape]) -> Result<Vec<usize, A>, AllocError>
         ensures { IfOk result (λ v. SameThings v.items (flat_map (touched_by self.now) (map shape_view shapes.now))) }
     {
-        let mut places = Vec::new(alloc);
-        for shape in shapes {
-            places = self.push_touched(shape, places)?;
-        }
-        Ok(places)
+        let found = self.touched_places(alloc, shapes)?;
+        Ok(found.places)
     }
 }

@@ -1,4 +1,5 @@
 use Rattle.std.proofs.Common.{◌≡◌, ◌++◌, drop, map}
+use Rattle.net_touches.specs.Barriers.{barrier_view}
 use Rattle.design_text.specs.DesignTexts.{design_of}
 use Rattle.followed_nets.specs.Exchanging.{AreToldIn, name_of}
 use Rattle.followed_nets.specs.ToldViews.{told_view}
@@ -6,6 +7,6 @@ use Rattle.followed_nets.proofs.touched.told_nets.Given as goal
 
 abbrev pub invariant-loop-name : goal.invariant-loop-name
 invariant-loop-name g l = record {
-  told : AreToldIn l.library (design_of l.text) (map told_view l.told.items);
+  told : AreToldIn l.library (map barrier_view l.bars) (design_of l.text) (map told_view l.told.items);
   named : map name_of (map told_view l.told.items) ++ drop l.name-index l.names ≡ l.names;
 }

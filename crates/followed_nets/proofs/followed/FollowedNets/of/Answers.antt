@@ -1,11 +1,13 @@
-use Rattle.std.proofs.Common.{◌≡◌, ◌∙◌, List, filter, map, ap, subst, sym}
+use Rattle.std.proofs.Common.{◌≡◌, ◌∙◌, List, filter, map, ap, refl, subst, sym}
 use Rattle.std.specs.List.{AllByRecursion}
 use Rattle.std.specs.Option.{option_map}
 use Rattle.std.specs.Prelude.{IfSome}
 use Rattle.design_model.specs.declared.identifier.StmtId.{StmtId}
 use Rattle.def_grammar.specs.Records.{Record}
 use Rattle.design_rules.specs.Boxes.{scale}
+use Rattle.connection_rules.specs.NetLines.{barriers}
 use Rattle.connection_rules.specs.NetParts.{all_nets}
+use Rattle.net_touches.specs.Barriers.{barrier_view}
 use Rattle.design_tables.specs.TableViews.{numbered_view}
 use Rattle.line_laws.specs.Lines.{SameThings}
 use Rattle.named_shapes.specs.Named.{shapes_by_name}
@@ -30,6 +32,7 @@ returns g c =
     record {
       shapes_are = subst (λ (d : List Record). SameThings c.in_ok-drawn.drawn.shapes (shapes_by_name (all_nets library d (scale d)))) (sym said_so) c.in_ok-drawn.ensures.shapes;
       common_are = c.in_ok-common.ensures ∙ ap (λ (rs : List (StmtId × Record)). map (λ x. x.0) (filter (λ x. is_common x.1) rs)) commons;
+      bars_are = subst (λ (d : List Record). SameThings (map barrier_view c.in_ok-drawn.drawn.bars.items) (barriers library d (scale d))) (sym said_so) (rw (c.in_ok-drawn.ensures.bars) (record { sums = λ w. refl }));
       stars_are = if_seen (λ v. v.items) (AreStars library (said (records_in c.args.text.now))) c.in_ok-drawn.drawn.stars
           (subst (λ (d : List Record). IfSome c.in_ok-drawn.drawn.stars (λ v. AreStars library d v.items)) (sym said_so) (c.in_ok-drawn.ensures.stars names));
       heads_are = subst (λ (d : List Record). AllByRecursion (IsHead d) (map head_view c.in_ok-heads.heads.items)) (sym said_so) c.in_ok-heads.ensures;

@@ -1,6 +1,9 @@
 use Rattle.std.proofs.Common.{◌≡◌, ◌∙◌, ◌++◌, List, Some, ap, map, subst, sym}
 use Rattle.std.specs.List.{AllByRecursion}
 use Rattle.def_grammar.specs.Records.{Record}
+use Rattle.connection_rules.specs.NetLines.{barriers}
+use Rattle.design_rules.specs.Boxes.{scale}
+use Rattle.line_laws.specs.Lines.{SameThings}
 use Rattle.design_text.specs.DesignTexts.{design_of}
 use Rattle.followed_nets.specs.Heads.{IsHead}
 use Rattle.followed_nets.specs.Listed.{AllList}
@@ -62,3 +65,8 @@ returns-clause-names g c =
     (λ t names own. (rw (names, own.1, named) lists, own.0 ∙ ap Some c.in_ok-name.ensures))
     c.touched.ensures.names
     c.touched.ensures.component
+
+pub touched-requires-clause-bars : goal.touched-requires-clause-bars
+touched-requires-clause-bars g c =
+    let library = c.args.library.now in
+    subst (λ (d : List Record). SameThings c.args.self.now.bars (barriers library d (scale d))) c.statements_are_kept.ensures.said c.requires.bars_are

@@ -1,0 +1,9 @@
+use Rattle.std.proofs.Common.{List, ℕ, subst, sym}
+use Rattle.following_laws.specs.Following.{LinesFollow}
+use Rattle.followed_nets.proofs.exchanging_bars.with_lines.Goals as goal
+
+pub followed-requires : goal.followed-requires
+followed-requires g c = (c.requires.0, c.requires.1, c.requires.2, subst (λ (out : List (List ℕ)). LinesFollow c.requires.0 c.requires.1 out c.args.put) (sym c.new-none.ensures) c.requires.3)
+
+pub returns : goal.returns
+returns g c = λ before after are follow. c.followed.ensures before after are (subst (λ (out : List (List ℕ)). LinesFollow before after out c.args.put) (sym c.new-none.ensures) follow)
