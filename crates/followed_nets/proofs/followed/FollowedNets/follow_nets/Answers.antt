@@ -1,4 +1,4 @@
-use Rattle.std.proofs.Common.{rules, ◌≡◌, ◌∙◌, ◌+◌, ◌≤◌, ◌++◌, List, Option, Some, None, true, ap, arith, map, refl, subst, sym}
+use Rattle.std.proofs.Common.{rules, ◌≡◌, ◌∙◌, ◌+◌, ◌≤◌, ◌++◌, ℕ, List, Option, Some, None, true, ap, arith, map, refl, subst, sym}
 use Rattle.std.specs.Prelude.{IfSome}
 use Rattle.def_grammar.specs.Records.{Record}
 use Rattle.connection_rules.specs.NetLines.{NetShape, barriers, layer_name}
@@ -102,6 +102,10 @@ returns-clause-lines g c = λ old exchanges touched followed.
       lines = p.then_lines c.exchange.new.self.shapes c.in-Some-3.followed.lines.lines on;
     }
 
+-- (over variables, as these sums are large terms)
+bounded : (n a b c d : ℕ) → n ≤ a + b → a ≤ c → b ≤ d → n ≤ c + d
+bounded n a b c d sum first second = omega (arith, sum, first, second)
+
 pub returns-clause-tests : goal.returns-clause-tests
 returns-clause-tests g c = λ old exchanges touched followed.
     let yes : c.in_ok-are_all.field-0 ≡ true = search rules in
@@ -129,4 +133,4 @@ returns-clause-tests g c = λ old exchanges touched followed.
     let tests = rw (c.in-Some-3.is, c.in_ok-all.ensures.shapes) at c.in_ok-followed.ensures.tests in
     let few = p.few in
     let then_few = p.then_few c.exchange.new.self.shapes (p.then_shapes c.exchange.new.self.shapes c.in-Some-3.followed.lines.lines on) in
-    rw (← c.touched.view_is) (omega (arith, tests, few, then_few))
+    rw (← c.touched.view_is) (bounded _ _ _ _ _ tests few then_few)
