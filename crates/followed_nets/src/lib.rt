@@ -10,7 +10,8 @@
 //! `specs/Pieces`: first all that go are taken out, then all that come are put in (`exchanging`).
 //!
 //! Who follows something else of nets finds the statements that tell one by `common_numbers` and `told_statements`, and whether an edit
-//! leaves all other nets by `exchanges_are_within`.
+//! leaves all other nets by `exchanges_are_within`; for an edit of a component, which nets list it, and its pins of those that list a pin of
+//! all components, by `StarHeads`.
 #![tactic(auto)]
 
 mod changed_shapes;
@@ -20,6 +21,7 @@ mod heads;
 mod listed;
 mod noted;
 mod star_exchange;
+mod star_heads;
 mod star_pins;
 mod stars;
 mod told;
@@ -30,5 +32,6 @@ mod within;
 pub use exchanging::FollowedOnNets;
 pub use followed::FollowedNets;
 pub use noted::common_numbers;
+pub use star_heads::{StarHeads, ToldPins};
 pub use touched::TouchedNets;
 pub use within::exchanges_are_within;
