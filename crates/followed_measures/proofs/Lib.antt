@@ -5,4 +5,5 @@ mod LoopLemmas
 mod MoveLemmas
 mod ReportLemmas
 mod StarLemmas
+mod ToldEditLemmas
 mod ToldLemmas

@@ -1,18 +1,24 @@
 -- Nets that are exchanged one after the other, from the last on.
-use Rattle.std.proofs.Common.{◌≡◌, ◌∙◌, ℕ, Bool, false, true, ◌||◌, List, [], ◌∷◌, ◌++◌, append-nil, append_assoc, map, Option, Some, refl, sym, ap, subst, if◌then◌else◌}
+use Rattle.std.proofs.Common.{◌≡◌, ◌∙◌, ℕ, Bool, false, true, ◌||◌, List, [], ◌∷◌, ◌++◌, append-nil, append_assoc, map, Option, Some, refl, sym, ap, subst, sum_by, if◌then◌else◌}
 use Rattle.std.specs.List.{AllByRecursion}
 use Rattle.std.specs.Str.{bytes_eq}
 use Rattle.std.proofs.lemmas.List.{map-append}
 use Rattle.def_grammar.specs.Records.{Record}
 use Rattle.lef_grammar.specs.Library.{Library}
+use Rattle.lef_grammar.specs.Measures.{Shape}
+use Rattle.connection_rules.specs.NetLines.{NetShape, shapes_of_net}
+use Rattle.connection_rules.specs.NetParts.{net_named}
+use Rattle.design_rules.specs.Boxes.{scale}
+use Rattle.line_laws.specs.Lines.{SameThings}
 use Rattle.net_laws.specs.NetChanges.{is_one_of}
 use Rattle.reports.specs.Answers.{Answers, box_in, length_in}
+use Rattle.reports.specs.Exchanges.{NetExchanged}
 use Rattle.followed_nets.specs.Listed.{AreApart}
 use Rattle.followed_nets.specs.StarHeads.{ArePinShapes, IsPinsBy, PinShapes, pin_names}
 use Rattle.followed_measures.specs.Exchanging.{AwaitsStar, AwaitsStars}
-use Rattle.followed_measures.specs.Moved.{HasNet, NetsMoved}
+use Rattle.followed_measures.specs.Moved.{HasNet, NetsMoved, nets_of, shapes_of}
 use Rattle.followed_measures.specs.Told.{IsNetIn, ToldNet, told_names}
-use Rattle.followed_measures.proofs.MoveLemmas.{more_moved, none_moved}
+use Rattle.followed_measures.proofs.MoveLemmas.{more_moved, none_moved, one_moved}
 
 -- the nets behind those that are left were exchanged
 pub record NetsLeft (library : Library) (old new : List Record) (all left : List (List ℕ)) (before now : Answers) : Type 0 where
@@ -128,3 +134,23 @@ module _ (library : Library) (old new : List Record) (component : List ℕ) (all
               comes = comes.1;
             }));
       }
+
+-- one more behind some
+pub one_more : {A : Type 0} (P : A → Type 0) (xs : List A) (x : A) → AllByRecursion P xs → P x → AllByRecursion P (xs ++ x ∷ [])
+one_more P [] x are own = (own, tt)
+one_more P (y ∷ xs) x are own = (are.0, one_more P xs x are.1 own)
+
+-- a net that is told in both designs
+pub net_moved : (library : Library) (old new : List Record) (before after : ToldNet) (a b : Answers) → IsNetIn library old before → IsNetIn library new after → after.name ≡ before.name
+    → NetExchanged before.name before.net_length after.net_length before.shapes after.shapes after.bounds a b → NetsMoved library old new (before.name ∷ []) a b
+net_moved library old new before after a b was is same e =
+    let name = before.name in
+    let now : IsNetIn library new (record { name = name; net_length = after.net_length; shapes = after.shapes; bounds = after.bounds }) =
+    subst (λ (n : List ℕ). IsNetIn library new (record { name = n; net_length = after.net_length; shapes = after.shapes; bounds = after.bounds })) same is in
+    one_moved library old new name before.net_length after.net_length before.shapes after.shapes [] after.bounds a b e (was.some, was.tell) (now.some, now.tell) was.length_is now.length_is now.bounds_are
+    (alone old before.shapes was.shapes_are) (alone new after.shapes now.shapes_are)
+  where
+    alone : (design : List Record) (shapes : List Shape) → shapes ≡ map (λ (s : NetShape). s.shape) (shapes_of_net (net_named library design (scale design) before.name)) → SameThings (shapes_of (nets_of library design (before.name ∷ []))) (shapes ++ [])
+    alone design shapes are = record {
+      sums = λ w. ap (sum_by w) (ap (map (λ (s : NetShape). s.shape)) (append-nil (shapes_of_net (net_named library design (scale design) before.name))) ∙ sym are ∙ sym (append-nil shapes));
+    }

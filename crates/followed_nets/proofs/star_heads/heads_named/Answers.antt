@@ -12,7 +12,7 @@ pub loop-name-preserved : goal.loop-name-preserved
 loop-name-preserved g c =
     let below : c.loop-name.name-index < length c.args.names.now = search rules in
     let named : (head_view c.in-Some.head).name ≡ c.name-item.result = search rules in
-    let head = rw (c.in-Some.is) at c.in_ok-star_head.ensures.head in
+    let head = rw (c.in-Some.is) at c.in_ok-head.ensures.head in
     let put = ap (map head_view) c.in_ok-push-in-Some.ensures.items ∙ map-append head_view c.loop-name.heads.items (c.in-Some.head ∷ []) in
     record {
       named = rw put (one_more_so_named (λ (h : Head). h.name) (map head_view c.loop-name.heads.items) c.args.names.now c.loop-name.name-index c.name-item.result (head_view c.in-Some.head) below c.name-item.is named c.loop-name.invariant.named);
