@@ -113,7 +113,7 @@ fn leaves_others<A: Allocator + Copy>(
     requires { (old : List (Number × Record)) × AreExchanges text.now.pieces.table.slots old made.now.exchanges (records_in text.now) }
     ensures { (old : List (Number × Record)) (common : List Number) → AreExchanges text.now.pieces.table.slots old made.now.exchanges (records_in text.now) → AreCommon old common
         → IfOk result (λ b. b ≡ true → Leaves (said old) (said (records_in text.now)) nets.now (option_map (λ w. w.now) component.entry) × AreCommon (records_in text.now) common
-            × (filter (is_of_cells (option_map (λ w. w.now) component.entry)) (said old) ≡ filter (is_of_cells (option_map (λ w. w.now) component.entry)) (said (records_in text.now)))) }
+        × (filter (is_of_cells (option_map (λ w. w.now) component.entry)) (said old) ≡ filter (is_of_cells (option_map (λ w. w.now) component.entry)) (said (records_in text.now)))) }
 {
     if !exchanges_are_within(alloc, text, made, nets, component)? {
         return Ok(false);
