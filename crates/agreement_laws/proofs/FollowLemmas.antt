@@ -104,3 +104,17 @@ follow_one library front out put behind component same = record {
       let right = times-append q (flat_map f design) (flat_map g (put ++ named)) in
       omega (arith, stay, g_stay, f_stay, here, there, went, came, left, right);
 }
+
+pub follow_named : (library : Library) (design other : List Record) (component : List ℕ) (picked : Record → Bool) (some : List Record)
+    → shown_but component design ≡ shown_but component other → ((r : Record) → picked r ≡ false → refers_to component r ≡ false)
+    → SameLines (flat_map (statement_lines library other) some ++ flat_map (statement_lines library design) (filter picked some))
+    (flat_map (statement_lines library design) some ++ flat_map (statement_lines library other) (filter picked some))
+follow_named library design other component picked some same so = record {
+  often = λ q.
+      let f = statement_lines library design in
+      let g = statement_lines library other in
+      let all = exchanged q f g picked (λ r apart. same_but library design other component r same (so r apart)) some in
+      let left = times-append q (flat_map g some) (flat_map f (filter picked some)) in
+      let right = times-append q (flat_map f some) (flat_map g (filter picked some)) in
+      omega (arith, all, left, right);
+}

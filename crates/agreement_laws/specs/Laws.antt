@@ -1,5 +1,5 @@
 -- Laws of lines on which two designs agree.
-use Rattle.std.specs.Prelude.{◌≡◌, ℕ, false, List, ◌++◌, filter, flat_map, map}
+use Rattle.std.specs.Prelude.{◌≡◌, ℕ, Bool, false, List, ◌++◌, filter, flat_map, map}
 use Rattle.std.specs.List.{AllByRecursion}
 use Rattle.def_grammar.specs.Records.{Record}
 use Rattle.design_rules.specs.CountLines.{count_lines}
@@ -50,6 +50,14 @@ LinesFollowOneComponent = (library : Library) (front out put behind : List Recor
     shown_but component design ≡ shown_but component other
     → SameLines (flat_map (statement_lines library other) other ++ flat_map (statement_lines library design) (out ++ named))
     (flat_map (statement_lines library design) design ++ flat_map (statement_lines library other) (put ++ named))
+
+-- By two such designs the lines on some statements differ on those alone that name the component, so at most on those that a test picks which lets none of
+-- them out.
+abbrev pub LinesFollowOneName : Type 0
+LinesFollowOneName = (library : Library) (design other : List Record) (component : List ℕ) (picked : Record → Bool) (some : List Record)
+    → shown_but component design ≡ shown_but component other → ((r : Record) → picked r ≡ false → refers_to component r ≡ false)
+    → SameLines (flat_map (statement_lines library other) some ++ flat_map (statement_lines library design) (filter picked some))
+    (flat_map (statement_lines library design) some ++ flat_map (statement_lines library other) (filter picked some))
 
 -- The lines on the numbers in headers depend on the outline of a design alone: an entry in the place of another leaves them.
 abbrev pub SameOutlineSameCounts : Type 0

@@ -6,7 +6,7 @@
 //! (`shown_but`) leaves them on all others that don't name such a component (`refers_to`).
 #![tactic(auto)]
 
-ghost use Rattle.agreement_laws.specs.Laws.{LinesFollowOneComponent, SameButOneSameLines, SameNamesSameLines, SameOutlineSameCounts, SameShownSameLines, SameStatementLines, SameViasSameLines, StatementLinesFollow};
+ghost use Rattle.agreement_laws.specs.Laws.{LinesFollowOneComponent, LinesFollowOneName, SameButOneSameLines, SameNamesSameLines, SameOutlineSameCounts, SameShownSameLines, SameStatementLines, SameViasSameLines, StatementLinesFollow};
 
 /// The lines on names that aren't defined depend on what is known of the names alone.
 pub fn same_names_same_lines()
@@ -41,6 +41,11 @@ pub fn same_but_one_same_lines()
 /// The lines on single statements follow a change of statements that shows others the same but for the components of one name.
 pub fn lines_follow_one_component()
     ensures { LinesFollowOneComponent }
+{}
+
+/// By two such designs the lines on some statements differ on those alone that name such a component.
+pub fn lines_follow_one_name()
+    ensures { LinesFollowOneName }
 {}
 
 /// The lines on the numbers in headers depend on the outline of a design alone.

@@ -1,4 +1,5 @@
 mod AnyOrder
+mod EntriesOnce
 mod EntryLists
 mod EntryPlaces
 mod FewMade

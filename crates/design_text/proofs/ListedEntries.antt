@@ -17,11 +17,6 @@ use Rattle.design_text.proofs.FoundStatements.{absent_number, differ, same}
 abbrev Located : Type 0
 Located = List (List Token × Record)
 
--- What was found of some numbers, of which some are left.
-pub record Going (c : Content) (all left : List StmtId) (last : Option StmtId) (found : List Record) : Type 0 where
-  pub so_far : (test : Record → Bool) → (list_any test found || list_any (λ id. says_one test (statement_under c id)) left) ≡ list_any (λ id. says_one test (statement_under c id)) all
-  pub known : IfSome last (λ id. (test : Record → Bool) → says_one test (statement_under c id) ≡ true → list_any test found ≡ true)
-
 or_right : (a b : Bool) → b ≡ true → (a || b) ≡ true
 or_right true b is = refl
 or_right false b is = is
@@ -73,9 +68,3 @@ module _ (wide test : Record → Bool) where
       ∙ sym (numbers_asked both wide (λ r so. wide_both (wide r) (test r) so) c design k ids all)
       ∙ any_within (λ id. says_one both (statement_under c id)) (λ id. says_one test (statement_under c id)) ids
       (λ id there. found_wide id (numbers_of c) (statements_of (text_of c)) k.once (sym (asked_all id) ∙ there))
-
--- an answer with what is known of it
-pub if_listed : {V E : Type 0} (P Q : V → Type 0) (r : Result (Option V) E) → ((v : V) → P v → Q v) → IfOk r (λ found. IfSome found P) → IfOk r (λ found. IfSome found Q)
-if_listed P Q (Ok None) so h = h
-if_listed P Q (Ok (Some v)) so h = so v h
-if_listed P Q (Err e) so h = h

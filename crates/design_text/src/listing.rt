@@ -1,80 +1,98 @@
 //! The entries of nets that list a component, by the tables.
 
-ghost use Rattle.std.specs.Prelude.{◌≡◌, ◌++◌, Bool, IfOk, IfSome, OnOk, Some, map, true};
+ghost use Rattle.std.specs.Prelude.{◌≡◌, ◌++◌, IfOk, IfSome, OnOk, flat_map, map};
 ghost use Rattle.std.specs.List.{list_any};
-ghost use Rattle.std.specs.Option.{option_map, option_to_list};
-ghost use Rattle.def_grammar.specs.Records.{Record};
+ghost use Rattle.std.specs.Option.{option_to_list};
+ghost use Rattle.design_model.specs.declared.identifier.StmtId.{StmtId as Number};
 ghost use Rattle.def_reader.specs.StatementViews.{record_view};
-ghost use Rattle.design_text.specs.DesignTexts.{design_of, says_one, statement_under};
-ghost use Rattle.design_text.specs.Listings.{HasListing};
+ghost use Rattle.text_pieces.specs.Chunks.{AreOnce};
+ghost use Rattle.design_tables.specs.Lookups.{is_number};
+ghost use Rattle.design_text.specs.DesignTexts.{design_of};
+ghost use Rattle.design_text.specs.Listings.{HasListing, ListsOnce, said_under};
 
 use crate::text::DesignText;
 use def_reader::statement::Statement;
-use def_splice::lying::Lying;
 use design_model::identifier::StmtId;
 use design_tables::Numbers;
 use std::alloc::{AllocError, Allocator};
 
-/// Puts a statement that was found behind others.
-fn push_found<'t, A: Allocator + Copy>(
-    statements: &mut Vec<Statement<'t>, A>,
-    found: Option<(Statement<'t>, Lying<'t>)>,
-) -> Result<(), AllocError>
-    ensures { OnOk result (map record_view statements.new.items ≡ map record_view statements.old.items ++ option_to_list (option_map (λ x. record_view x.0) found.entry)) }
+/// Whether a number is one of these.
+fn is_one_of(ids: &[StmtId], id: StmtId) -> bool
+    ensures { result ≡ list_any (is_number id) ids.now }
 {
-    if let Some((statement, _)) = found {
-        statements.push(statement)?;
+    for other in ids {
+        if other.0 == id.0 {
+            return true;
+        }
     }
-    Ok(())
+    false
 }
 
-/// Whether a number is that of the last statement.
-fn is_last(last: Option<StmtId>, id: StmtId) -> bool
-    ensures { result ≡ true → last ≡ Some id }
+/// Numbers, each once, unless there are more than `most`.
+fn each_once<A: Allocator + Copy>(
+    alloc: A,
+    numbers: Numbers<'_>,
+    most: usize,
+) -> Result<Option<Vec<StmtId, A>>, AllocError>
+    ensures once { IfOk result (λ found. IfSome found (λ v. AreOnce v.items)) }
+    ensures same { IfOk result (λ found. IfSome found (λ v. (id : Number) → list_any (is_number id) v.items ≡ list_any (is_number id) numbers.entry)) }
 {
-    match last {
-        Some(number) => number == id,
-        None => false,
+    let mut left = numbers;
+    let mut ids = Vec::new(alloc);
+    while let Some(id) = left.next() {
+        if !is_one_of(&ids, id) {
+            if ids.len() == most {
+                return Ok(None);
+            }
+            ids.push(id)?;
+        }
     }
+    Ok(Some(ids))
 }
 
 impl<A: Allocator + Copy> DesignText<A> {
-    /// The statements of some numbers, unless there are more than `most`. One whose number comes again at once isn't put twice.
-    fn all_found(
-        &self,
-        alloc: A,
-        numbers: Numbers<'_>,
-        most: usize,
-    ) -> Result<Option<Vec<Statement<'_>, A>>, AllocError>
-        ensures { IfOk result (λ found. IfSome found (λ v. (test : Record → Bool) → list_any test (map record_view v.items) ≡ list_any (λ id. says_one test (statement_under self.entry.now id)) numbers.entry)) }
+    /// Puts the statement of a number behind others.
+    fn push_found<'t>(
+        &'t self,
+        id: StmtId,
+        statements: &mut Vec<Statement<'t>, A>,
+    ) -> Result<(), AllocError>
+        ensures { OnOk result (map record_view statements.new.items ≡ map record_view statements.old.items ++ option_to_list (said_under self.entry.now id)) }
     {
-        let mut left = numbers;
-        let mut last = None;
-        let mut statements = Vec::new(alloc);
-        while let Some(id) = left.next() {
-            if !is_last(last, id) {
-                if statements.len() == most {
-                    return Ok(None);
-                }
-                push_found(&mut statements, self.found(id))?;
-                last = Some(id);
-            }
+        if let Some((statement, _)) = self.found(id) {
+            statements.push(statement)?;
         }
-        Ok(Some(statements))
+        Ok(())
     }
 
-    /// The entries of NETS and SPECIALNETS that list a pin of a component by its name, unless there are more than `most`. They alone
-    /// are read, and one may come several times.
+    /// The statements of some numbers.
+    fn all_found(&self, alloc: A, ids: &[StmtId]) -> Result<Vec<Statement<'_>, A>, AllocError>
+        ensures { IfOk result (λ v. map record_view v.items ≡ flat_map (λ id. option_to_list (said_under self.entry.now id)) ids.now) }
+    {
+        let mut statements = Vec::new(alloc);
+        for id in ids {
+            self.push_found(*id, &mut statements)?;
+        }
+        Ok(statements)
+    }
+
+    /// The entries of NETS and SPECIALNETS that list a pin of a component by its name, each once, unless there are more than `most`.
+    /// They alone are read.
     pub fn entries_listing(
         &self,
         alloc: A,
         component: &[u8],
         most: usize,
     ) -> Result<Option<Vec<Statement<'_>, A>>, AllocError>
-        ensures { IfOk result (λ found. IfSome found (λ v. HasListing component.now (design_of self.entry.now) (map record_view v.items))) }
+        ensures listing { IfOk result (λ found. IfSome found (λ v. HasListing component.now (design_of self.entry.now) (map record_view v.items))) }
+        ensures once { IfOk result (λ found. IfSome found (λ v. ListsOnce component.now (design_of self.entry.now) (map record_view v.items))) }
     {
         self.statements_are_known();
         self.design_is_read();
-        self.all_found(alloc, self.tables.nets_of(component), most)
+        let Some(ids) = each_once(alloc, self.tables.nets_of(component), most)? else {
+            return Ok(None);
+        };
+        let entries = self.all_found(alloc, &ids)?;
+        Ok(Some(entries))
     }
 }

@@ -17,7 +17,7 @@ use design_model::mode::Section;
 use design_model::number::NumFault;
 use edit_model::edit::{EditCode, EditRefusal};
 use edit_session::session::Session;
-use script_lines::answer::{check_text, entry_text};
+use script_lines::answer::entry_text;
 use script_lines::command::Question;
 use script_lines::measured::{box_text, cell_text, length_text, place_cell_text, total_text};
 use std::alloc::{AllocError, Allocator};
@@ -40,7 +40,6 @@ fn refused<A: Allocator>(
 
 /// The answer to `check`.
 fn check_answer<A: Allocator + Copy>(
-    alloc: A,
     session: &mut Session<'_, '_, A>,
     number: u64,
     tally: &mut Tally,
@@ -50,8 +49,7 @@ fn check_answer<A: Allocator + Copy>(
     ensures same { session.new ≡ session.old }
     ensures tally { tally.new ≡ tally.old }
 {
-    let lines = session.diagnostics()?;
-    check_text(alloc, &lines)
+    session.printed_diagnostics()
 }
 
 /// The answer to `show S n`.
@@ -281,7 +279,7 @@ pub(crate) fn answer_question<A: Allocator + Copy>(
     ensures grows { Grows tally.old tally.new }
 {
     match question {
-        Question::Report => check_answer(alloc, session, number, tally),
+        Question::Report => check_answer(session, number, tally),
         Question::Show(section, name) => show_answer(alloc, session, number, section, name, tally),
         Question::TotalLength => total_answer(alloc, session, number, tally),
         Question::Length(net) => length_answer(alloc, session, number, net, tally),

@@ -1,19 +1,17 @@
 -- Lines that are made by putting parts behind one another.
-use Rattle.std.proofs.Common.{◌≡◌, ℕ, List, [], ◌++◌, Option, Some, None, Result, Ok, Err, ap, ◌∙◌, subst, arith, cond}
-use Rattle.std.specs.Prelude.{IfOk, IfSome, IsPermutation, IsSome, MatchOption}
+use Rattle.std.proofs.Common.{◌≡◌, ℕ, List, ◌++◌, Option, Some, None, Result, Ok, Err, ap, ◌∙◌, subst, arith, cond}
+use Rattle.std.specs.Prelude.{IfOk, IfSome, MatchOption}
 use Rattle.std.specs.Str.{bytes_eq}
-use Rattle.std.proofs.lemmas.List.Sorted.{All-permutation, sum_by-IsPermutation}
+use Rattle.std.proofs.lemmas.List.Sorted.{sum_by-IsPermutation}
 use Rattle.design_model.specs.declared.diagnostic.DiagLine.{DiagLine}
-use Rattle.design_model.specs.Lines.{IsOfItsKind}
 use Rattle.design_model.specs.Order.{sorted_by_bytes, texts}
 use Rattle.kept_lines.specs.Kept.{Kept}
-use Rattle.line_laws.specs.SortingLaws.{SortingIsByLines}
+use Rattle.line_laws.specs.SortingLaws.{SameLinesSortAlike, SortingIsByLines}
 use Rattle.line_laws.specs.Lines.{SameLines, times}
 use Rattle.line_laws.proofs.PairSums.{times-append}
 use Rattle.def_grammar.specs.Records.{Record, read_def}
 use Rattle.lef_grammar.specs.Library.{Library}
 use Rattle.net_checks.specs.Drawings.{Drawing, IsDrawingOf}
-use Rattle.report_lines.specs.Kinds.{HaveTheirKinds}
 use Rattle.report_rules.specs.Diagnostics.{diagnostics}
 use Rattle.edit_session.specs.Sessions.{AreDiagnostics}
 use Rattle.edit_session.specs.Known.{AreKept, IsDrawingOfText}
@@ -32,27 +30,21 @@ module _ (old : Lines) where
 pub sorted_same : SortingIsByLines → (q : List ℕ) (lines : Lines) → times q (sorted_by_bytes lines) ≡ times q lines
 sorted_same law q lines = sum_by-IsPermutation (λ x. cond (bytes_eq q x) 1 0) lines (sorted_by_bytes lines) (law.0 lines).same
 
--- copies of lines that are known, behind others
-pub copies_of : (known : Option Kept) (before after lines : Lines) → IsSome known → IfSome known (λ k. after ≡ before ++ k.lines) → IfSome known (AreKept lines) → after ≡ before ++ sorted_by_bytes lines
-copies_of None before after lines some copied kept = cc
-copies_of (Some k) before after lines some copied kept = copied ∙ ap (λ (l : Lines). before ++ l) kept
+-- lines of a part that is known
+pub kept_are : (part : Option Kept) (kept : Kept) (lines : Lines) → part ≡ Some kept → IfSome part (AreKept lines) → kept.lines ≡ sorted_by_bytes lines
+kept_are part kept lines is known = subst (λ o. IfSome o (AreKept lines)) is known
 
--- the sorted lines of three parts, one behind the other, are all lines
-pub joined_parts : SortingIsByLines → (v0 v1 v2 v3 s p n all : Lines) → v0 ≡ [] → v1 ≡ v0 ++ sorted_by_bytes s → v2 ≡ v1 ++ sorted_by_bytes p → v3 ≡ v2 ++ sorted_by_bytes n
-    → SameLines (s ++ (p ++ n)) all → SameLines v3 all
-joined_parts law v0 v1 v2 v3 s p n all h0 h1 h2 h3 parts = record {
+-- the sorted lines of three parts, in one order, are all lines in order
+pub parts_in_order : SortingIsByLines → SameLinesSortAlike → (a b c s p n all : Lines) → a ≡ sorted_by_bytes s → b ≡ sorted_by_bytes p → c ≡ sorted_by_bytes n
+    → SameLines (s ++ (p ++ n)) all → sorted_by_bytes (a ++ (b ++ c)) ≡ sorted_by_bytes all
+parts_in_order law alike a b c s p n all h1 h2 h3 parts = alike (a ++ (b ++ c)) all (record {
   often = λ q.
-      let e0 : times q v0 ≡ 0 = ap (times q) h0 in
-      let e1 : times q v1 ≡ times q (v0 ++ sorted_by_bytes s) = ap (times q) h1 in
-      let e2 : times q v2 ≡ times q (v1 ++ sorted_by_bytes p) = ap (times q) h2 in
-      let e3 : times q v3 ≡ times q (v2 ++ sorted_by_bytes n) = ap (times q) h3 in
+      let e1 : times q a ≡ times q (sorted_by_bytes s) = ap (times q) h1 in
+      let e2 : times q b ≡ times q (sorted_by_bytes p) = ap (times q) h2 in
+      let e3 : times q c ≡ times q (sorted_by_bytes n) = ap (times q) h3 in
       let e4 = parts.often q in
-      omega (arith, e0, e1, e2, e3, e4, sorted_same law q s, sorted_same law q p, sorted_same law q n, times-append q v0 (sorted_by_bytes s), times-append q v1 (sorted_by_bytes p), times-append q v2 (sorted_by_bytes n), times-append q s (p ++ n), times-append q p n);
-}
-
--- lines in another order have their kinds too
-pub kinds_moved : {A : Type 0} (old new : List (DiagLine A)) → IsPermutation old new → HaveTheirKinds old → HaveTheirKinds new
-kinds_moved old new moved k = record { each = All-permutation IsOfItsKind old new moved k.each }
+      omega (arith, e1, e2, e3, e4, sorted_same law q s, sorted_same law q p, sorted_same law q n, times-append q a (b ++ c), times-append q b c, times-append q s (p ++ n), times-append q p n);
+})
 
 -- what holds of the design that a text reads as
 pub of_this : (T : List Record → Type 0) (text : List ℕ) (design other : List Record) → read_def text ≡ Ok design → read_def text ≡ Ok other → T design → T other
@@ -65,8 +57,9 @@ drawn_of Known library text design (Ok None) reads h = h
 drawn_of Known library text design (Ok (Some d)) reads h = λ other also. of_this (λ (it : List Record). IsDrawingOf library it d) text design other reads also h
 drawn_of Known library text design (Err e) reads h = tt
 
-pub told_of : {A E : Type 0} (library : Library) (text : List ℕ) (design : List Record) (r : Result (List (DiagLine A)) E) → read_def text ≡ Ok design
-    → IfOk r (λ lines. texts lines ≡ diagnostics library design)
-    → IfOk r (λ lines. AreDiagnostics library text lines)
-told_of library text design (Ok lines) reads h = (design, reads, h)
-told_of library text design (Err e) reads h = tt
+-- an answer that sees these lines sees all diagnostics
+pub told_of : {A V E : Type 0} (seen : V → List (DiagLine A)) (library : Library) (text : List ℕ) (design : List Record) (r : Result V E) → read_def text ≡ Ok design
+    → IfOk r (λ v. texts (seen v) ≡ diagnostics library design)
+    → IfOk r (λ v. AreDiagnostics library text (seen v))
+told_of seen library text design (Ok v) reads h = (design, reads, h)
+told_of seen library text design (Err e) reads h = tt

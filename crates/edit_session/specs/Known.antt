@@ -17,7 +17,7 @@ use Rattle.followed_nets.specs.FollowedNets.{HasNets, Nets}
 use Rattle.followed_nets.specs.Touched.{AreTouched, Touched}
 use Rattle.followed_places.specs.Places.{AreOnPlaces, HasPlaces, Places, said}
 use Rattle.followed_statements.specs.Following.{AreOnStatements}
-use Rattle.followed_statements.specs.Telling.{AreHeadersTold}
+use Rattle.followed_statements.specs.Telling.{AreStatementsTold}
 use Rattle.design_model.specs.declared.identifier.StmtId.{StmtId}
 use Rattle.edit_session.specs.declared.known_lines.KnownLines.{KnownLines}
 use Rattle.edit_session.specs.declared.noted.FollowedLines.{FollowedLines}
@@ -56,7 +56,7 @@ pub record HasNoted {A : Type 0} (library : Library) (records : List (StmtId × 
 
 -- what is told of a design before an edit, as far as it is
 pub record AreTold {A : Type 0} (library : Library) (design : List Record) (t : Told A) : Type 0 where
-  pub statements : IfSome t.statements (AreHeadersTold design)
+  pub statements : IfSome t.statements (AreStatementsTold library design)
   pub nets : IfSome t.nets (AreTouched library design)
   pub measures : IfSome t.measures (λ m. IsToldIn library design (told_view m))
 

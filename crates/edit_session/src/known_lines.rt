@@ -1,6 +1,6 @@
 //! Lines of a report that are known from one question to the next.
 
-ghost use Rattle.std.specs.Prelude.{◌≡◌, ◌++◌, true, IfOk, IfSome, List, OnOk};
+ghost use Rattle.std.specs.Prelude.{◌≡◌, true, IfOk, IsSome, List, Some, map};
 ghost use Rattle.design_model.specs.Order.{texts};
 ghost use Rattle.def_grammar.specs.Records.{Record};
 ghost use Rattle.lef_grammar.specs.Library.{Library as TheLibrary};
@@ -9,9 +9,8 @@ ghost use Rattle.report_rules.specs.Diagnostics.{diagnostics};
 ghost use Rattle.edit_session.specs.Known.{AllKnown, AreKnown, HasFollowed};
 
 use crate::noted::FollowedLines;
-use design_model::diagnostic::{DiagLine, DiagLines, sort_lines};
-use design_model::sequence::Sequence;
-use kept_lines::KeptLines;
+use design_model::diagnostic::{DiagLine, DiagLines};
+use kept_lines::{KeptLines, all_merged, copies};
 use line_laws::sorting::{same_lines_sort_alike, sorting_is_by_lines};
 use staying_laws::parts_are_all;
 use std::alloc::{AllocError, Allocator, Global};
@@ -37,19 +36,14 @@ impl<A: Allocator> Drop for KnownLines<A> {
     }
 }
 
-/// Puts copies of lines, where they are known, behind others.
-fn put_copies<A: Allocator + Copy>(
-    alloc: A,
-    known: &Option<KeptLines<A>>,
-    lines: &mut Vec<DiagLine<A>, A>,
-) -> Result<(), AllocError>
-    requires { HaveTheirKinds lines.old.items }
-    ensures lines { IfSome known.now (λ kept. OnOk result (texts lines.new.items ≡ texts lines.old.items ++ kept.lines)) }
-    ensures kinds { OnOk result (HaveTheirKinds lines.new.items) }
+/// The lines of a part that is known.
+fn kept_of<A: Allocator>(part: &Option<KeptLines<A>>) -> &KeptLines<A>
+    requires { IsSome part.now }
+    ensures { part.now ≡ Some result.now }
 {
-    match known {
-        Some(kept) => kept.copy_to(alloc, lines),
-        None => Ok(()),
+    match part {
+        Some(kept) => kept,
+        None => unreachable!(),
     }
 }
 
@@ -93,22 +87,28 @@ impl<A: Allocator + Copy> KnownLines<A> {
         }
     }
 
+    /// All lines, in the order of their bytes. Each part is in that order, so they are merged and not sorted.
+    pub(crate) fn lent(&self, alloc: A) -> Result<Vec<&DiagLine<A>, A>, AllocError>
+        requires { AllKnown self.now }
+        ensures lines { (library : TheLibrary) (design : List Record) → AreKnown library design self.now → IfOk result (λ v. texts (map (λ l. l.now) v.items) ≡ diagnostics library design) }
+        ensures kinds { IfOk result (λ v. HaveTheirKinds (map (λ l. l.now) v.items)) }
+    {
+        same_lines_sort_alike();
+        sorting_is_by_lines();
+        parts_are_all();
+        let statements = kept_of(&self.statements);
+        let places = kept_of(&self.places);
+        let nets = kept_of(&self.nets);
+        all_merged(alloc, statements, places, nets)
+    }
+
     /// Copies of all lines, in the order of their bytes.
     pub(crate) fn joined(&self, alloc: A) -> Result<DiagLines<A>, AllocError>
         requires { AllKnown self.now }
         ensures lines { (library : TheLibrary) (design : List Record) → AreKnown library design self.now → IfOk result (λ lines. texts lines ≡ diagnostics library design) }
         ensures kinds { IfOk result (λ lines. HaveTheirKinds lines) }
     {
-        same_lines_sort_alike();
-        sorting_is_by_lines();
-        parts_are_all();
-        let mut lines = Vec::new(alloc);
-        put_copies(alloc, &self.statements, &mut lines)?;
-        put_copies(alloc, &self.places, &mut lines)?;
-        put_copies(alloc, &self.nets, &mut lines)?;
-        // The parts are in order, and a stable sort merges them. Behind it all are in order, which the other one sees in one pass.
-        lines.sort_by(|a, b| a.text.as_slice().cmp(b.text.as_slice()))?;
-        sort_lines(&mut lines);
-        Ok(Sequence::from_vec(lines))
+        let lent = self.lent(alloc)?;
+        copies(alloc, &lent)
     }
 }

@@ -46,7 +46,7 @@ impl<A: Allocator + Copy> Drop for Noted<A> {
 /// What an edit is about to change, as it is before it.
 #[derive(Drop)]
 pub(crate) struct Told<A: Allocator + Copy = Global> {
-    /// What lines on statements need to follow an edit of sections: `None` for others.
+    /// What lines on statements need to follow an edit of sections or of a component's macro: `None` for others.
     pub(crate) statements: Option<ToldStatements<A>>,
     /// The nets that it touches: `None` where lines on nets aren't to follow it.
     pub(crate) nets: Option<TouchedNets<A>>,
@@ -100,7 +100,7 @@ impl<A: Allocator + Copy> Noted<A> {
         let nets = note_nets(alloc, library, text, change, known, &mut self.nets);
         let measures = tell_measures(alloc, library, text, change, &mut self.measures);
         Told {
-            statements: tell_known(alloc, text, change, known),
+            statements: tell_known(alloc, library, text, change, known),
             nets,
             measures,
         }

@@ -15,6 +15,8 @@ ghost use Rattle.lef_grammar.specs.Measures.{place_among};
 ghost use Rattle.measure_rules.specs.Density.{cell_density, place_density};
 ghost use Rattle.measure_rules.specs.Lengths.{net_length, total_length};
 ghost use Rattle.measure_rules.specs.NetBoxes.{net_box};
+ghost use Rattle.report_rules.specs.Diagnostics.{diagnostics};
+ghost use Rattle.report_rules.specs.Output.{report_lines};
 ghost use Rattle.design_text.specs.DesignTexts.{text_of};
 ghost use Rattle.design_text.specs.Editing.{KeepsTheRest, ReadsEdited};
 ghost use Rattle.design_text.specs.FewReads.{ReadsFew, new_in};
@@ -37,6 +39,7 @@ use design_model::identifier::LayerId;
 use design_model::mode::Section;
 use design_text::text::DesignText;
 use edit_model::edit::{Done, Edit, EditRefusal};
+use script_lines::answer::check_text;
 use std::alloc::{AllocError, Allocator, Global};
 use std::io::Write;
 use std::marker::Model;
@@ -240,6 +243,17 @@ impl<'s, 'l, A: Allocator + Copy> Session<'s, 'l, A> {
     {
         know_lines(self.alloc, self.library, &self.text, &mut self.known)?;
         self.known.joined(self.alloc)
+    }
+
+    /// All diagnostics as they are printed, each with a line end, and behind them their number. The lines that are kept are read as they
+    /// are, and none is copied.
+    pub fn printed_diagnostics(&mut self) -> Result<Vec<u8, A>, AllocError>
+        ensures text { IfOk result (λ v. Measures self.old.text (λ design. report_lines (diagnostics self.old.library design)) v.items) }
+        ensures same { self.new ≡ self.old }
+    {
+        know_lines(self.alloc, self.library, &self.text, &mut self.known)?;
+        let lines = self.known.lent(self.alloc)?;
+        check_text(self.alloc, &lines)
     }
 
     /// The length of the wires of a net, in database units; `None` where there is no such net. Measures are made at the first

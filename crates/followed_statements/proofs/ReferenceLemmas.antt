@@ -1,4 +1,4 @@
--- Which statements refer to a component: entries of nets that list it.
+-- Which statements refer to a component, and which list it: entries of nets.
 use Rattle.std.proofs.Common.{◌≡◌, ◌||◌, ◌&&◌, ℕ, Bool, true, false, not, List, [], ◌∷◌, ◌++◌, filter, flat_map, map, refl, ap, ap₂, ◌∙◌, if◌then◌else◌, codes}
 use Rattle.std.specs.Prelude.{Option, Some, None}
 use Rattle.std.specs.List.{filter_map, list_any}
@@ -25,8 +25,7 @@ use Rattle.entry_rules.specs.References.{Reference, entry_references, first_to, 
 use Rattle.agreement_laws.specs.Agreement.{names_component, refers_to}
 use Rattle.design_tables.specs.Lookups.{is_of, lists}
 use Rattle.design_tables.specs.Marks.{terminals_of}
-use Rattle.design_text.specs.Listings.{HasListing}
-use Rattle.followed_statements.specs.Seen.{NoneRefers, is_of_net}
+use Rattle.followed_statements.specs.Seen.{is_of_net, listing, listing_one}
 
 -- neither of two is
 pub neither : (b c : Bool) → (b || c) ≡ false → (b ≡ false) × (c ≡ false)
@@ -117,28 +116,6 @@ module _ (c : List ℕ) where
   of_top (row r) = refl
   of_top _ = refl
 
-  -- a statement that is no net
-  no_net_refers : (r : Record) → is_of_net r ≡ false → refers_to c r ≡ false
-  no_net_refers (entry (records.net n)) h = absurd (cc)
-  no_net_refers (entry (records.special_net n)) h = absurd (cc)
-  no_net_refers (entry (records.component x)) h = of_entry (records.component x) refl
-  no_net_refers (entry (records.pin x)) h = of_entry (records.pin x) refl
-  no_net_refers (entry (records.region x)) h = refl
-  no_net_refers (entry (records.group x)) h = of_entry (records.group x) refl
-  no_net_refers (entry (records.blockage x)) h = of_entry (records.blockage x) refl
-  no_net_refers (entry (records.via x)) h = of_entry (records.via x) refl
-  no_net_refers (entry (records.rule x)) h = of_entry (records.rule x) refl
-  no_net_refers (entry (records.skipped s x)) h = refl
-  no_net_refers (top t) h = of_top t
-  no_net_refers (in_properties p) h = refl
-  no_net_refers (end_section s) h = refl
-
-  no_nets_refer : (rs : List Record) → list_any is_of_net rs ≡ false → list_any (refers_to c) rs ≡ false
-  no_nets_refer [] h = refl
-  no_nets_refer (r ∷ rs) h =
-      let both = neither (is_of_net r) (list_any is_of_net rs) h in
-      ap₂ (λ (a b : Bool). a || b) (no_net_refers r both.0) (no_nets_refer rs both.1)
-
   -- a terminal that is no pin of it
   by_owner : (d o : Bool) → (o ≡ true → d ≡ false) → (not d && o) ≡ false → (o || false) ≡ false
   by_owner d false apart h = refl
@@ -162,26 +139,38 @@ module _ (c : List ℕ) where
         let both = neither (is_of c t) (list_any (is_of c) ts) h in
         joined (terminal_references t) (flat_map terminal_references ts) (of_terminal t both.0) (of_terminals ts both.1)
 
-    unlisted : (r : Record) → lists (is_of c) r ≡ false → refers_to c r ≡ false
+    pub unlisted : (r : Record) → lists (is_of c) r ≡ false → refers_to c r ≡ false
     unlisted (entry e) h = of_entry e (of_terminals (terminals_of e) h)
     unlisted (top t) h = of_top t
     unlisted (in_properties p) h = refl
     unlisted (end_section s) h = refl
 
--- a test that only some pass which another test lets through
-let_through : (p : Record → Bool) (b : Bool) (r : Record) (rs some : List Record) → (b ≡ false → p r ≡ false) → list_any p rs ≡ list_any p some
-    → (p r || list_any p rs) ≡ list_any p (if b then r ∷ some else some)
-let_through p true r rs some h same = ap (λ (b : Bool). p r || b) same
-let_through p false r rs some h same = ap (λ (b : Bool). b || list_any p rs) (h refl) ∙ same
+-- a statement that is no net lists none
+no_net_lists : (c : List ℕ) (r : Record) → is_of_net r ≡ false → lists (is_of c) r ≡ false
+no_net_lists c (entry (records.net n)) h = absurd (cc)
+no_net_lists c (entry (records.special_net n)) h = absurd (cc)
+no_net_lists c (entry (records.component x)) h = refl
+no_net_lists c (entry (records.pin x)) h = refl
+no_net_lists c (entry (records.region x)) h = refl
+no_net_lists c (entry (records.group x)) h = refl
+no_net_lists c (entry (records.blockage x)) h = refl
+no_net_lists c (entry (records.via x)) h = refl
+no_net_lists c (entry (records.rule x)) h = refl
+no_net_lists c (entry (records.skipped s x)) h = refl
+no_net_lists c (top t) h = refl
+no_net_lists c (in_properties p) h = refl
+no_net_lists c (end_section s) h = refl
 
-any_among : (p q : Record → Bool) → ((r : Record) → q r ≡ false → p r ≡ false) → (rs : List Record) → list_any p rs ≡ list_any p (filter q rs)
-any_among p q h [] = refl
-any_among p q h (r ∷ rs) = let_through p (q r) r rs (filter q rs) (h r) (any_among p q h rs)
+without_it : (b : Bool) (r : Record) (rs : List Record) → b ≡ false → rs ≡ [] → (if b then r ∷ rs else rs) ≡ []
+without_it true r rs h none = absurd (cc)
+without_it false r rs h none = none
 
--- no statement refers to a component that no net lists
-pub unlisted_unreferred : (c : List ℕ) (design : List Record) → is_word (codes "PIN") c ≡ false → HasListing c design [] → NoneRefers (Some c) design
-unlisted_unreferred c design no_pin listing = any_among (refers_to c) (lists (is_of c)) (unlisted c no_pin) design ∙ listing (refers_to c)
+none_listing : (c : List ℕ) (rs : List Record) → list_any is_of_net rs ≡ false → listing c rs ≡ []
+none_listing c [] h = refl
+none_listing c (r ∷ rs) h =
+    let both = neither (is_of_net r) (list_any is_of_net rs) h in
+    without_it (lists (is_of c) r) r (listing c rs) (no_net_lists c r both.0) (none_listing c rs both.1)
 
-pub no_nets_none_refers : (c : Option (List ℕ)) (rs : List Record) → list_any is_of_net rs ≡ false → NoneRefers c rs
-no_nets_none_refers None rs h = tt
-no_nets_none_refers (Some c) rs h = no_nets_refer c rs h
+pub no_nets_list : (c : Option (List ℕ)) (rs : List Record) → list_any is_of_net rs ≡ false → listing_one c rs ≡ []
+no_nets_list None rs h = refl
+no_nets_list (Some c) rs h = none_listing c rs h

@@ -1,23 +1,22 @@
 -- What others see of statements but for a component.
-use Rattle.std.proofs.Common.{◌≡◌, ◌&&◌, ◌||◌, ℕ, Bool, true, false, not, List, [], ◌∷◌, ◌++◌, filter, map, refl, sym, ap, ap₂, ◌∙◌, if◌then◌else◌}
+use Rattle.std.proofs.Common.{◌≡◌, ◌&&◌, ℕ, Bool, true, false, not, List, [], ◌∷◌, ◌++◌, filter, map, refl, sym, ap, ap₂, ◌∙◌, if◌then◌else◌}
 use Rattle.std.specs.Prelude.{Option, Some, None}
-use Rattle.std.specs.List.{cons_option, filter_map, list_any}
+use Rattle.std.specs.List.{cons_option, filter_map}
 use Rattle.std.proofs.lemmas.List.{map-append}
 use Rattle.std.proofs.lemmas.List.Elements.{filter-append, filter_map-append}
-use Rattle.std.proofs.lemmas.List.Folds.{list_any-append}
 use Rattle.design_model.specs.declared.identifier.StmtId.{StmtId}
 use Rattle.design_model.specs.EnumWords.{section_word}
 use Rattle.def_grammar.specs.Nets.{is_net, must_join}
 use Rattle.def_grammar.specs.Records as records
 use Rattle.def_grammar.specs.Records.{Entry, Record, entry_of, name_of}
 use Rattle.entry_rules.specs.Unknown.{is_same}
-use Rattle.agreement_laws.specs.Agreement.{Shown, all_shown, is_named, refers_to, shown, shows_component}
+use Rattle.agreement_laws.specs.Agreement.{Shown, all_shown, is_named, shown, shows_component}
 use Rattle.text_pieces.specs.Tables.{Kept}
+use Rattle.design_tables.specs.Lookups.{is_of, lists}
 use Rattle.design_text.specs.Exchanges.{Exchanged, IsExchange}
 use Rattle.followed_statements.specs.Following.{said}
-use Rattle.followed_statements.specs.Seen.{NoneRefers, ShowAllBut, is_component, is_seen, is_seen_entry, is_seen_record, seen_but}
+use Rattle.followed_statements.specs.Seen.{ShowAllBut, is_component, is_seen, is_seen_entry, is_seen_record, listing_one, seen_but}
 use Rattle.followed_statements.proofs.ExchangeLemmas.{kept, said_parted}
-use Rattle.followed_statements.proofs.ReferenceLemmas.{neither}
 
 pub shown-append : (xs ys : List Record) → all_shown (xs ++ ys) ≡ all_shown xs ++ all_shown ys
 shown-append xs ys =
@@ -33,37 +32,38 @@ seen-append (Some c) xs ys =
 seen_parted : (c : Option (List ℕ)) (front some rest : List Record) → seen_but c (front ++ (some ++ rest)) ≡ seen_but c front ++ (seen_but c some ++ seen_but c rest)
 seen_parted c front some rest = seen-append c front (some ++ rest) ∙ ap (λ (l : List Shown). seen_but c front ++ l) (seen-append c some rest)
 
-none_in_both : (c : Option (List ℕ)) (xs ys : List Record) → NoneRefers c xs → NoneRefers c ys → NoneRefers c (xs ++ ys)
-none_in_both None xs ys h k = tt
-none_in_both (Some c) xs ys h k = list_any-append (refers_to c) xs ys ∙ ap₂ (λ (a b : Bool). a || b) h k
+listing-append : (c : Option (List ℕ)) (xs ys : List Record) → listing_one c (xs ++ ys) ≡ listing_one c xs ++ listing_one c ys
+listing-append None xs ys = refl
+listing-append (Some c) xs ys = filter-append (lists (is_of c)) xs ys
 
-none_in_each : (c : Option (List ℕ)) (xs ys : List Record) → NoneRefers c (xs ++ ys) → NoneRefers c xs × NoneRefers c ys
-none_in_each None xs ys h = (tt, tt)
-none_in_each (Some c) xs ys h = neither (list_any (refers_to c) xs) (list_any (refers_to c) ys) (sym (list_any-append (refers_to c) xs ys) ∙ h)
+listing_parted : (c : Option (List ℕ)) (front some rest : List Record) → listing_one c (front ++ (some ++ rest)) ≡ listing_one c front ++ (listing_one c some ++ listing_one c rest)
+listing_parted c front some rest =
+    listing-append c front (some ++ rest) ∙ ap (λ (l : List Record). listing_one c front ++ l) (listing-append c some rest)
 
 -- the relation goes on
 pub seen_themselves : (c : Option (List ℕ)) (rs : List Record) → ShowAllBut c rs rs
-seen_themselves c rs = record { seen = refl; refers = λ h. h }
+seen_themselves c rs = record { seen = refl; listing = refl }
 
 pub seen_chain : (c : Option (List ℕ)) (x y z : List Record) → ShowAllBut c x y → ShowAllBut c y z → ShowAllBut c x z
-seen_chain c x y z f g = record { seen = f.seen ∙ g.seen; refers = λ h. f.refers (g.refers h) }
+seen_chain c x y z f g = record { seen = f.seen ∙ g.seen; listing = f.listing ∙ g.listing }
 
--- where those that went show the same as those that came, and none of them refers to the component
-seen_between : (c : Option (List ℕ)) (front went came rest : List Record) → seen_but c went ≡ seen_but c came → NoneRefers c went
+-- where those that went show the same as those that came, and those of them that list the component are the same
+seen_between : (c : Option (List ℕ)) (front went came rest : List Record) → seen_but c went ≡ seen_but c came → listing_one c went ≡ listing_one c came
     → ShowAllBut c (front ++ (went ++ rest)) (front ++ (came ++ rest))
-seen_between c front went came rest same none = record {
+seen_between c front went came rest same listed = record {
   seen = seen_parted c front went rest ∙ ap (λ (l : List Shown). seen_but c front ++ (l ++ seen_but c rest)) same ∙ sym (seen_parted c front came rest);
-  refers = λ h.
-      let parts = none_in_each c front (came ++ rest) h in
-      let behind = none_in_each c came rest parts.1 in
-      none_in_both c front (went ++ rest) parts.0 (none_in_both c went rest none behind.1);
+  listing =
+      listing_parted c front went rest
+      ∙ ap (λ (l : List Record). listing_one c front ++ (l ++ listing_one c rest)) listed
+      ∙ sym (listing_parted c front came rest);
 }
 
 pub exchange_seen : (c : Option (List ℕ)) (slots : List (Option Kept)) (old new : List (StmtId × Record)) (x : Exchanged) → IsExchange slots old new x
-    → seen_but c (kept slots x.went) ≡ seen_but c (kept slots x.came) → NoneRefers c (kept slots x.went) → ShowAllBut c (said old) (said new)
-exchange_seen c slots old new x e same none =
+    → seen_but c (kept slots x.went) ≡ seen_but c (kept slots x.came) → listing_one c (kept slots x.went) ≡ listing_one c (kept slots x.came)
+    → ShowAllBut c (said old) (said new)
+exchange_seen c slots old new x e same listed =
     rw (ap said e.old_is ∙ said_parted slots e.front x.went e.rest, ap said e.new_is ∙ said_parted slots e.front x.came e.rest)
-    (seen_between c (kept slots e.front) (kept slots x.went) (kept slots x.came) (kept slots e.rest) same none)
+    (seen_between c (kept slots e.front) (kept slots x.went) (kept slots x.came) (kept slots e.rest) same listed)
 
 -- what is seen of entries, one by one
 seen_if : (c : List ℕ) (e : Entry) → is_seen (Some c) e ≡ (is_named (shown e) && not (shows_component c (shown e)))

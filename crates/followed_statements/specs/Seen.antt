@@ -1,30 +1,43 @@
--- What others see of statements, where an edit changes sections.
-use Rattle.std.specs.Prelude.{◌≡◌, ◌&&◌, ℕ, Bool, true, false, not, List, Option, Some, None, filter, map}
-use Rattle.std.specs.List.{list_any}
+-- What others see of statements, where an edit changes sections; and the entries that list the component that it is of.
+use Rattle.std.specs.Prelude.{◌≡◌, ◌&&◌, ℕ, Bool, true, false, not, List, [], Option, Some, None, codes, filter, map}
+use Rattle.form_meanings.specs.Words.{is_word}
 use Rattle.def_grammar.specs.Parts.{is_some}
 use Rattle.def_grammar.specs.Records as records
 use Rattle.def_grammar.specs.Records.{Entry, Record, entry, entry_of, name_of}
 use Rattle.def_reader.specs.StatementViews.{record_view}
 use Rattle.def_reader.specs.declared.statement.Statement.{Statement}
-use Rattle.agreement_laws.specs.Agreement.{Shown, all_shown, refers_to, shown_but}
+use Rattle.agreement_laws.specs.Agreement.{Shown, all_shown, shown_but}
 use Rattle.entry_rules.specs.Unknown.{is_same}
+use Rattle.design_tables.specs.Lookups.{is_of, lists}
 
 -- what others see of entries, but for the components of a name, if some are left out
 abbrev pub seen_but : Option (List ℕ) → List Record → List Shown
 seen_but None design = all_shown design
 seen_but (Some component) design = shown_but component design
 
--- no statement refers to such a component
-abbrev pub NoneRefers : Option (List ℕ) → List Record → Type 0
-NoneRefers None rs = Unit {0}
-NoneRefers (Some component) rs = list_any (refers_to component) rs ≡ false
+-- the entries of nets that list a component
+abbrev pub listing : List ℕ → List Record → List Record
+listing component design = filter (lists (is_of component)) design
 
--- Statements show the same as others but for that component, and where no other refers to it, none of these did.
+-- those that list the component which is told of, if one is
+abbrev pub listing_one : Option (List ℕ) → List Record → List Record
+listing_one None design = []
+listing_one (Some component) design = listing component design
+
+-- the word that a pin of the design has before it is no name of a component
+abbrev pub IsNoPin : List ℕ → Type 0
+IsNoPin component = is_word (codes "PIN") component ≡ false
+
+abbrev pub IsNoPinName : Option (List ℕ) → Type 0
+IsNoPinName None = Unit {0}
+IsNoPinName (Some component) = IsNoPin component
+
+-- Statements show the same as others but for that component, and the entries that list it are the same.
 pub record ShowAllBut (component : Option (List ℕ)) (old new : List Record) : Type 0 where
   pub seen : seen_but component old ≡ seen_but component new
-  pub refers : NoneRefers component new → NoneRefers component old
+  pub listing : listing_one component old ≡ listing_one component new
 
--- an entry of a net, which alone can refer to a component
+-- an entry of a net, which alone can list a component
 abbrev pub is_of_net : Record → Bool
 is_of_net (entry (records.net n)) = true
 is_of_net (entry (records.special_net n)) = true

@@ -6,14 +6,14 @@ ghost use Rattle.def_grammar.specs.Records.{Record};
 ghost use Rattle.design_text.specs.DesignTexts.{design_of};
 ghost use Rattle.design_text.specs.Exchanges.{AreExchanges, IsExchange, exchange_view, records_in};
 ghost use Rattle.followed_statements.specs.Following.{AreKeptBy, AreOnStatements, said};
-ghost use Rattle.followed_statements.specs.Telling.{AreHeadersTold};
+ghost use Rattle.followed_statements.specs.Telling.{AreStatementsTold};
 
-use crate::counts::lines_on_headers;
 use crate::lines::lines_under;
-use crate::seeing::{none_refers, shows_all_but};
+use crate::listing::told_lines;
+use crate::seeing::shows_all_but;
 use crate::showing::shows_same;
-use crate::telling::ToldStatements;
-use agreement_laws::{same_but_one_same_lines, same_outline_same_counts, same_shown_same_lines};
+use crate::telling::{ToldStatements, name_in};
+use agreement_laws::{lines_follow_one_name, same_outline_same_counts, same_shown_same_lines};
 use cell_library::library::Library;
 use design_text::made::{Exchange, Made};
 use design_text::text::DesignText;
@@ -86,7 +86,7 @@ fn follow_same<A: Allocator + Copy>(
     follow_exchanges(alloc, library, text, made, kept)
 }
 
-/// The same lines after an edit that changes sections, of which this was told before it.
+/// The same lines after an edit that changes sections, or what others see of a component, of which this was told before it.
 fn follow_told<A: Allocator + Copy>(
     alloc: A,
     library: &Library<'_, A>,
@@ -95,22 +95,21 @@ fn follow_told<A: Allocator + Copy>(
     told: ToldStatements<A>,
     kept: KeptLines<A>,
 ) -> Result<Option<KeptLines<A>>, AllocError>
-    requires { (old : List (Number × Record)) × AreExchanges text.now.pieces.table.slots old made.now.exchanges (records_in text.now) × AreHeadersTold (said old) told × AreOnStatements library.now (said old) kept }
-    ensures { (old : List (Number × Record)) → AreExchanges text.now.pieces.table.slots old made.now.exchanges (records_in text.now) → AreHeadersTold (said old) told → AreOnStatements library.now (said old) kept
+    requires { (old : List (Number × Record)) × AreExchanges text.now.pieces.table.slots old made.now.exchanges (records_in text.now) × AreStatementsTold library.now (said old) told × AreOnStatements library.now (said old) kept }
+    ensures { (old : List (Number × Record)) → AreExchanges text.now.pieces.table.slots old made.now.exchanges (records_in text.now) → AreStatementsTold library.now (said old) told → AreOnStatements library.now (said old) kept
         → IfOk result (λ found. IfSome found (AreOnStatements library.now (said (records_in text.now)))) }
 {
     same_shown_same_lines();
-    same_but_one_same_lines();
+    lines_follow_one_name();
     text.statements_are_kept();
-    let component = told.component.as_ref().map(|name| name.bytes());
+    let component = name_in(&told.component);
     if !shows_all_but(alloc, text, made, component)? {
-        return Ok(None);
+        return follow_same(alloc, library, text, made, kept);
     }
-    if !none_refers(alloc, text, component)? {
+    let Some(lines) = told_lines(alloc, library, text, component)? else {
         return Ok(None);
-    }
-    let headers = lines_on_headers(alloc, text)?;
-    let Some(kept) = kept.followed(told.headers, headers, MOST_MOVED)? else {
+    };
+    let Some(kept) = kept.followed(told.lines, lines, MOST_MOVED)? else {
         return Ok(None);
     };
     follow_exchanges(alloc, library, text, made, kept)
@@ -126,8 +125,8 @@ pub fn follow_statements<A: Allocator + Copy>(
     told: Option<ToldStatements<A>>,
     kept: KeptLines<A>,
 ) -> Result<Option<KeptLines<A>>, AllocError>
-    requires { (old : List (Number × Record)) × AreExchanges text.now.pieces.table.slots old made.now.exchanges (records_in text.now) × IfSome told (AreHeadersTold (said old)) × AreOnStatements library.now (said old) kept }
-    ensures { (old : List (Number × Record)) → AreExchanges text.now.pieces.table.slots old made.now.exchanges (records_in text.now) → IfSome told (AreHeadersTold (said old)) → AreOnStatements library.now (said old) kept
+    requires { (old : List (Number × Record)) × AreExchanges text.now.pieces.table.slots old made.now.exchanges (records_in text.now) × IfSome told (AreStatementsTold library.now (said old)) × AreOnStatements library.now (said old) kept }
+    ensures { (old : List (Number × Record)) → AreExchanges text.now.pieces.table.slots old made.now.exchanges (records_in text.now) → IfSome told (AreStatementsTold library.now (said old)) → AreOnStatements library.now (said old) kept
         → IfOk result (λ found. IfSome found (AreOnStatements library.now (said (records_in text.now)))) }
 {
     match told {

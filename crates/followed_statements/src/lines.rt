@@ -31,7 +31,7 @@ pub fn put_statement<'a, 't: 'a, K: Known, A: Allocator + Copy>(
 }
 
 /// Puts the lines on each of some statements by itself behind others.
-fn put_statements<'a, 't: 'a, K: Known, A: Allocator + Copy>(
+pub(crate) fn put_statements<'a, 't: 'a, K: Known, A: Allocator + Copy>(
     checks: &mut StatementChecks<'a, 't, K, A>,
     statements: &[Statement<'t>],
     lines: &mut Lines<A>,

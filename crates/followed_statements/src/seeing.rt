@@ -8,17 +8,15 @@ ghost use Rattle.def_grammar.specs.Records.{Record};
 ghost use Rattle.def_reader.specs.EntryViews.{entry_view};
 ghost use Rattle.def_reader.specs.StatementViews.{record_view, records_view};
 ghost use Rattle.def_reader.specs.declared.statement.Statement.{Statement as TheStatement};
-ghost use Rattle.design_text.specs.DesignTexts.{design_of};
 ghost use Rattle.design_text.specs.Exchanges.{AreExchanges, IsExchange, exchange_view, records_in};
 ghost use Rattle.followed_statements.specs.Following.{ShowSame, said};
-ghost use Rattle.followed_statements.specs.Seen.{NoneRefers, ShowAllBut, is_component, is_of_net, is_seen, is_seen_record, passing};
+ghost use Rattle.followed_statements.specs.Seen.{ShowAllBut, is_component, is_of_net, is_seen, is_seen_record, passing};
 
 use crate::showing::{MOST_STATEMENTS, statements_show_same};
 use def_reader::entry::Entry;
 use def_reader::statement::Statement;
 use design_text::made::{Exchange, Made};
 use design_text::text::DesignText;
-use lefdef_tokens::is_word;
 use std::alloc::{AllocError, Allocator};
 
 /// Whether an entry is one of COMPONENTS.
@@ -86,7 +84,7 @@ fn seen_show_same(went: &[Statement<'_>], came: &[Statement<'_>], component: Opt
     next_seen(came, from, component).is_none()
 }
 
-/// Whether a statement is an entry of a net: no other refers to a component.
+/// Whether a statement is an entry of a net: no other lists a component.
 fn is_of_net(statement: &Statement<'_>) -> bool
     ensures { result ≡ is_of_net (record_view statement.now) }
 {
@@ -111,7 +109,7 @@ fn have_nets(statements: &[Statement<'_>]) -> bool
     false
 }
 
-/// Whether others see the same of the statements of one exchange, but for a component that is left out, and no net went.
+/// Whether others see the same of the statements of one exchange, but for a component that is left out, and no net went or came.
 fn exchange_shows_all_but<A: Allocator + Copy>(
     alloc: A,
     text: &DesignText<A>,
@@ -127,10 +125,13 @@ fn exchange_shows_all_but<A: Allocator + Copy>(
     if have_nets(&went) {
         return Ok(false);
     }
+    if have_nets(&came) {
+        return Ok(false);
+    }
     Ok(seen_show_same(&went, &came, component))
 }
 
-/// Whether others see the same of a text after an edit as before it, but for a component that is left out, and no net went.
+/// Whether others see the same of a text after an edit as before it, but for a component that is left out, and no net went or came.
 pub(crate) fn shows_all_but<A: Allocator + Copy>(
     alloc: A,
     text: &DesignText<A>,
@@ -156,42 +157,4 @@ pub(crate) fn shows_all_but<A: Allocator + Copy>(
         }
     }
     Ok(true)
-}
-
-/// Whether there are none of some statements.
-fn are_none(statements: &[Statement<'_>]) -> bool
-    ensures { result ≡ true → records_view statements.now ≡ [] }
-{
-    statements.is_empty()
-}
-
-/// Whether no statement of a text refers to a component of this name. Of the name that a pin of the design has before it, it isn't said.
-fn is_referred_to_by_none<A: Allocator + Copy>(
-    alloc: A,
-    text: &DesignText<A>,
-    component: &[u8],
-) -> Result<bool, AllocError>
-    ensures { IfOk result (λ b. b ≡ true → NoneRefers (Some component.now) (design_of text.now)) }
-{
-    if is_word(component, b"PIN") {
-        return Ok(false);
-    }
-    match text.entries_listing(alloc, component, 0)? {
-        Some(entries) => Ok(are_none(&entries)),
-        None => Ok(false),
-    }
-}
-
-/// Whether no statement of a text refers to the component that is left out.
-pub(crate) fn none_refers<A: Allocator + Copy>(
-    alloc: A,
-    text: &DesignText<A>,
-    component: Option<&[u8]>,
-) -> Result<bool, AllocError>
-    ensures { IfOk result (λ b. b ≡ true → NoneRefers (option_map (λ c. c.now) component.entry) (design_of text.now)) }
-{
-    match component {
-        Some(component) => is_referred_to_by_none(alloc, text, component),
-        None => Ok(true),
-    }
 }

@@ -44,7 +44,7 @@ less_le x y z p n =
       | Greater ↦ λ e h. nat_list_cmp_total.trans x y z p (nat_list_cmp_total.antisymm y z ∙ ap ordering_reverse e)
     ] refl n
 
-not_back : (x y : Text) → byte_cmp y x ≡ Less → is_lt (byte_cmp x y) ≡ false
+pub not_back : (x y : Text) → byte_cmp y x ≡ Less → is_lt (byte_cmp x y) ≡ false
 not_back x y p = ap is_lt (nat_list_cmp_total.antisymm x y ∙ ap ordering_reverse p)
 
 pub not_less : (x y z : Text) → is_lt (byte_cmp y x) ≡ false → is_lt (byte_cmp z y) ≡ false → is_lt (byte_cmp z x) ≡ false
@@ -97,7 +97,7 @@ pub above_lower : (x y : Text) (ys : List Text) → is_lt (byte_cmp y x) ≡ fal
 above_lower x y [] h a = tt
 above_lower x y (z ∷ zs) h a = (not_less x y z h a.0, above_lower x y zs h a.1)
 
-is_less : (r : Ordering) → is_lt r ≡ true → r ≡ Less
+pub is_less : (r : Ordering) → is_lt r ≡ true → r ≡ Less
 is_less Less e = refl
 is_less Equal e = cc
 is_less Greater e = cc

@@ -20,7 +20,7 @@ Text = List ℕ
 abbrev pub IsInOrder : List Text → Type 0
 IsInOrder xs = sorted_by_bytes xs ≡ xs
 
-up_of : (xs : List Text) → IsInOrder xs → Up xs
+pub up_of : (xs : List Text) → IsInOrder xs → Up xs
 up_of xs e = subst Up e (up_sorted xs)
 
 in_order_of : (xs : List Text) → Up xs → IsInOrder xs

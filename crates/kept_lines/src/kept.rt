@@ -7,7 +7,7 @@ ghost use Rattle.design_model.specs.Order.{put_in_order, sorted_by_bytes, texts}
 ghost use Rattle.report_lines.specs.Kinds.{HaveTheirKinds};
 ghost use Rattle.line_laws.specs.Lines.{SameLines, times};
 ghost use Rattle.following_laws.specs.Following.{LinesFollow};
-ghost use Rattle.kept_lines.specs.Kept.{is_below};
+ghost use Rattle.kept_lines.specs.Kept.{AreInOrder, is_below};
 
 use design_model::diagnostic::{DiagLine, DiagLines};
 use design_model::sequence::{Bytes, Sequence};
@@ -36,7 +36,10 @@ impl<A: Allocator> Model for KeptLines<A> {
 }
 
 /// A copy of a line.
-fn copy_of<A: Allocator + Copy>(line: &DiagLine<A>, alloc: A) -> Result<DiagLine<A>, AllocError>
+pub(crate) fn copy_of<A: Allocator + Copy>(
+    line: &DiagLine<A>,
+    alloc: A,
+) -> Result<DiagLine<A>, AllocError>
     ensures { IfOk result (λ l. l ≡ line.now) }
 {
     Ok(DiagLine {
@@ -60,6 +63,14 @@ impl<A: Allocator + Copy> KeptLines<A> {
         ensures { result ≡ length self.now.lines }
     {
         self.lines.len()
+    }
+
+    /// The lines, in their order.
+    pub fn lines(&self) -> &[DiagLine<A>]
+        ensures lines { texts result.now ≡ self.now.lines }
+        ensures in_order { AreInOrder result.now }
+    {
+        self.lines.as_slice()
     }
 
     /// Puts copies of the lines behind others, in their order. It takes at most one allocation for each line, and those of the list.

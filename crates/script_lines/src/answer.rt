@@ -1,10 +1,10 @@
 //! The answers to the lines of a script.
 
-ghost use Rattle.std.specs.Prelude.{◌≡◌, ◌++◌, ◌∷◌, [], IfOk, OnOk, decimal};
+ghost use Rattle.std.specs.Prelude.{◌≡◌, ◌++◌, ◌∷◌, [], IfOk, OnOk, decimal, map};
 ghost use Rattle.design_model.specs.Order.{texts};
 ghost use Rattle.report_rules.specs.Output.{bad_line, refusal_line, reply_line, report_lines};
 
-use design_model::diagnostic::DiagLines;
+use design_model::diagnostic::DiagLine;
 use edit_model::edit::{Done, EditRefusal};
 use itoa::Buffer;
 use std::alloc::{AllocError, Allocator};
@@ -77,12 +77,12 @@ pub fn bad_text<A: Allocator>(alloc: A, line: u64) -> Result<Vec<u8, A>, AllocEr
 /// The answer to `check`: each line of the report, and their number.
 pub fn check_text<A: Allocator + Copy>(
     alloc: A,
-    lines: &DiagLines<A>,
+    lines: &[&DiagLine<A>],
 ) -> Result<Vec<u8, A>, AllocError>
-    ensures { IfOk result (λ v. v.items ≡ report_lines (texts lines.now)) }
+    ensures { IfOk result (λ v. v.items ≡ report_lines (texts (map (λ l. l.now) lines.now))) }
 {
     let mut text = Vec::new(alloc);
-    for line in lines.as_slice() {
+    for line in lines {
         text.extend_from_slice(line.text.as_slice())?;
         text.push(b'\n')?;
     }

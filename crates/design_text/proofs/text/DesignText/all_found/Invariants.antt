@@ -1,10 +1,11 @@
-use Rattle.std.proofs.Common.{length, map}
+use Rattle.std.proofs.Common.{◌≡◌, ◌++◌, drop, flat_map, map}
+use Rattle.std.specs.Option.{option_to_list}
+use Rattle.design_model.specs.declared.identifier.StmtId.{StmtId}
 use Rattle.def_reader.specs.StatementViews.{record_view}
-use Rattle.design_text.proofs.ListedEntries.{Going}
+use Rattle.design_text.specs.Listings.{said_under}
 use Rattle.design_text.proofs.text.DesignText.all_found.Given as goal
 
 abbrev pub invariant-loop-id : goal.invariant-loop-id
-invariant-loop-id g l = Going l.self l.initial.left l.left l.last (map record_view l.statements.items)
-
-abbrev pub decreases-loop-id : goal.decreases-loop-id
-decreases-loop-id g l = length l.left
+invariant-loop-id g l =
+    let said = λ (id : StmtId). option_to_list (said_under l.self id) in
+    map record_view l.statements.items ++ flat_map said (drop l.id-index l.ids) ≡ flat_map said l.ids

@@ -1,3 +1,5 @@
+use Rattle.std.proofs.Common.{List}
+use Rattle.design_model.specs.declared.diagnostic.DiagLine.{DiagLine}
 use Rattle.def_grammar.specs.Records.{read_def}
 use Rattle.design_text.specs.DesignTexts.{text_of}
 use Rattle.edit_session.proofs.MeasureLemmas.{design_of}
@@ -9,4 +11,5 @@ returns-clause-lines g c =
     let library = c.self.inside.library.now in
     let text = text_of c.self.inside.text in
     let read = design_of (read_def text) c.self.invariant.0 in
-    rw (← c.self.view_is) (told_of library text read.0 c.joined.result read.1 (c.joined.ensures.lines library read.0 (c.know_lines.ensures.known read.0 read.1)))
+    let seen = λ (lines : List (DiagLine g.row.A.Denot)). lines in
+    rw (← c.self.view_is) (told_of seen library text read.0 c.joined.result read.1 (c.joined.ensures.lines library read.0 (c.know_lines.ensures.known read.0 read.1)))
