@@ -1,5 +1,5 @@
 -- Heads of nets that list a pin of all components, each of one entry.
-use Rattle.std.proofs.Common.{◌≡◌, ◌∙◌, ◌+◌, ◌<◌, ℕ, Bool, true, false, ◌||◌, List, [], ◌∷◌, ◌++◌, append_assoc, drop, filter, flat_map, get_or, length, map, Some, refl, sym, ap, subst}
+use Rattle.std.proofs.Common.{◌≡◌, ◌∙◌, ◌+◌, ◌<◌, ℕ, Bool, true, false, ◌||◌, List, [], ◌∷◌, ◌++◌, append_assoc, drop, filter, flat_map, get_or, length, map, Some, refl, sym, ap}
 use Rattle.std.specs.List.{AllByRecursion, list_any}
 use Rattle.std.specs.Str.{bytes_eq}
 use Rattle.std.proofs.lemmas.List.{drop_more, map-append}
@@ -14,7 +14,7 @@ use Rattle.kept_nets.specs.Parts.{shapes_in}
 use Rattle.net_laws.specs.NetChanges.{is_one_of}
 use Rattle.net_laws.specs.NetsTold.{is_of_net, terminals_in, terminals_of}
 use Rattle.net_laws.specs.StarNets.{pins_by_one}
-use Rattle.followed_nets.specs.Heads.{Head, IsHead, IsHeadOf}
+use Rattle.followed_nets.specs.Heads.{Head, IsHeadOf}
 use Rattle.followed_nets.specs.StarHeads.{AreStarHeads, IsPinsBy, IsStarHead, head_names}
 use Rattle.followed_nets.proofs.HeadLemmas.{of_only_entry}
 use Rattle.followed_nets.proofs.TellLemmas.{is_entry_of, passes}
@@ -86,3 +86,22 @@ told_pins library design component h star name shapes pins named shapes_are pins
   entry = star.entry;
   one_entry = ap (λ (n : List ℕ). filter (is_of_net n) design) named ∙ star.one_entry;
 }
+
+-- the next of a list of which some are left
+next_is : {A : Type 0} (xs : List A) (i : ℕ) (x : A) → i < length xs → x ≡ get_or xs i x → drop i xs ≡ x ∷ drop (i + 1) xs
+next_is xs i x below is = drop_more xs i x below ∙ ap (λ y. y ∷ drop (i + 1) xs) (sym is)
+
+pub with_first : {A B : Type 0} (P : B → Type 0) (view : A → B) (xs : List A) (i : ℕ) (x : A) → i < length xs → x ≡ get_or xs i x → AllByRecursion P (map view (drop i xs))
+    → P (view x) × AllByRecursion P (map view (drop (i + 1) xs))
+with_first P view xs i x below is all = let both = rw (next_is xs i x below is) at all in (both.0, both.1)
+
+-- one more that has the name of the next
+pub one_more_told : {A B C : Type 0} (view : A → B) (own : B → List ℕ) (name : C → List ℕ) (cs : List C) (xs : List A) (i : ℕ) (x : A) (c : C) → i < length xs → x ≡ get_or xs i x → name c ≡ own (view x)
+    → map name cs ++ map own (map view (drop i xs)) ≡ map own (map view xs) → map name (cs ++ c ∷ []) ++ map own (map view (drop (i + 1) xs)) ≡ map own (map view xs)
+one_more_told view own name cs xs i x c below is named so_far =
+    let left = map own (map view (drop (i + 1) xs)) in
+    ap (λ (l : List (List ℕ)). l ++ left) (map-append name cs (c ∷ []))
+    ∙ append_assoc (map name cs) (name c ∷ []) left
+    ∙ ap (λ (n : List ℕ). map name cs ++ n ∷ left) named
+    ∙ ap (λ l. map name cs ++ map own (map view l)) (sym (next_is xs i x below is))
+    ∙ so_far

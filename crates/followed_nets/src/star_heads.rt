@@ -139,6 +139,30 @@ fn told_pins<A: Allocator + Copy>(
     Ok(Some(ToldPins { name, shapes }))
 }
 
+/// Those of each of these heads, in their order, unless one isn't read.
+fn pins_of_heads<A: Allocator + Copy>(
+    alloc: A,
+    library: &Library<'_, A>,
+    text: &DesignText<A>,
+    common: &[StmtId],
+    heads: &[Head<A>],
+    component: &[u8],
+) -> Result<Option<Vec<ToldPins<A>, A>>, AllocError>
+    requires common { AreCommon (records_in text.now) common.now }
+    requires heads { AllByRecursion (IsStarHead (design_of text.now)) (map head_view heads.now) }
+    ensures named { IfOk result (λ found. IfSome found (λ v. pin_names (map pins_view v.items) ≡ head_names (map head_view heads.now))) }
+    ensures shapes { IfOk result (λ found. IfSome found (λ v. ArePinShapes library.now (design_of text.now) component.now (map pins_view v.items))) }
+{
+    let mut told = Vec::new(alloc);
+    for head in heads {
+        match told_pins(alloc, library, text, common, head, component)? {
+            Some(pins) => told.push(pins)?,
+            None => return Ok(None),
+        }
+    }
+    Ok(Some(told))
+}
+
 impl<A: Allocator + Copy> StarHeads<A> {
     /// Those of a text with these statements: `None` where they are many, or one of them has two entries, or a head of one isn't read.
     pub fn of(
@@ -201,13 +225,6 @@ impl<A: Allocator + Copy> StarHeads<A> {
         ensures named { IfOk result (λ found. IfSome found (λ v. pin_names (map pins_view v.items) ≡ head_names self.now)) }
         ensures shapes { IfOk result (λ found. IfSome found (λ v. ArePinShapes library.now (design_of text.now) component.now (map pins_view v.items))) }
     {
-        let mut told = Vec::new(alloc);
-        for head in self.heads.as_slice() {
-            match told_pins(alloc, library, text, common, head, component)? {
-                Some(pins) => told.push(pins)?,
-                None => return Ok(None),
-            }
-        }
-        Ok(Some(told))
+        pins_of_heads(alloc, library, text, common, &self.heads, component)
     }
 }

@@ -1,9 +1,9 @@
-use Rattle.std.proofs.Common.{rules, ◌≡◌, ◌∙◌, ◌++◌, ◌∷◌, [], ◌+◌, List, ℕ, ap, false, map, subst, sym, take, true}
-use Rattle.std.proofs.lemmas.List.{take_all, take_more}
+use Rattle.std.proofs.Common.{rules, ◌≡◌, ◌∙◌, ◌++◌, ◌∷◌, [], ◌+◌, List, ℕ, ap, false, map, sym, take, true}
+use Rattle.std.proofs.lemmas.List.{take_more}
 use Rattle.net_laws.specs.NetChanges.{is_one_of}
 use Rattle.followed_nets.specs.StarHeads.{head_names}
 use Rattle.followed_nets.specs.ToldViews.{head_view}
-use Rattle.followed_nets.proofs.NoteLemmas.{AreOthers, all_others, one_kept, one_other}
+use Rattle.followed_nets.proofs.NoteLemmas.{all_others, one_kept, one_other}
 use Rattle.followed_nets.proofs.star_heads.names_of_others.Goals as goal
 use Rattle.followed_nets.proofs.star_heads.names_of_others.Goals.{else-not-is_head, then-not-is_head+in_ok-add_name}
 

@@ -1,7 +1,5 @@
 use Rattle.std.proofs.Common.{◌∙◌, sym}
 use Rattle.design_text.specs.DesignTexts.{design_of}
-use Rattle.followed_nets.specs.StarHeads.{head_names}
-use Rattle.followed_nets.specs.ToldViews.{head_view}
 use Rattle.followed_nets.proofs.ToldNets.{no_other_lists}
 use Rattle.followed_nets.proofs.star_heads.StarHeads.others_listing.Goals as goal
 
