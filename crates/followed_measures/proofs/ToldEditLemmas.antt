@@ -1,5 +1,5 @@
 -- What is told of an edit.
-use Rattle.std.proofs.Common.{◌≡◌, ◌∙◌, ℕ, List, [], ◌∷◌, ◌++◌, append-nil, filter, map, Option, Some, None, refl, sym, ap, ap₂, subst}
+use Rattle.std.proofs.Common.{◌≡◌, ◌∙◌, ℕ, Bool, true, false, if◌then◌else◌, List, [], ◌∷◌, ◌++◌, append-nil, filter, map, Option, Some, None, refl, sym, ap, ap₂, subst}
 use Rattle.std.specs.List.{AllByRecursion, cons_option, filter_map}
 use Rattle.std.specs.Option.{option_map, option_to_list}
 use Rattle.form_meanings.specs.Words.{◌>>=◌}
@@ -11,6 +11,7 @@ use Rattle.def_grammar.specs.Records.{Record, component_of, entry_of}
 use Rattle.lef_grammar.specs.Library.{Library}
 use Rattle.design_rules.specs.Boxes.{Boxed, box_of, component_box, scale}
 use Rattle.measuring_laws.specs.Measuring.{own_boxes}
+use Rattle.net_laws.specs.NetsTold.{is_common}
 use Rattle.net_laws.specs.StarNets.{those_named}
 use Rattle.net_laws.specs.Within.{NoOtherLists}
 use Rattle.reports.specs.Densities.{box_shape, box_shapes}
@@ -19,6 +20,7 @@ use Rattle.followed_nets.specs.StarHeads.{AreAllListing, ArePinShapes, PinShapes
 use Rattle.followed_nets.proofs.TellOneLemmas.{theirs}
 use Rattle.followed_nets.proofs.ToldNets.{none_lists}
 use Rattle.followed_measures.specs.Told.{IsNetIn, IsToldIn, ToldNet, told_names}
+use Rattle.followed_measures.proofs.FollowLemmas.{same_scale}
 
 module _ (library : Library) (design : List Record) where
   pub nothing_told : IsToldIn library design (record { nets = []; component = None; bounds = None; stars = [] })
@@ -72,3 +74,16 @@ module _ (library : Library) (design : List Record) where
       ∙ ap (λ (rs : List Record). filter_map (component_box library u) (filter_map component_of rs)) found
       ∙ ap (filter_map (component_box library u)) (theirs component design)
       ∙ ap (λ (v : ℕ). filter_map (component_box library v) (those_named component design)) scaled)
+
+-- those that pass a test pass it once more
+again : {A : Type 0} (p : A → Bool) (xs : List A) → filter p (filter p xs) ≡ filter p xs
+again p [] = refl
+again p (x ∷ xs) = step (p x) refl (again p xs)
+  where
+    step : (b : Bool) → p x ≡ b → filter p (filter p xs) ≡ filter p xs → filter p (if b then x ∷ filter p xs else filter p xs) ≡ (if b then x ∷ filter p xs else filter p xs)
+    step true is later = rw is (ap (λ ys. x ∷ ys) later)
+    step false is later = later
+
+-- what any net may be made of tells the scale
+pub common_scale : (some design : List Record) → some ≡ filter is_common design → scale some ≡ scale design
+common_scale some design are = same_scale some design (ap (filter is_common) are ∙ again is_common design)

@@ -23,10 +23,10 @@ use std::alloc::{AllocError, Allocator};
 
 /// The box of the component of a name in a text, where it takes part. Its entry alone is read, and the statements that any net may be made
 /// of, which have these numbers and tell the scale.
-pub(crate) fn box_in<A: Allocator + Copy>(
+pub(crate) fn box_in<'t, A: Allocator + Copy>(
     alloc: A,
-    library: &Library<'_, A>,
-    text: &DesignText<A>,
+    library: &'t Library<'_, A>,
+    text: &'t DesignText<A>,
     common: &[StmtId],
     component: &[u8],
 ) -> Result<Option<Rect>, AllocError>
