@@ -1,5 +1,6 @@
 -- What was measured follows an edit that left all but what was told before it.
 use Rattle.std.proofs.Common.{◌≡◌, ◌∙◌, ℕ, Bool, true, false, ◌||◌, List, [], ◌∷◌, ◌++◌, append-nil, filter, map, Option, Some, None, refl, sym, ap, subst}
+use Rattle.std.specs.Prelude.{IfSome}
 use Rattle.std.specs.List.{AllByRecursion}
 use Rattle.std.specs.Str.{bytes_eq}
 use Rattle.std.proofs.lemmas.Slice.Eq.{bytes_eq-Decides}
@@ -25,7 +26,7 @@ use Rattle.followed_nets.proofs.StarHeadLemmas.{star_heads_stay}
 use Rattle.followed_measures.specs.Exchanging.{AwaitsStars}
 use Rattle.followed_measures.specs.Moved.{HasNet, NetsMoved}
 use Rattle.followed_measures.specs.Told.{IsToldIn, Told, ToldNet, told_names}
-use Rattle.followed_measures.proofs.MoveLemmas.{more_moved}
+use Rattle.followed_measures.proofs.MoveLemmas.{more_moved, none_moved}
 use Rattle.followed_measures.proofs.ReportLemmas.{reports_then}
 
 -- no component is exchanged
@@ -54,6 +55,10 @@ later : (xs ys : List (List ℕ)) → AreApart (xs ++ ys) → AreApart ys
 later [] ys apart = apart
 later (x ∷ xs) ys apart = later xs ys apart.1
 
+-- heads of nets stay where a component is edited
+pub heads_then : (old new : List Record) (component : List ℕ) → Leaves old new [] (Some component) → (hs : List Head) → AreStarHeads old hs → AreStarHeads new hs
+heads_then old new component leaves hs are = star_heads_stay old new hs (λ net there. (leaves.but component net refl refl).entries) leaves.no_stars are
+
 module _ (library : Library) (old new : List Record) (follow : ToldMeasuresFollow) (exchanged : ToldNetsAreExchanged) (cells_follow : ToldCellsFollow) (nets : List ToldNet) where
   -- an edit of nets alone
   module _ (is_told : IsToldIn library old (record { nets = nets; component = None; bounds = None; stars = [] })) (names : List (List ℕ)) (named : names ≡ told_names nets) (leaves : Leaves old new names None)
@@ -73,6 +78,14 @@ module _ (library : Library) (old new : List Record) (follow : ToldMeasuresFollo
         star_heads_stay old new hs
         (λ net there. (nets_apart.agree net (ap (λ (ns : List (List ℕ)). is_one_of ns net) (sym named) ∙ not_one names hs others net there)).entries)
         leaves.no_stars are
+
+    pub all_of_others : (noted : Option (List Head)) → IfSome noted (AllByRecursion (λ (h : Head). is_one_of names h.name ≡ false)) → IfSome noted (AreStarHeads old) → IfSome noted (AreStarHeads new)
+    all_of_others None others are = tt
+    all_of_others (Some hs) others are = heads_of_others hs others are
+
+    -- where there are none
+    pub nothing_moved : nets ≡ [] → (a : Answers) → NetsMoved library old new (told_names nets) a a
+    nothing_moved none a = subst (λ (ns : List ToldNet). NetsMoved library old new (told_names ns) a a) (sym none) (none_moved library old new a)
 
   -- an edit of a component
   module _ (component : List ℕ) (bounds : Option Rectangle) (stars : List PinShapes) (is_told : IsToldIn library old (record { nets = nets; component = Some component; bounds = bounds; stars = stars })) (leaves : Leaves old new [] (Some component))
@@ -96,6 +109,3 @@ module _ (library : Library) (old new : List Record) (follow : ToldMeasuresFollo
         reports_then library old new (told_names nets ++ pin_names stars) (Some component) a c d bounds come follow exchanged cells_follow
         (leaves.apart (told_names nets ++ pin_names stars) (λ net there. absurd (cc)) is_told.lists).0
         is_told.apart same_cells had (more_moved library old new (pin_names stars) (told_names nets) a b c first next) placed is_told.box_is come_is
-
-    pub heads_then : (hs : List Head) → AreStarHeads old hs → AreStarHeads new hs
-    heads_then hs are = star_heads_stay old new hs (λ net there. (agree net).entries) leaves.no_stars are
