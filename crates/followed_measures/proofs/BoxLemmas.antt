@@ -1,10 +1,9 @@
 -- The least rectangle round others: in whatever order these are, and where some go that don't bound it.
-use Rattle.std.proofs.Common.{◌≡◌, ◌∙◌, ◌+◌, ℕ, zero, suc, Bool, true, false, ◌&&◌, List, [], ◌∷◌, ◌++◌, Option, Some, None, ℤ, ◌≤ℤ◌, ◌<◌, append_assoc, get_or, length, map, refl, sym, ap, arith, sum_by, if◌then◌else◌}
+use Rattle.std.proofs.Common.{◌≡◌, ◌∙◌, ◌+◌, ℕ, Bool, true, false, ◌&&◌, List, [], ◌∷◌, ◌++◌, Option, Some, None, ℤ, ◌≤ℤ◌, ◌<◌, append_assoc, get_or, length, map, refl, sym, ap, arith, sum_by, if◌then◌else◌}
 use Rattle.std.specs.Prelude.{int_lt, take}
 use Rattle.std.specs.Int.{int_min, int_max}
 use Rattle.std.specs.Option.{option_map}
-use Rattle.std.proofs.lemmas.List.{map-append, take_all, take_more}
-use Rattle.std.specs.List.{All, AllByRecursion}
+use Rattle.std.proofs.lemmas.List.{map-append, take_more}
 use Rattle.std.proofs.lemmas.Int.{ints, clamps}
 use Rattle.std.proofs.lemmas.List.Elements.{All-nil, All-cons, All-head, All-tail}
 use Rattle.std.proofs.lemmas.List.Sums.{sum_by-append, sum_by-cons}
@@ -13,7 +12,7 @@ use Rattle.net_lists.specs.PartCuts.{shape_view}
 use Rattle.net_lists.specs.declared.parts.NetShape.{NetShape}
 use Rattle.line_laws.specs.Lines.{SameThings}
 use Rattle.measure_rules.specs.NetBoxes.{around, around_all, box_round}
-use Rattle.measure_laws.specs.BoxLaws.{HoldsAll, IsLeastRound, LiesIn}
+use Rattle.measure_laws.specs.BoxLaws.{HoldsAll, LiesIn}
 use Rattle.measure_laws.proofs.BoxesRound.{a_box_is_the_least, boxes_grow, no_rectangles_no_box}
 use Rattle.followed_measures.specs.Bounds.{AreInside, BoxFollows, boxes_in, is_inside}
 

@@ -12,7 +12,7 @@ use Rattle.lef_grammar.specs.Library.{Library}
 use Rattle.design_rules.specs.Boxes.{scale, units_or_1}
 use Rattle.measuring_laws.specs.Measuring.{ToldCellsFollow, ToldMeasuresFollow, is_of_cells, own_boxes}
 use Rattle.net_laws.specs.NetChanges.{AgreeApart, ToldNetsAreExchanged, is_one_of}
-use Rattle.net_laws.specs.NetsTold.{is_common, is_of_net}
+use Rattle.net_laws.specs.NetsTold.{is_common}
 use Rattle.net_laws.specs.StarNets.{AgreeBut}
 use Rattle.net_laws.proofs.Selecting.{selected_alike}
 use Rattle.reports.specs.Answers.{Answers, ReportsOn}
@@ -21,11 +21,11 @@ use Rattle.reports.specs.Exchanges.{ComponentExchanged}
 use Rattle.followed_nets.specs.Heads.{Head}
 use Rattle.followed_nets.specs.Listed.{AreApart}
 use Rattle.followed_nets.specs.StarHeads.{AreStarHeads, ArePinShapes, PinShapes, head_names, pin_names}
-use Rattle.followed_nets.specs.Within.{Cover, Leaves}
+use Rattle.followed_nets.specs.Within.{Leaves}
 use Rattle.followed_nets.proofs.StarHeadLemmas.{star_heads_stay}
 use Rattle.followed_measures.specs.Exchanging.{AwaitsStars}
-use Rattle.followed_measures.specs.Moved.{HasNet, NetsMoved}
-use Rattle.followed_measures.specs.Told.{IsToldIn, Told, ToldNet, told_names}
+use Rattle.followed_measures.specs.Moved.{NetsMoved}
+use Rattle.followed_measures.specs.Told.{IsToldIn, ToldNet, told_names}
 use Rattle.followed_measures.proofs.MoveLemmas.{more_moved, none_moved}
 use Rattle.followed_measures.proofs.ReportLemmas.{reports_then}
 

@@ -1,5 +1,5 @@
 -- Answers where nets are exchanged one after the other.
-use Rattle.std.proofs.Common.{◌≡◌, ◌∙◌, ◌+◌, ℕ, Bool, true, false, ◌||◌, List, [], ◌∷◌, ◌++◌, append-nil, map, Option, Some, ℤ, refl, sym, ap, ap₂, subst, arith, sum_by, if◌then◌else◌}
+use Rattle.std.proofs.Common.{◌≡◌, ◌∙◌, ℕ, Bool, true, false, ◌||◌, List, [], ◌∷◌, ◌++◌, map, Option, Some, refl, sym, ap, arith, sum_by, if◌then◌else◌}
 use Rattle.std.specs.Prelude.{flat_map}
 use Rattle.std.specs.List.{AllByRecursion}
 use Rattle.std.specs.Str.{bytes_eq}
@@ -13,7 +13,7 @@ use Rattle.def_grammar.specs.Records.{Record}
 use Rattle.lef_grammar.specs.Library.{Library}
 use Rattle.lef_grammar.specs.Measures.{Shape}
 use Rattle.connection_rules.specs.NetLines.{NetShape, shapes_of_net}
-use Rattle.connection_rules.specs.NetParts.{Net, net_named}
+use Rattle.connection_rules.specs.NetParts.{net_named}
 use Rattle.design_rules.specs.Boxes.{scale}
 use Rattle.line_laws.specs.Lines.{SameThings}
 use Rattle.measure_rules.specs.Lengths.{length_of}
@@ -21,10 +21,9 @@ use Rattle.measure_rules.specs.NetBoxes.{box_round, rectangles_of}
 use Rattle.net_laws.specs.NetChanges.{is_one_of}
 use Rattle.net_laws.specs.OneNet.{TellNet}
 use Rattle.reports.specs.Answers.{Answers, box_in, length_in}
-use Rattle.reports.specs.Densities.{HasExchanged, HoldsDensities}
 use Rattle.reports.specs.Exchanges.{NetExchanged}
 use Rattle.reports.proofs.DensitySteps.{exchanged_from}
-use Rattle.followed_measures.specs.Moved.{AllTell, NetsMoved, nets_of, shapes_of}
+use Rattle.followed_measures.specs.Moved.{NetsMoved, nets_of, shapes_of}
 
 -- what is answered on one net, and on the others
 by_name : {B : Type 0} (name n : List ℕ) (mine : B) (of : List ℕ → B) (others : B) (t : Bool) → bytes_eq name n ≡ t → mine ≡ of name → (if t then mine else others) ≡ (if t || false then of n else others)

@@ -1,5 +1,5 @@
 -- A net that lists a pin of all components, of which the pins by one are exchanged.
-use Rattle.std.proofs.Common.{◌≡◌, ◌∙◌, ◌+◌, ℕ, Bool, true, false, not, List, [], ◌∷◌, ◌++◌, append-nil, filter, map, Option, Some, None, refl, sym, ap, ap₂, subst, arith, sum_by, if◌then◌else◌}
+use Rattle.std.proofs.Common.{◌≡◌, ◌∙◌, ℕ, Bool, true, false, not, List, [], ◌∷◌, ◌++◌, append-nil, filter, map, Option, Some, None, refl, sym, ap, ap₂, subst, arith, sum_by, if◌then◌else◌}
 use Rattle.std.specs.Prelude.{flat_map}
 use Rattle.std.specs.Option.{option_map}
 use Rattle.std.proofs.lemmas.List.{map-append}
@@ -14,9 +14,7 @@ use Rattle.design_rules.specs.Boxes.{scale}
 use Rattle.kept_nets.specs.Parts.{shapes_in}
 use Rattle.line_laws.specs.Lines.{SameThings}
 use Rattle.line_laws.proofs.SameSums.{maps_are_same}
-use Rattle.measure_rules.specs.Lengths as lengths
 use Rattle.measure_rules.specs.Lengths.{is_net, length_of}
-use Rattle.measure_rules.specs.NetBoxes as net_boxes
 use Rattle.measure_rules.specs.NetBoxes.{box_round, rectangles_of}
 use Rattle.measuring_laws.specs.Measuring.{LengthsAreTold}
 use Rattle.measuring_laws.proofs.FoundNets.{net_is_found}

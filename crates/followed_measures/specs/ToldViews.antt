@@ -1,5 +1,5 @@
 -- What is measured before an edit in the program as in the definitions.
-use Rattle.std.specs.Prelude.{List, [], ℕ, Option, Some, None, map}
+use Rattle.std.specs.Prelude.{List, [], Option, Some, None, map}
 use Rattle.std.specs.Option.{option_map}
 use Rattle.design_model.specs.Geometry.{Rectangle}
 use Rattle.design_model.specs.Views.{rectangle_of}

@@ -1,4 +1,4 @@
-use Rattle.std.proofs.Common.{rules, ◌≡◌, map, true}
+use Rattle.std.proofs.Common.{rules, map}
 use Rattle.design_model.specs.Views.{rectangle_of}
 use Rattle.net_lists.specs.PartCuts.{shape_view}
 use Rattle.followed_measures.specs.Bounds.{AreInside, boxes_in}

@@ -1,4 +1,4 @@
-use Rattle.std.proofs.Common.{◌≡◌, ◌∙◌, ◌++◌, [], ap, append-nil, length, map, sym}
+use Rattle.std.proofs.Common.{◌∙◌, ◌++◌, ap, append-nil, map, sym}
 use Rattle.std.proofs.lemmas.List.{take_all}
 use Rattle.design_model.specs.Views.{rectangle_of}
 use Rattle.measure_rules.specs.NetBoxes.{box_round}

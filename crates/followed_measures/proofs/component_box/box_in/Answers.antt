@@ -1,4 +1,4 @@
-use Rattle.std.proofs.Common.{rules, ◌≡◌, ◌∙◌, ap, filter, map, sym, refl, Some, None}
+use Rattle.std.proofs.Common.{◌≡◌, ◌∙◌, ap, filter, map, sym, refl, Some, None}
 use Rattle.std.specs.Option.{option_map}
 use Rattle.design_model.specs.Views.{rectangle_of}
 use Rattle.def_reader.specs.StatementViews.{record_view}

@@ -1,5 +1,3 @@
-use Rattle.std.proofs.Common.{[], map}
-use Rattle.followed_measures.specs.ToldViews.{net_view}
 use Rattle.followed_measures.proofs.ToldEditLemmas.{nothing_told}
 use Rattle.followed_measures.proofs.told_edit.ToldMeasures.nothing.Goals as goal
 
