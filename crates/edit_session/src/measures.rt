@@ -1,4 +1,4 @@
-//! What is measured of a text, which follows an edit of one net.
+//! What is measured of a text, which follows its edits.
 
 ghost use Rattle.std.specs.Prelude.{IfOk, IfSome};
 ghost use Rattle.design_text.specs.DesignTexts.{Content, text_of};
@@ -13,11 +13,13 @@ ghost use Rattle.edit_session.specs.Sessions.{AnswersOn};
 use crate::change::Change;
 use crate::nets::net_of;
 use crate::noted::Noted;
+use crate::places::component_of;
 use cell_library::library::Library;
 use def_reader::entry::Entry;
 use def_reader::statement::Statement;
 use design_text::made::Made;
 use design_text::text::DesignText;
+use edit_model::edit::Edit;
 use followed_measures::{FollowedMeasures, ToldMeasures};
 use std::alloc::{AllocError, Allocator};
 use wire_parts::nets::NetEntry;
@@ -56,16 +58,56 @@ pub(crate) fn take_measures<A: Allocator + Copy>(
     kept_or_made(alloc, library, text, kept)
 }
 
-/// The net of the entry in which a position of a text lies, if it lies in one of a net.
-fn net_at<A: Allocator + Copy>(text: &DesignText<A>, position: usize) -> Option<&[u8]> {
-    match text.statement_at(position) {
-        Some(Statement::Entry(Entry::Net(NetEntry::Net(net)))) => Some(net.name.bytes),
-        Some(Statement::Entry(Entry::SpecialNet(net))) => Some(net.name.bytes),
-        _ => None,
+/// What is measured of the net or of the component that an edit of the design is of.
+fn told_of_edit<A: Allocator + Copy>(
+    alloc: A,
+    library: &Library<'_, A>,
+    text: &DesignText<A>,
+    edit: &Edit<'_>,
+    measures: &mut FollowedMeasures<A>,
+) -> Result<Option<ToldMeasures<A>>, AllocError>
+    requires { HasMeasures library.now (records_in text.now) measures.old }
+    ensures told { IfOk result (λ found. IfSome found (λ t. IsToldIn library.now (said (records_in text.now)) (told_view t))) }
+    ensures measures { HasMeasures library.now (records_in text.now) measures.new }
+{
+    text.statements_are_kept();
+    if let Some(net) = net_of(edit) {
+        return measures.told_by_net(alloc, library, text, net);
+    }
+    match component_of(edit) {
+        Some(component) => measures.told_by_component(alloc, library, text, component),
+        None => Ok(Some(ToldMeasures::nothing(alloc))),
     }
 }
 
-/// What is measured of the net that an edit is of.
+/// What is measured of the net or of the component of the entry in which a position of a text lies, if it lies in one.
+fn told_at<A: Allocator + Copy>(
+    alloc: A,
+    library: &Library<'_, A>,
+    text: &DesignText<A>,
+    position: usize,
+    measures: &mut FollowedMeasures<A>,
+) -> Result<Option<ToldMeasures<A>>, AllocError>
+    requires { HasMeasures library.now (records_in text.now) measures.old }
+    ensures told { IfOk result (λ found. IfSome found (λ t. IsToldIn library.now (said (records_in text.now)) (told_view t))) }
+    ensures measures { HasMeasures library.now (records_in text.now) measures.new }
+{
+    text.statements_are_kept();
+    match text.statement_at(position) {
+        Some(Statement::Entry(Entry::Component(parts))) => {
+            measures.told_by_component(alloc, library, text, parts.name.bytes)
+        }
+        Some(Statement::Entry(Entry::Net(NetEntry::Net(net)))) => {
+            measures.told_by_net(alloc, library, text, net.name.bytes)
+        }
+        Some(Statement::Entry(Entry::SpecialNet(net))) => {
+            measures.told_by_net(alloc, library, text, net.name.bytes)
+        }
+        _ => Ok(Some(ToldMeasures::nothing(alloc))),
+    }
+}
+
+/// What is measured of what an edit is about to change.
 fn told_of<A: Allocator + Copy>(
     alloc: A,
     library: &Library<'_, A>,
@@ -77,20 +119,13 @@ fn told_of<A: Allocator + Copy>(
     ensures told { IfOk result (λ found. IfSome found (λ t. IsToldIn library.now (said (records_in text.now)) (told_view t))) }
     ensures measures { HasMeasures library.now (records_in text.now) measures.new }
 {
-    text.statements_are_kept();
     match change {
-        Change::Design(edit) => match net_of(edit) {
-            Some(net) => measures.told(alloc, library, text, net),
-            None => Ok(None),
-        },
-        Change::Text(position) => match net_at(text, position) {
-            Some(net) => measures.told(alloc, library, text, net),
-            None => Ok(None),
-        },
+        Change::Design(edit) => told_of_edit(alloc, library, text, edit, measures),
+        Change::Text(position) => told_at(alloc, library, text, position, measures),
     }
 }
 
-/// What is measured of the net that an edit is about to change, where measures are noted and can follow it.
+/// What is measured of what an edit is about to change, where measures are noted and can follow it.
 pub(crate) fn tell_measures<A: Allocator + Copy>(
     alloc: A,
     library: &Library<'_, A>,
@@ -111,7 +146,7 @@ pub(crate) fn tell_measures<A: Allocator + Copy>(
     }
 }
 
-/// Lets measures that are noted follow an edit, where the net that it is of was told before it. Else they are forgotten.
+/// Lets measures that are noted follow an edit, where what it changes was told before it. Else they are forgotten.
 pub(crate) fn follow_measures<A: Allocator + Copy>(
     alloc: A,
     library: &Library<'_, A>,

@@ -50,7 +50,7 @@ pub(crate) struct Told<A: Allocator + Copy = Global> {
     pub(crate) statements: Option<ToldStatements<A>>,
     /// The nets that it touches: `None` where lines on nets aren't to follow it.
     pub(crate) nets: Option<TouchedNets<A>>,
-    /// What is measured of the net that it is of: `None` where measures aren't to follow it.
+    /// What is measured of what it changes: `None` where measures aren't to follow it.
     pub(crate) measures: Option<ToldMeasures<A>>,
 }
 

@@ -57,17 +57,17 @@ module _ (slots : List (Option Kept)) where
   parted : (records : List (StmtId × Record)) (front some rest : List StmtId) → records ≡ records_under slots (front ++ (some ++ rest)) → said records ≡ say front ++ (say some ++ say rest)
   parted records front some rest is = ap said is ∙ said_both front (some ++ rest) ∙ ap (λ (l : List Record). say front ++ l) (said_both some rest)
 
-  none_said : (ids : List StmtId) → list_any is_of_cells (map (λ id. record_of (kept_at slots id)) ids) ≡ false → list_any is_of_cells (say ids) ≡ false
-  none_said ids none = ap (list_any is_of_cells) (sym (kept_said ids)) ∙ none
+  none_said : (but : Option (List ℕ)) (ids : List StmtId) → list_any (is_of_cells but) (map (λ id. record_of (kept_at slots id)) ids) ≡ false → list_any (is_of_cells but) (say ids) ≡ false
+  none_said but ids none = ap (list_any (is_of_cells but)) (sym (kept_said ids)) ∙ none
 
-  module _ (law : OthersLeaveCells) where
-    left_by_one : (old new : List (StmtId × Record)) (x : Exchanged) → IsExchange slots old new x → LeavesCells slots x → filter is_of_cells (said old) ≡ filter is_of_cells (said new)
+  module _ (law : OthersLeaveCells) (but : Option (List ℕ)) where
+    left_by_one : (old new : List (StmtId × Record)) (x : Exchanged) → IsExchange slots old new x → LeavesCells slots but x → filter (is_of_cells but) (said old) ≡ filter (is_of_cells but) (said new)
     left_by_one old new x e leaves =
-        ap (filter is_of_cells) (parted old e.front x.went e.rest e.old_is)
-        ∙ law (say e.front) (say x.went) (say x.came) (say e.rest) (none_said x.went leaves.went) (none_said x.came leaves.came)
-        ∙ ap (filter is_of_cells) (sym (parted new e.front x.came e.rest e.new_is))
+        ap (filter (is_of_cells but)) (parted old e.front x.went e.rest e.old_is)
+        ∙ law (say e.front) (say x.went) (say x.came) (say e.rest) but (none_said but x.went leaves.went) (none_said but x.came leaves.came)
+        ∙ ap (filter (is_of_cells but)) (sym (parted new e.front x.came e.rest e.new_is))
 
-    pub left_by_all : (xs : List Exchanged) (old last : List (StmtId × Record)) → AreExchanges slots old xs last → AllByRecursion (LeavesCells slots) xs
-        → filter is_of_cells (said old) ≡ filter is_of_cells (said last)
-    left_by_all [] old last made leave = ap (λ (rs : List (StmtId × Record)). filter is_of_cells (said rs)) (sym made)
+    pub left_by_all : (xs : List Exchanged) (old last : List (StmtId × Record)) → AreExchanges slots old xs last → AllByRecursion (LeavesCells slots but) xs
+        → filter (is_of_cells but) (said old) ≡ filter (is_of_cells but) (said last)
+    left_by_all [] old last made leave = ap (λ (rs : List (StmtId × Record)). filter (is_of_cells but) (said rs)) (sym made)
     left_by_all (x ∷ xs) old last made leave = left_by_one old made.0 x made.1 leave.0 ∙ left_by_all xs made.0 last made.2 leave.1

@@ -1,4 +1,9 @@
+mod BoxLemmas
 mod CellLemmas
-mod ExchangeLemmas
 mod FollowLemmas
+mod LoopLemmas
+mod MoveLemmas
+mod ReportLemmas
+mod StarLemmas
+mod ToldEditLemmas
 mod ToldLemmas

@@ -14,7 +14,7 @@ use Rattle.measure_rules.specs.NetBoxes.{box_round, rectangles_of}
 use Rattle.measuring_laws.specs.Measuring.{LengthsAreTold}
 use Rattle.net_laws.specs.OneNet.{IsNetTold, OneNetIsTold, TellNet}
 use Rattle.reports.specs.NetMeasures.{AreOfNet}
-use Rattle.followed_measures.specs.Told.{IsToldIn}
+use Rattle.followed_measures.specs.Told.{IsNetIn}
 
 -- what one thing is made of is one thing
 one_made : {A B : Type 0} (make : A → B) (xs : List A) (y : B) → map make xs ≡ y ∷ [] → (x : A) × (xs ≡ x ∷ []) × (make x ≡ y)
@@ -51,7 +51,7 @@ module _ (one : OneNetIsTold) (lengths : LengthsAreTold) (longer : NoneIsLonger)
 
   pub told_so : (length : ℕ) (shapes : List Shape) (bounds : Option Rectangle) → total_length library design (scale design) < 2 ^ 64
       → ((n : List ℕ) → net_names library some (scale some) ≡ n ∷ [] → AreOfNet (net_named library some (scale some) n) (capped (length_of library some (scale some) n)) length shapes bounds)
-      → IsToldIn library design (record { name = name; net_length = length; shapes = shapes; bounds = bounds })
+      → IsNetIn library design (record { name = name; net_length = length; shapes = shapes; bounds = bounds })
   told_so length shapes bounds fits are =
       let mine = are name names_are in
       record {

@@ -1,24 +1,27 @@
--- Answers of which one net is to be exchanged.
-use Rattle.std.specs.Prelude.{◌≡◌, ◌<◌, ℕ, ◌^◌, List, [], ◌∷◌, filter}
+-- Nets that list a pin of all components, of which the pins by one are to be exchanged in answers.
+use Rattle.std.specs.Prelude.{◌≡◌, ℕ, List}
 use Rattle.def_grammar.specs.Records.{Record}
 use Rattle.lef_grammar.specs.Library.{Library}
 use Rattle.design_rules.specs.Boxes.{scale}
-use Rattle.measure_rules.specs.Lengths.{total_length}
-use Rattle.measuring_laws.specs.Measuring.{is_of_cells}
-use Rattle.net_laws.specs.NetChanges.{AgreeApart, is_one_of}
-use Rattle.reports.specs.Answers.{Answers, ReportsOn}
-use Rattle.followed_measures.specs.Told.{IsToldIn, Told}
+use Rattle.net_laws.specs.StarNets.{AgreeBut}
+use Rattle.reports.specs.Answers.{Answers}
+use Rattle.followed_nets.specs.Listed.{AreApart}
+use Rattle.followed_nets.specs.StarHeads.{ArePinShapes, IsPinsBy, PinShapes, pin_names}
+use Rattle.followed_measures.specs.Moved.{HasNet}
 
--- two designs agree on all that is measured but for one net
-pub record AgreeBut (old new : List Record) (net : List ℕ) : Type 0 where
-  pub apart : AgreeApart old new (is_one_of (net ∷ []))
-  pub cells : filter is_of_cells old ≡ filter is_of_cells new
+-- one net: designs agree on all but that component, what goes is of the old one, in which the net is answered on, and what comes of the new
+pub record AwaitsStar (library : Library) (old new : List Record) (component : List ℕ) (before after : PinShapes) (a : Answers) : Type 0 where
+  pub had : HasNet library old a before.name
+  pub agree : (net : List ℕ) → AgreeBut old new net component
+  pub scales : scale old ≡ scale new
+  pub goes : IsPinsBy library old component before
+  pub comes : IsPinsBy library new component after
 
--- they are those of a design that agrees with another on all but that net, which is told in both; and in the other all lengths fit
-pub record AwaitsNet (library : Library) (old new : List Record) (before after : Told) (a : Answers) : Type 0 where
-  pub agree : AgreeBut old new before.name
-  pub told : IsToldIn library old before
-  pub then_told : IsToldIn library new after
-  pub same_name : after.name ≡ before.name
-  pub fits : total_length library new (scale new) < 2 ^ 64
-  pub had : ReportsOn library old a
+-- several nets, none of them twice
+pub record AwaitsStars (library : Library) (old new : List Record) (component : List ℕ) (before after : List PinShapes) (a : Answers) : Type 0 where
+  pub had : (name : List ℕ) → HasNet library old a name
+  pub agree : (net : List ℕ) → AgreeBut old new net component
+  pub scales : scale old ≡ scale new
+  pub go : ArePinShapes library old component before
+  pub come : ArePinShapes library new component after
+  pub apart : AreApart (pin_names before)

@@ -9,8 +9,8 @@ ghost use Rattle.net_laws.specs.OneNet.{TellNet};
 ghost use Rattle.design_text.specs.DesignTexts.{design_of};
 ghost use Rattle.design_text.specs.Exchanges.{records_in};
 ghost use Rattle.followed_nets.specs.Noted.{AreCommon};
-ghost use Rattle.followed_measures.specs.Told.{IsToldIn};
-ghost use Rattle.followed_measures.specs.ToldViews.{told_view};
+ghost use Rattle.followed_measures.specs.Told.{IsNetIn};
+ghost use Rattle.followed_measures.specs.ToldViews.{net_view};
 
 use cell_library::library::Library;
 use def_reader::statement::Statement;
@@ -30,7 +30,7 @@ use std::alloc::{AllocError, Allocator, Global};
 
 /// A net's name, its length, its shapes, and the least rectangle round these, if it has some; in database units.
 #[derive(Drop)]
-pub struct ToldMeasures<A: Allocator = Global> {
+pub(crate) struct ToldNet<A: Allocator = Global> {
     pub(crate) name: OwnName<A>,
     pub(crate) length: u64,
     pub(crate) shapes: Vec<NetShape, A>,
@@ -43,12 +43,12 @@ fn told_by<A: Allocator + Copy>(
     library: &Library<'_, A>,
     statements: &[Statement<'_>],
     net: &[u8],
-) -> Result<Option<ToldMeasures<A>>, AllocError>
+) -> Result<Option<ToldNet<A>>, AllocError>
     requires some { 0 < scale (map record_view statements.now) }
     requires few { scale (map record_view statements.now) ≤ 100000 }
     ensures name { IfOk result (λ found. IfSome found (λ t. t.name ≡ net.now)) }
     ensures told { (design : List Record) → TellNet (map record_view statements.now) design net.now → total_length library.now design (scale design) < 2 ^ 64
-        → IfOk result (λ found. IfSome found (λ t. IsToldIn library.now design (told_view t))) }
+        → IfOk result (λ found. IfSome found (λ t. IsNetIn library.now design (net_view t))) }
 {
     one_net_is_told();
     lengths_are_told();
@@ -63,7 +63,7 @@ fn told_by<A: Allocator + Copy>(
         bounds,
     } = measures;
     let name = OwnName::copy_of(alloc, net)?;
-    Ok(Some(ToldMeasures {
+    Ok(Some(ToldNet {
         name,
         length,
         shapes,
@@ -78,10 +78,10 @@ pub(crate) fn told_net<A: Allocator + Copy>(
     text: &DesignText<A>,
     common: &[StmtId],
     net: &[u8],
-) -> Result<Option<ToldMeasures<A>>, AllocError>
+) -> Result<Option<ToldNet<A>>, AllocError>
     requires { AreCommon (records_in text.now) common.now }
     ensures name { IfOk result (λ found. IfSome found (λ t. t.name ≡ net.now)) }
-    ensures told { IfOk result (λ found. IfSome found (λ t. IsToldIn library.now (design_of text.now) (told_view t))) }
+    ensures told { IfOk result (λ found. IfSome found (λ t. IsNetIn library.now (design_of text.now) (net_view t))) }
 {
     one_net_is_told();
     scales_are_good();

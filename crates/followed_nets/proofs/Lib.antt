@@ -6,7 +6,7 @@ mod ChangedShapes
 mod FollowLemmas
 mod HeadLemmas
 mod HeadsStay
-mod KeptStatements
+pub mod KeptStatements
 mod LackingLemmas
 mod LastOnes
 mod ListedNets
@@ -24,9 +24,10 @@ mod PinPieces
 mod PinsAlone
 mod SameParts
 mod ShortLines
+pub mod StarHeadLemmas
 mod StarsLeft
 mod TellLemmas
-mod TellOneLemmas
+pub mod TellOneLemmas
 mod ToldLemmas
-mod ToldNets
+pub mod ToldNets
 mod WithinLemmas

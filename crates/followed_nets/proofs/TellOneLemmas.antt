@@ -50,7 +50,7 @@ module _ (name : List ℕ) where
   by_record (entry (records.rule x)) rs later = later
   by_record (entry (records.skipped s x)) rs later = passes_or_not (owns (entry (records.skipped s x))) (entry (records.skipped s x)) (filter owns rs) (filter has (filter_map component_of rs)) refl later
 
-  theirs : (design : List Record) → filter_map component_of (filter owns design) ≡ those_named name design
+  pub theirs : (design : List Record) → filter_map component_of (filter owns design) ≡ those_named name design
   theirs [] = refl
   theirs (r ∷ rs) = by_record r rs (theirs rs)
 

@@ -8,6 +8,8 @@ pub mod Noted
 pub mod Owners
 pub mod Pieces
 pub mod StarExchanges
+pub mod StarHeadViews
+pub mod StarHeads
 pub mod Stars
 pub mod Tests
 pub mod Told

@@ -33,7 +33,7 @@ use wire_parts::terminals::Terminal;
 /// An entry of a net without its wiring, as bytes that are read each time.
 #[derive(Drop)]
 pub(crate) struct Head<A: Allocator = Global> {
-    name: OwnName<A>,
+    pub(crate) name: OwnName<A>,
     mode: Mode,
     bytes: Vec<u8, A>,
 }
@@ -203,7 +203,7 @@ fn read_back<A: Allocator + Copy>(
 }
 
 /// The head of the net that a statement is an entry of.
-fn head_of<A: Allocator + Copy>(
+pub(crate) fn head_of<A: Allocator + Copy>(
     alloc: A,
     entry: &Statement<'_>,
 ) -> Result<Option<Head<A>>, AllocError>

@@ -13,7 +13,8 @@
 //! the nets that have shapes there are told for their lines with these (`blocked`, `exchanging_bars`).
 //!
 //! Who follows something else of nets finds the statements that tell one by `common_numbers` and `told_statements`, and whether an edit
-//! leaves all other nets by `exchanges_are_within`.
+//! leaves all other nets by `exchanges_are_within`; for an edit of a component, which nets list it, and its pins of those that list a pin of
+//! all components, by `StarHeads`.
 #![tactic(auto)]
 
 mod blocked;
@@ -25,6 +26,7 @@ mod heads;
 mod listed;
 mod noted;
 mod star_exchange;
+mod star_heads;
 mod star_pins;
 mod stars;
 mod told;
@@ -35,5 +37,6 @@ mod within;
 pub use exchanging::FollowedOnNets;
 pub use followed::FollowedNets;
 pub use noted::common_numbers;
+pub use star_heads::{StarHeads, ToldPins};
 pub use touched::TouchedNets;
 pub use within::exchanges_are_within;

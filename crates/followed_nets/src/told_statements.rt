@@ -26,8 +26,8 @@ use std::alloc::{AllocError, Allocator};
 use wire_parts::nets::NetEntry;
 use wire_parts::terminals::Terminal;
 
-/// The entry of a net in a section. It alone is read.
-pub(crate) fn entry_in<'t, A: Allocator + Copy>(
+/// The entry of a name in a section of nets or of components. It alone is read.
+pub fn entry_in<'t, A: Allocator + Copy>(
     text: &'t DesignText<A>,
     section: Section,
     net: &[u8],

@@ -16,7 +16,7 @@ same_name a b t = grind (arith, bytes_eq-Decides)
 own_name : (a : List ℕ) → bytes_eq a a ≡ true
 own_name a = grind (arith, bytes_eq-Decides)
 
-either_way : (a b : List ℕ) → bytes_eq a b ≡ bytes_eq b a
+pub either_way : (a b : List ℕ) → bytes_eq a b ≡ bytes_eq b a
 either_way a b = grind (arith, bytes_eq-Decides)
 
 -- whether a name is among others

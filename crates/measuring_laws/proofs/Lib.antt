@@ -1,4 +1,4 @@
 mod Cells
 mod EntryLengths
-mod FoundNets
+pub mod FoundNets
 mod Measures

@@ -1,17 +1,20 @@
 -- What is measured of a design of which some nets are exchanged.
-use Rattle.std.specs.Prelude.{◌≡◌, ◌+◌, ℕ, Bool, true, false, List, ◌++◌, filter, Some}
-use Rattle.std.specs.List.{list_any, sum_by}
+use Rattle.std.specs.Prelude.{◌≡◌, ◌+◌, ℕ, Bool, true, false, not, List, [], ◌++◌, filter, Option, Some, None}
+use Rattle.std.specs.List.{filter_map, list_any, sum_by}
 use Rattle.def_grammar.specs.Records as records
 use Rattle.def_grammar.specs.Records.{Record, entry, top}
 use Rattle.def_grammar.specs.Top.{gcell_grid}
 use Rattle.lef_grammar.specs.Library.{Library}
 use Rattle.connection_rules.specs.NetParts.{net_named}
-use Rattle.design_rules.specs.Boxes.{boxes, scale}
+use Rattle.design_rules.specs.Boxes.{Boxed, boxes, component_box, scale}
+use Rattle.following_laws.specs.Following.{Exchange}
 use Rattle.measure_rules.specs.GridCells.{columns, rows}
 use Rattle.measure_rules.specs.Lengths.{is_net, length_of, net_length, total_length}
 use Rattle.measure_rules.specs.NetBoxes.{box_round, net_box, rectangles_of}
 use Rattle.net_laws.specs.NetChanges.{AgreeApart, AreToldIn, is_one_of}
 use Rattle.net_laws.specs.NetsTold.{is_common, is_of_net}
+use Rattle.net_laws.specs.StarNets.{those_named}
+use Rattle.net_laws.specs.Within.{is_component}
 
 -- A net is as long in two designs, and a net in both or in neither.
 pub record AreAsLong (library : Library) (a b : List Record) (u : ℕ) (name : List ℕ) : Type 0 where
@@ -37,22 +40,28 @@ abbrev pub ToldMeasuresFollow : Type 0
 ToldMeasuresFollow = (library : Library) (old new : List Record) (nets : List (List ℕ)) → AgreeApart old new (is_one_of nets) → AreToldIn old nets → AreToldIn new nets
     → MeasuresFollow library old new nets
 
--- a statement of what cells hold beside nets: a component, or one of the grid
-abbrev pub is_of_cells : Record → Bool
-is_of_cells (top (gcell_grid g)) = true
-is_of_cells (entry (records.component c)) = true
-is_of_cells _ = false
+-- a statement of what cells hold beside nets: one of the grid, or a component, but for the one of a name, if there is one
+abbrev pub is_of_cells : Option (List ℕ) → Record → Bool
+is_of_cells but (top (gcell_grid g)) = true
+is_of_cells but (entry (records.component c)) = not (is_component but c.name)
+is_of_cells but _ = false
 
--- Designs of one scale that agree on these have the same cells, and the same boxes in them.
-pub record HaveSameCells (library : Library) (a b : List Record) : Type 0 where
+-- the boxes of the components of that name which take part
+abbrev pub own_boxes : Library → List Record → Option (List ℕ) → List Boxed
+own_boxes library design None = []
+own_boxes library design (Some name) = filter_map (component_box library (scale design)) (those_named name design)
+
+-- Designs of one scale that agree on such statements have the same cells, and in them the same boxes but for those of that name.
+pub record CellsFollow (library : Library) (a b : List Record) (but : Option (List ℕ)) : Type 0 where
   pub columns : columns a ≡ columns b
   pub rows : rows a ≡ rows b
-  pub boxes : boxes library a ≡ boxes library b
+  pub stay : List Boxed
+  pub boxes : Exchange (boxes library a) (boxes library b) (own_boxes library a but) (own_boxes library b but) stay
 
-abbrev pub CellsAreTold : Type 0
-CellsAreTold = (library : Library) (a b : List Record) → filter is_of_cells a ≡ filter is_of_cells b → scale a ≡ scale b → HaveSameCells library a b
+abbrev pub ToldCellsFollow : Type 0
+ToldCellsFollow = (library : Library) (a b : List Record) (but : Option (List ℕ)) → filter (is_of_cells but) a ≡ filter (is_of_cells but) b → scale a ≡ scale b → CellsFollow library a b but
 
 -- An exchange of other statements leaves these.
 abbrev pub OthersLeaveCells : Type 0
-OthersLeaveCells = (front out put behind : List Record) → list_any is_of_cells out ≡ false → list_any is_of_cells put ≡ false
-    → filter is_of_cells (front ++ (out ++ behind)) ≡ filter is_of_cells (front ++ (put ++ behind))
+OthersLeaveCells = (front out put behind : List Record) (but : Option (List ℕ)) → list_any (is_of_cells but) out ≡ false → list_any (is_of_cells but) put ≡ false
+    → filter (is_of_cells but) (front ++ (out ++ behind)) ≡ filter (is_of_cells but) (front ++ (put ++ behind))

@@ -1,9 +1,9 @@
-//! Laws of what is measured of a design of which some nets are exchanged: lengths, boxes, and the cells of its grid.
+//! Laws of what is measured of a design of which some nets or a component are exchanged: lengths, boxes, and the cells of its grid.
 //!
 //! Each law is an empty function that ensures it; call it to use it. Which nets an edit exchanges is told by `net_laws`.
 #![tactic(auto)]
 
-ghost use Rattle.measuring_laws.specs.Measuring.{CellsAreTold, LengthsAreTold, OthersLeaveCells, ToldMeasuresFollow};
+ghost use Rattle.measuring_laws.specs.Measuring.{LengthsAreTold, OthersLeaveCells, ToldCellsFollow, ToldMeasuresFollow};
 
 use net_laws::{nets_are_told, one_net_is_told, told_nets_are_exchanged};
 
@@ -21,9 +21,10 @@ pub fn told_measures_follow()
     told_nets_are_exchanged();
 }
 
-/// Designs that agree on the statements of the grid and on components have the same cells, and the same boxes in them.
-pub fn cells_are_told()
-    ensures { CellsAreTold }
+/// Designs that agree on the statements of the grid and on components but for one have the same cells, and the same boxes in them but for
+/// that one's.
+pub fn told_cells_follow()
+    ensures { ToldCellsFollow }
 {}
 
 /// An exchange of other statements leaves these.

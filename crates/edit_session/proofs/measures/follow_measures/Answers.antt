@@ -3,7 +3,7 @@ use Rattle.design_text.specs.Exchanges.{records_in}
 use Rattle.followed_measures.specs.FollowedMeasures.{HasMeasures}
 use Rattle.followed_measures.specs.Told.{IsToldIn}
 use Rattle.followed_measures.specs.ToldViews.{told_view}
-use Rattle.followed_measures.specs.declared.told.ToldMeasures.{ToldMeasures}
+use Rattle.followed_measures.specs.declared.told_edit.ToldMeasures.{ToldMeasures}
 use Rattle.followed_places.specs.Places.{said}
 use Rattle.edit_session.proofs.FollowLemmas.{of_some}
 use Rattle.edit_session.proofs.measures.follow_measures.Goals as goal

@@ -1,4 +1,5 @@
 use Rattle.std.proofs.Common.{◌≤◌, arith, length}
+use Rattle.std.specs.Option.{option_map}
 use Rattle.design_text.specs.Exchanges.{exchange_view, records_in}
 use Rattle.followed_measures.specs.Cells.{LeavesCells}
 use Rattle.followed_measures.proofs.CellLemmas.{AreKept, all_kept, left_by_all, of_next, of_none, with_next}
@@ -27,7 +28,7 @@ loop-place-preserved g c =
     let x = exchange_view c.in-Some.exchange in
     record {
       kept = (of_next (AreKept slots) all c.loop-place.place x c.in-Some.ensures c.loop-place.invariant.kept).1;
-      so_far = λ left. c.loop-place.invariant.so_far (with_next (LeavesCells slots) all c.loop-place.place x c.in-Some.ensures (c.in_ok-leaves_cells.ensures c.if-not-branch.false) left);
+      so_far = λ left. c.loop-place.invariant.so_far (with_next (LeavesCells slots (option_map (λ w. w.now) c.args.but)) all c.loop-place.place x c.in-Some.ensures (c.in_ok-leaves_cells.ensures c.if-not-branch.false) left);
     }
 
 pub returns : goal.returns
@@ -36,4 +37,4 @@ returns g c =
     let all = c.args.made.now.exchanges in
     let done : length all ≤ c.loop-place.place = omega (arith, c.loop-place-test.false, c.len-place-end.ensures) in
     λ old made all_left.
-    left_by_all slots c.others_leave_cells.ensures all old (records_in c.args.text.now) made (c.loop-place.invariant.so_far (of_none (LeavesCells slots) all c.loop-place.place done))
+    left_by_all slots c.others_leave_cells.ensures (option_map (λ w. w.now) c.args.but) all old (records_in c.args.text.now) made (c.loop-place.invariant.so_far (of_none (LeavesCells slots (option_map (λ w. w.now) c.args.but)) all c.loop-place.place done))

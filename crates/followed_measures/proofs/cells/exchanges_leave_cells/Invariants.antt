@@ -1,4 +1,5 @@
 use Rattle.std.proofs.Common.{drop}
+use Rattle.std.specs.Option.{option_map}
 use Rattle.std.specs.List.{AllByRecursion}
 use Rattle.followed_measures.specs.Cells.{LeavesCells}
 use Rattle.followed_measures.proofs.CellLemmas.{AreKept}
@@ -10,5 +11,5 @@ invariant-loop-place g l =
     let left = drop l.place l.made.exchanges in
     record {
       kept : AllByRecursion (AreKept slots) left;
-      so_far : AllByRecursion (LeavesCells slots) left → AllByRecursion (LeavesCells slots) l.made.exchanges;
+      so_far : AllByRecursion (LeavesCells slots (option_map (λ w. w.now) l.but)) left → AllByRecursion (LeavesCells slots (option_map (λ w. w.now) l.but)) l.made.exchanges;
     }
