@@ -24,9 +24,9 @@ use Rattle.followed_nets.specs.StarHeads.{AreStarHeads, ArePinShapes, PinShapes,
 use Rattle.followed_nets.specs.Within.{Leaves}
 use Rattle.followed_nets.proofs.StarHeadLemmas.{star_heads_stay}
 use Rattle.followed_measures.specs.Exchanging.{AwaitsStars}
-use Rattle.followed_measures.specs.Moved.{NetsMoved}
+use Rattle.followed_measures.specs.ExchangedNets.{NetsExchanged}
 use Rattle.followed_measures.specs.Told.{IsToldIn, ToldNet, told_names}
-use Rattle.followed_measures.proofs.MoveLemmas.{more_moved, none_moved}
+use Rattle.followed_measures.proofs.ExchangeLemmas.{exchange_of_more, exchange_of_none}
 use Rattle.followed_measures.proofs.ReportLemmas.{reports_then}
 
 -- no component is exchanged
@@ -68,10 +68,10 @@ module _ (library : Library) (old new : List Record) (follow : ToldMeasuresFollo
         subst (λ (ns : List (List ℕ)). AgreeApart old new (is_one_of ns)) (append-nil (told_names nets))
         (leaves.apart (told_names nets ++ []) (λ net there. ap (λ (ns : List (List ℕ)). is_one_of ns net) (append-nil (told_names nets) ∙ sym named) ∙ there) is_told.lists).0
 
-    pub nets_followed : (a b : Answers) → ReportsOn library old a → NetsMoved library old new (told_names nets) a b → ReportsOn library new b
-    nets_followed a b had moved =
+    pub nets_followed : (a b : Answers) → ReportsOn library old a → NetsExchanged library old new (told_names nets) a b → ReportsOn library new b
+    nets_followed a b had made =
         reports_then library old new (told_names nets) None a b b None None follow exchanged cells_follow nets_apart
-        (subst AreApart (append-nil (told_names nets)) is_told.apart) same_cells had moved (none_placed b) refl refl
+        (subst AreApart (append-nil (told_names nets)) is_told.apart) same_cells had made (none_placed b) refl refl
 
     pub heads_of_others : (hs : List Head) → AllByRecursion (λ (h : Head). is_one_of names h.name ≡ false) hs → AreStarHeads old hs → AreStarHeads new hs
     heads_of_others hs others are =
@@ -84,8 +84,8 @@ module _ (library : Library) (old new : List Record) (follow : ToldMeasuresFollo
     all_of_others (Some hs) others are = heads_of_others hs others are
 
     -- where there are none
-    pub nothing_moved : nets ≡ [] → (a : Answers) → NetsMoved library old new (told_names nets) a a
-    nothing_moved none a = subst (λ (ns : List ToldNet). NetsMoved library old new (told_names ns) a a) (sym none) (none_moved library old new a)
+    pub nothing_exchanged : nets ≡ [] → (a : Answers) → NetsExchanged library old new (told_names nets) a a
+    nothing_exchanged none a = subst (λ (ns : List ToldNet). NetsExchanged library old new (told_names ns) a a) (sym none) (exchange_of_none library old new a)
 
   -- an edit of a component
   module _ (component : List ℕ) (bounds : Option Rectangle) (stars : List PinShapes) (is_told : IsToldIn library old (record { nets = nets; component = Some component; bounds = bounds; stars = stars })) (leaves : Leaves old new [] (Some component))
@@ -103,9 +103,9 @@ module _ (library : Library) (old new : List Record) (follow : ToldMeasuresFollo
       apart = later (told_names nets) (pin_names stars) is_told.apart;
     }
 
-    pub component_followed : (a b c d : Answers) (come : Option Rectangle) → ReportsOn library old a → NetsMoved library old new (pin_names stars) a b → NetsMoved library old new (told_names nets) b c → ComponentExchanged bounds come c d
+    pub component_followed : (a b c d : Answers) (come : Option Rectangle) → ReportsOn library old a → NetsExchanged library old new (pin_names stars) a b → NetsExchanged library old new (told_names nets) b c → ComponentExchanged bounds come c d
         → box_shapes come ≡ map box_shape (own_boxes library new (Some component)) → ReportsOn library new d
     component_followed a b c d come had first next placed come_is =
         reports_then library old new (told_names nets ++ pin_names stars) (Some component) a c d bounds come follow exchanged cells_follow
         (leaves.apart (told_names nets ++ pin_names stars) (λ net there. absurd (cc)) is_told.lists).0
-        is_told.apart same_cells had (more_moved library old new (pin_names stars) (told_names nets) a b c first next) placed is_told.box_is come_is
+        is_told.apart same_cells had (exchange_of_more library old new (pin_names stars) (told_names nets) a b c first next) placed is_told.box_is come_is

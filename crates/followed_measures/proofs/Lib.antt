@@ -1,8 +1,8 @@
 mod BoxLemmas
 mod CellLemmas
+mod ExchangeLemmas
 mod FollowLemmas
 mod LoopLemmas
-mod MoveLemmas
 mod ReportLemmas
 mod StarLemmas
 mod ToldEditLemmas

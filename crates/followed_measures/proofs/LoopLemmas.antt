@@ -16,15 +16,15 @@ use Rattle.reports.specs.Exchanges.{NetExchanged}
 use Rattle.followed_nets.specs.Listed.{AreApart}
 use Rattle.followed_nets.specs.StarHeads.{ArePinShapes, IsPinsBy, PinShapes, pin_names}
 use Rattle.followed_measures.specs.Exchanging.{AwaitsStar, AwaitsStars}
-use Rattle.followed_measures.specs.Moved.{HasNet, NetsMoved, nets_of, shapes_of}
+use Rattle.followed_measures.specs.ExchangedNets.{HasNet, NetsExchanged, nets_of, shapes_of}
 use Rattle.followed_measures.specs.Told.{IsNetIn, ToldNet, told_names}
-use Rattle.followed_measures.proofs.MoveLemmas.{more_moved, none_moved, one_moved}
+use Rattle.followed_measures.proofs.ExchangeLemmas.{exchange_of_more, exchange_of_none, exchange_of_one}
 
 -- the nets behind those that are left were exchanged
 pub record NetsLeft (library : Library) (old new : List Record) (all left : List (List ℕ)) (before now : Answers) : Type 0 where
   pub done : List (List ℕ)
   pub order : all ≡ left ++ done
-  pub moved : NetsMoved library old new done before now
+  pub made : NetsExchanged library old new done before now
 
 -- the last of some
 module _ {A : Type 0} (P : A → Type 0) where
@@ -34,18 +34,18 @@ module _ {A : Type 0} (P : A → Type 0) where
 
 module _ (library : Library) (old new : List Record) where
   pub none_done : (all : List (List ℕ)) (a : Answers) → NetsLeft library old new all all a a
-  none_done all a = record { done = []; order = sym (append-nil all); moved = none_moved library old new a }
+  none_done all a = record { done = []; order = sym (append-nil all); made = exchange_of_none library old new a }
 
-  pub next_done : (all left : List (List ℕ)) (name : List ℕ) (a b c : Answers) → NetsLeft library old new all (left ++ name ∷ []) a b → NetsMoved library old new (name ∷ []) b c → NetsLeft library old new all left a c
+  pub next_done : (all left : List (List ℕ)) (name : List ℕ) (a b c : Answers) → NetsLeft library old new all (left ++ name ∷ []) a b → NetsExchanged library old new (name ∷ []) b c → NetsLeft library old new all left a c
   next_done all left name a b c so_far next = record {
     done = name ∷ so_far.done;
     order = so_far.order ∙ append_assoc left (name ∷ []) so_far.done;
-    moved = more_moved library old new so_far.done (name ∷ []) a b c so_far.moved next;
+    made = exchange_of_more library old new so_far.done (name ∷ []) a b c so_far.made next;
   }
 
-  pub all_done : (all left : List (List ℕ)) (a b : Answers) → left ≡ [] → NetsLeft library old new all left a b → NetsMoved library old new all a b
+  pub all_done : (all left : List (List ℕ)) (a b : Answers) → left ≡ [] → NetsLeft library old new all left a b → NetsExchanged library old new all a b
   all_done all left a b none so_far =
-      subst (λ (names : List (List ℕ)). NetsMoved library old new names a b) (sym (so_far.order ∙ ap (λ (names : List (List ℕ)). names ++ so_far.done) none)) so_far.moved
+      subst (λ (names : List (List ℕ)). NetsExchanged library old new names a b) (sym (so_far.order ∙ ap (λ (names : List (List ℕ)). names ++ so_far.done) none)) so_far.made
 
 -- Nets that are told. The last of those that are left is exchanged.
 pub record ToldLeft (library : Library) (old new : List Record) (all left : List ToldNet) (before now : Answers) : Type 0 where
@@ -56,7 +56,7 @@ module _ (library : Library) (old new : List Record) (all : List ToldNet) where
   pub none_told : (a : Answers) → AllByRecursion (IsNetIn library old) all → ToldLeft library old new all all a a
   none_told a are = record { are = are; nets = none_done library old new (told_names all) a }
 
-  pub next_told : (with_last left : List ToldNet) (t : ToldNet) (a b c : Answers) → with_last ≡ left ++ t ∷ [] → ToldLeft library old new all with_last a b → (IsNetIn library old t → NetsMoved library old new (t.name ∷ []) b c)
+  pub next_told : (with_last left : List ToldNet) (t : ToldNet) (a b c : Answers) → with_last ≡ left ++ t ∷ [] → ToldLeft library old new all with_last a b → (IsNetIn library old t → NetsExchanged library old new (t.name ∷ []) b c)
       → ToldLeft library old new all left a c
   next_told with_last left t a b c is so_far next =
       let both = last_of (IsNetIn library old) left t (subst (AllByRecursion (IsNetIn library old)) is so_far.are) in
@@ -95,19 +95,19 @@ module _ (library : Library) (old new : List Record) (component : List ℕ) (all
   no_star after a awaits = record { awaits = awaits; apart = awaits.apart; nets = none_done library old new (pin_names all) a }
 
   -- a net that wasn't exchanged yet is answered on as before
-  module _ (done : List (List ℕ)) (name : List ℕ) (a b : Answers) (moved : NetsMoved library old new done a b) (other : is_one_of done name ≡ false) (had : HasNet library old a name) where
-    not_moved : {B : Type 0} (mine others : B) (t : Bool) → t ≡ false → (if t then mine else others) ≡ others
-    not_moved mine others true h = absurd (cc)
-    not_moved mine others false h = refl
+  module _ (done : List (List ℕ)) (name : List ℕ) (a b : Answers) (made : NetsExchanged library old new done a b) (other : is_one_of done name ≡ false) (had : HasNet library old a name) where
+    not_exchanged : {B : Type 0} (mine others : B) (t : Bool) → t ≡ false → (if t then mine else others) ≡ others
+    not_exchanged mine others true h = absurd (cc)
+    not_exchanged mine others false h = refl
 
     still_has : HasNet library old b name
     still_has = record {
-      net_length = moved.net_length name ∙ not_moved _ (length_in a name) (is_one_of done name) other ∙ had.net_length;
-      net_box = moved.net_box name ∙ not_moved _ (box_in a name) (is_one_of done name) other ∙ had.net_box;
+      net_length = made.net_length name ∙ not_exchanged _ (length_in a name) (is_one_of done name) other ∙ had.net_length;
+      net_box = made.net_box name ∙ not_exchanged _ (box_in a name) (is_one_of done name) other ∙ had.net_box;
     }
 
   pub next_star : (with_last left with_first after : List PinShapes) (p q : PinShapes) (a b c : Answers) → with_last ≡ left ++ p ∷ [] → with_first ≡ after ++ q ∷ [] → StarsLeft library old new component all with_last with_first a b
-      → (AwaitsStar library old new component p q b → NetsMoved library old new (p.name ∷ []) b c) → StarsLeft library old new component all left after a c
+      → (AwaitsStar library old new component p q b → NetsExchanged library old new (p.name ∷ []) b c) → StarsLeft library old new component all left after a c
   next_star with_last left with_first after p q a b c is its so_far next =
       let names : pin_names with_last ≡ pin_names left ++ p.name ∷ [] = ap pin_names is ∙ map-append (λ (r : PinShapes). r.name) left (p ∷ []) in
       let awaits = so_far.awaits in
@@ -127,7 +127,7 @@ module _ (library : Library) (old new : List Record) (component : List ℕ) (all
         nets = next_done library old new (pin_names all) (pin_names left) p.name a b c
             (subst (λ (ns : List (List ℕ)). NetsLeft library old new (pin_names all) ns a b) names so_far.nets)
             (next (record {
-              had = still_has so_far.nets.done p.name a b so_far.nets.moved (not_later (pin_names left) so_far.nets.done p.name order) (awaits.had p.name);
+              had = still_has so_far.nets.done p.name a b so_far.nets.made (not_later (pin_names left) so_far.nets.done p.name order) (awaits.had p.name);
               agree = awaits.agree;
               scales = awaits.scales;
               goes = goes.1;
@@ -141,13 +141,13 @@ one_more P [] x are own = (own, tt)
 one_more P (y ∷ xs) x are own = (are.0, one_more P xs x are.1 own)
 
 -- a net that is told in both designs
-pub net_moved : (library : Library) (old new : List Record) (before after : ToldNet) (a b : Answers) → IsNetIn library old before → IsNetIn library new after → after.name ≡ before.name
-    → NetExchanged before.name before.net_length after.net_length before.shapes after.shapes after.bounds a b → NetsMoved library old new (before.name ∷ []) a b
-net_moved library old new before after a b was is same e =
+pub exchange_of_net : (library : Library) (old new : List Record) (before after : ToldNet) (a b : Answers) → IsNetIn library old before → IsNetIn library new after → after.name ≡ before.name
+    → NetExchanged before.name before.net_length after.net_length before.shapes after.shapes after.bounds a b → NetsExchanged library old new (before.name ∷ []) a b
+exchange_of_net library old new before after a b was is same e =
     let name = before.name in
     let now : IsNetIn library new (record { name = name; net_length = after.net_length; shapes = after.shapes; bounds = after.bounds }) =
     subst (λ (n : List ℕ). IsNetIn library new (record { name = n; net_length = after.net_length; shapes = after.shapes; bounds = after.bounds })) same is in
-    one_moved library old new name before.net_length after.net_length before.shapes after.shapes [] after.bounds a b e (was.some, was.tell) (now.some, now.tell) was.length_is now.length_is now.bounds_are
+    exchange_of_one library old new name before.net_length after.net_length before.shapes after.shapes [] after.bounds a b e (was.some, was.tell) (now.some, now.tell) was.length_is now.length_is now.bounds_are
     (alone old before.shapes was.shapes_are) (alone new after.shapes now.shapes_are)
   where
     alone : (design : List Record) (shapes : List Shape) → shapes ≡ map (λ (s : NetShape). s.shape) (shapes_of_net (net_named library design (scale design) before.name)) → SameThings (shapes_of (nets_of library design (before.name ∷ []))) (shapes ++ [])

@@ -26,9 +26,9 @@ use Rattle.reports.specs.Exchanges.{NetExchanged}
 use Rattle.followed_nets.specs.StarHeads.{PinShapes}
 use Rattle.followed_measures.specs.Bounds.{BoxFollows, boxes_in}
 use Rattle.followed_measures.specs.Exchanging.{AwaitsStar}
-use Rattle.followed_measures.specs.Moved.{HasNet, NetsMoved, nets_of, shapes_of}
+use Rattle.followed_measures.specs.ExchangedNets.{HasNet, NetsExchanged, nets_of, shapes_of}
 use Rattle.followed_measures.proofs.BoxLemmas.{box_in_any_order}
-use Rattle.followed_measures.proofs.MoveLemmas.{one_moved}
+use Rattle.followed_measures.proofs.ExchangeLemmas.{exchange_of_one}
 
 abbrev box_of : Shape → Rectangle
 box_of s = s.box
@@ -120,10 +120,10 @@ module _ (library : Library) (old new : List Record) (name component : List ℕ)
         (ap (option_map (λ (m : Net). box_round (rectangles_of m))) (sym (net_is_found library old (scale old) name)) ∙ sym had.net_box ∙ box_is) there.0)
         ∙ boxed (shapes_in (net_named library old (scale old) name).parts) gone stay old_parted
 
-    pub star_moved : (bounds : Option Rectangle) → BoxFollows (boxes_in gone) (boxes_in come) was bounds → (b : Answers) → NetExchanged name length length gone come bounds a b
-        → NetsMoved library old new (name ∷ []) a b
-    star_moved bounds after b e =
-        one_moved library old new name length length gone come stay bounds a b e tell then_tell (sym there.1) (sym there.1 ∙ sym as_long)
+    pub exchange_of_star : (bounds : Option Rectangle) → BoxFollows (boxes_in gone) (boxes_in come) was bounds → (b : Answers) → NetExchanged name length length gone come bounds a b
+        → NetsExchanged library old new (name ∷ []) a b
+    exchange_of_star bounds after b e =
+        exchange_of_one library old new name length length gone come stay bounds a b e tell then_tell (sym there.1) (sym there.1 ∙ sym as_long)
         (after (boxes_in stay) was_box ∙ sym (boxed (shapes_in (net_named library new (scale new) name).parts) come stay new_parted))
         (subst (λ (ss : List Shape). SameThings ss (gone ++ stay)) (sym (net_shapes library old name)) old_parted)
         (subst (λ (ss : List Shape). SameThings ss (come ++ stay)) (sym (net_shapes library new name)) new_parted)
@@ -131,12 +131,12 @@ module _ (library : Library) (old new : List Record) (name component : List ℕ)
 -- one that awaits its exchange
 pub star_told : (library : Library) (old new : List Record) (component : List ℕ) (lengths_told : LengthsAreTold) (exchange : OneComponentExchanged) (tells : OneEntryTells) (before after : PinShapes) (a : Answers)
     → AwaitsStar library old new component before after a → after.name ≡ before.name → (length : ℕ) (was bounds : Option Rectangle) → length_in a before.name ≡ Some length → box_in a before.name ≡ Some was
-    → BoxFollows (boxes_in before.shapes) (boxes_in after.shapes) was bounds → (b : Answers) → NetExchanged before.name length length before.shapes after.shapes bounds a b → NetsMoved library old new (before.name ∷ []) a b
+    → BoxFollows (boxes_in before.shapes) (boxes_in after.shapes) was bounds → (b : Answers) → NetExchanged before.name length length before.shapes after.shapes bounds a b → NetsExchanged library old new (before.name ∷ []) a b
 star_told library old new component lengths_told exchange tells before after a awaits same length was bounds length_is box_is follows b e =
     let name = before.name in
     let goes : before.shapes ≡ shapes_in (pins_by_one library old (scale old) name component) = awaits.goes.shapes_are in
     let comes : after.shapes ≡ shapes_in (pins_by_one library new (scale new) name component) = awaits.comes.shapes_are ∙ ap (λ (n : List ℕ). shapes_in (pins_by_one library new (scale new) n component)) same in
-    star_moved library old new name component lengths_told exchange tells (awaits.agree name) awaits.scales awaits.goes.entry awaits.goes.one_entry a awaits.had length was length_is box_is bounds
+    exchange_of_star library old new name component lengths_told exchange tells (awaits.agree name) awaits.scales awaits.goes.entry awaits.goes.one_entry a awaits.had length was length_is box_is bounds
     (subst (λ (ss : List Shape). BoxFollows (boxes_in ss) (boxes_in (shapes_in (pins_by_one library new (scale new) name component))) was bounds) goes (subst (λ (ss : List Shape). BoxFollows (boxes_in before.shapes) (boxes_in ss) was bounds) comes follows))
     b
     (subst (λ (ss : List Shape). NetExchanged name length length ss (shapes_in (pins_by_one library new (scale new) name component)) bounds a b) goes (subst (λ (ss : List Shape). NetExchanged name length length before.shapes ss bounds a b) comes e))

@@ -8,13 +8,13 @@ use Rattle.measure_rules.specs.NetBoxes.{box_round}
 abbrev pub boxes_in : List Shape → List Rectangle
 boxes_in shapes = map (λ (s : Shape). s.box) shapes
 
--- a rectangle lies inside of another, away from its sides
+-- the second rectangle lies in the first, away from its sides
 abbrev pub is_inside : Rectangle → Rectangle → Bool
 is_inside b r = (int_lt b.x1 r.x1 && int_lt r.x2 b.x2) && (int_lt b.y1 r.y1 && int_lt r.y2 b.y2)
 
 abbrev pub AreInside : Rectangle → List Rectangle → Type 0
 AreInside b rs = AllByRecursion (λ (r : Rectangle). is_inside b r ≡ true) rs
 
--- whatever others there are: where one rectangle was the box round them and those that go, the other is that round them and those that come
+-- where the old rectangle is the least one round those that go and any others, the new one is that round those that come and these
 abbrev pub BoxFollows : List Rectangle → List Rectangle → Option Rectangle → Option Rectangle → Type 0
 BoxFollows gone come old new = (rest : List Rectangle) → old ≡ box_round (gone ++ rest) → new ≡ box_round (come ++ rest)

@@ -7,7 +7,7 @@ use Rattle.net_laws.specs.StarNets.{AgreeBut}
 use Rattle.reports.specs.Answers.{Answers}
 use Rattle.followed_nets.specs.Listed.{AreApart}
 use Rattle.followed_nets.specs.StarHeads.{ArePinShapes, IsPinsBy, PinShapes, pin_names}
-use Rattle.followed_measures.specs.Moved.{HasNet}
+use Rattle.followed_measures.specs.ExchangedNets.{HasNet}
 
 -- one net: designs agree on all but that component, what goes is of the old one, in which the net is answered on, and what comes of the new
 pub record AwaitsStar (library : Library) (old new : List Record) (component : List ℕ) (before after : PinShapes) (a : Answers) : Type 0 where

@@ -1,7 +1,7 @@
 pub mod Bounds
 pub mod Cells
+pub mod ExchangedNets
 pub mod Exchanging
 pub mod FollowedMeasures
-pub mod Moved
 pub mod Told
 pub mod ToldViews

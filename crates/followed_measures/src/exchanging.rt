@@ -10,7 +10,7 @@ ghost use Rattle.reports.specs.Exchanges.{NetExchanged};
 ghost use Rattle.followed_nets.specs.StarHeads.{pin_names};
 ghost use Rattle.followed_nets.specs.StarHeadViews.{pins_view};
 ghost use Rattle.followed_measures.specs.Exchanging.{AwaitsStar, AwaitsStars};
-ghost use Rattle.followed_measures.specs.Moved.{NetsMoved};
+ghost use Rattle.followed_measures.specs.ExchangedNets.{NetsExchanged};
 
 use crate::bounds::bounds_after;
 use design_model::geometry::Rect;
@@ -57,7 +57,7 @@ fn exchange_star<A: Allocator + Copy>(
     after: &ToldPins<A>,
 ) -> Result<bool, AllocError>
     ensures { (library : TheLibrary) (old new : List Record) (component : List ℕ) → AwaitsStar library old new component (pins_view before.now) (pins_view after.now) reports.old
-        → IfOk result (λ b. b ≡ true → NetsMoved library old new ((pins_view before.now).name ∷ []) reports.old reports.new) }
+        → IfOk result (λ b. b ≡ true → NetsExchanged library old new ((pins_view before.now).name ∷ []) reports.old reports.new) }
 {
     lengths_are_told();
     one_component_exchanged();
@@ -93,7 +93,7 @@ pub(crate) fn exchange_stars<A: Allocator + Copy>(
     after: Vec<ToldPins<A>, A>,
 ) -> Result<bool, AllocError>
     ensures { (library : TheLibrary) (old new : List Record) (component : List ℕ) → AwaitsStars library old new component (map pins_view before.items) (map pins_view after.items) reports.old
-        → IfOk result (λ b. b ≡ true → NetsMoved library old new (pin_names (map pins_view before.items)) reports.old reports.new) }
+        → IfOk result (λ b. b ≡ true → NetsExchanged library old new (pin_names (map pins_view before.items)) reports.old reports.new) }
 {
     let mut before = before;
     let mut after = after;

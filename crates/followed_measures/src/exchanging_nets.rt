@@ -6,7 +6,7 @@ ghost use Rattle.def_grammar.specs.Records.{Record};
 ghost use Rattle.design_text.specs.DesignTexts.{design_of};
 ghost use Rattle.design_text.specs.Exchanges.{records_in};
 ghost use Rattle.followed_nets.specs.Noted.{AreCommon};
-ghost use Rattle.followed_measures.specs.Moved.{NetsMoved};
+ghost use Rattle.followed_measures.specs.ExchangedNets.{NetsExchanged};
 ghost use Rattle.followed_measures.specs.Told.{IsNetIn, told_names};
 ghost use Rattle.followed_measures.specs.ToldViews.{net_view};
 
@@ -28,7 +28,7 @@ fn exchange_net<A: Allocator + Copy>(
     before: &ToldNet<A>,
 ) -> Result<bool, AllocError>
     requires { AreCommon (records_in text.now) common.now }
-    ensures { (old : List Record) → IsNetIn library.now old (net_view before.now) → IfOk result (λ b. b ≡ true → NetsMoved library.now old (design_of text.now) ((net_view before.now).name ∷ []) reports.old reports.new) }
+    ensures { (old : List Record) → IsNetIn library.now old (net_view before.now) → IfOk result (λ b. b ≡ true → NetsExchanged library.now old (design_of text.now) ((net_view before.now).name ∷ []) reports.old reports.new) }
 {
     let Some(after) = told_net(alloc, library, text, common, before.name.bytes())? else {
         return Ok(false);
@@ -54,7 +54,7 @@ pub(crate) fn exchange_nets<A: Allocator + Copy>(
     told: Vec<ToldNet<A>, A>,
 ) -> Result<bool, AllocError>
     requires { AreCommon (records_in text.now) common.now }
-    ensures { (old : List Record) → AllByRecursion (IsNetIn library.now old) (map net_view told.items) → IfOk result (λ b. b ≡ true → NetsMoved library.now old (design_of text.now) (told_names (map net_view told.items)) reports.old reports.new) }
+    ensures { (old : List Record) → AllByRecursion (IsNetIn library.now old) (map net_view told.items) → IfOk result (λ b. b ≡ true → NetsExchanged library.now old (design_of text.now) (told_names (map net_view told.items)) reports.old reports.new) }
 {
     let mut left = told;
     while let Some(net) = left.pop() {

@@ -1,4 +1,4 @@
--- What is measured of a design of which some nets are exchanged.
+-- What is measured of a design of which some nets, or a component, are exchanged.
 use Rattle.std.specs.Prelude.{◌≡◌, ◌+◌, ℕ, Bool, true, false, not, List, [], ◌++◌, filter, Option, Some, None}
 use Rattle.std.specs.List.{filter_map, list_any, sum_by}
 use Rattle.def_grammar.specs.Records as records

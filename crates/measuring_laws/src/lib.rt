@@ -21,8 +21,8 @@ pub fn told_measures_follow()
     told_nets_are_exchanged();
 }
 
-/// Designs that agree on the statements of the grid and on components but for one have the same cells, and the same boxes in them but for
-/// that one's.
+/// Designs of one scale that agree on the statements of the grid and on components, but for those of one name, have the same cells, and the
+/// same boxes in them but for that one's.
 pub fn told_cells_follow()
     ensures { ToldCellsFollow }
 {}

@@ -6,7 +6,7 @@ use Rattle.reports.specs.Answers.{box_in, length_in}
 use Rattle.reports.specs.Exchanges.{NetExchanged}
 use Rattle.followed_nets.specs.StarHeadViews.{pins_view}
 use Rattle.followed_measures.specs.Bounds.{BoxFollows, boxes_in}
-use Rattle.followed_measures.specs.Moved.{NetsMoved}
+use Rattle.followed_measures.specs.ExchangedNets.{NetsExchanged}
 use Rattle.followed_measures.proofs.StarLemmas.{star_told}
 use Rattle.followed_measures.proofs.exchanging.exchange_star.Goals as goal
 
@@ -24,6 +24,6 @@ returns g c = λ library old new component awaits.
     let exchanged = rw (c.bytes-name.ensures, c.deref-3.ensures.value, c.deref-4.ensures.value) at c.exchange_one.ensures in
     IfOk-weaker c.exchange_one.result
     (λ (b : Bool). b ≡ true → NetExchanged before.name c.in-Some.length c.in-Some.length before.shapes after.shapes bounds a c.exchange_one.new.reports)
-    (λ (b : Bool). b ≡ true → NetsMoved library old new (before.name ∷ []) a c.exchange_one.new.reports)
+    (λ (b : Bool). b ≡ true → NetsExchanged library old new (before.name ∷ []) a c.exchange_one.new.reports)
     (λ b e is. star_told library old new component c.lengths_are_told.ensures c.one_component_exchanged.ensures c.one_entry_tells.ensures before after a awaits same c.in-Some.length was bounds length_is box_is follows c.exchange_one.new.reports (e is))
     exchanged

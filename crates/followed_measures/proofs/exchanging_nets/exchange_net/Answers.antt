@@ -2,9 +2,9 @@ use Rattle.std.proofs.Common.{◌≡◌, ◌∙◌, ◌∷◌, [], Bool, true}
 use Rattle.std.proofs.lemmas.Result.{IfOk-weaker}
 use Rattle.design_text.specs.DesignTexts.{design_of}
 use Rattle.reports.specs.Exchanges.{NetExchanged}
-use Rattle.followed_measures.specs.Moved.{NetsMoved}
+use Rattle.followed_measures.specs.ExchangedNets.{NetsExchanged}
 use Rattle.followed_measures.specs.ToldViews.{net_view}
-use Rattle.followed_measures.proofs.LoopLemmas.{net_moved}
+use Rattle.followed_measures.proofs.LoopLemmas.{exchange_of_net}
 use Rattle.followed_measures.proofs.exchanging_nets.exchange_net.Goals as goal
 
 pub returns : goal.returns
@@ -18,6 +18,6 @@ returns g c = λ old was.
     let exchanged = rw (c.bytes-2.ensures, c.deref.ensures.value, c.deref-2.ensures.value) at c.exchange_one.ensures in
     IfOk-weaker c.exchange_one.result
     (λ (b : Bool). b ≡ true → NetExchanged before.name before.net_length after.net_length before.shapes after.shapes after.bounds c.args.reports.now c.exchange_one.new.reports)
-    (λ (b : Bool). b ≡ true → NetsMoved library old new (before.name ∷ []) c.args.reports.now c.exchange_one.new.reports)
-    (λ b e is. net_moved library old new before after c.args.reports.now c.exchange_one.new.reports was told named (e is))
+    (λ (b : Bool). b ≡ true → NetsExchanged library old new (before.name ∷ []) c.args.reports.now c.exchange_one.new.reports)
+    (λ b e is. exchange_of_net library old new before after c.args.reports.now c.exchange_one.new.reports was told named (e is))
     exchanged

@@ -10,7 +10,7 @@ use Rattle.followed_nets.specs.Noted.{said}
 use Rattle.followed_nets.specs.StarHeads.{AreStarHeads, ArePinShapes}
 use Rattle.followed_nets.specs.StarHeadViews.{pins_view}
 use Rattle.followed_nets.specs.Within.{Leaves}
-use Rattle.followed_measures.specs.Moved.{NetsMoved}
+use Rattle.followed_measures.specs.ExchangedNets.{NetsExchanged}
 use Rattle.followed_measures.specs.Told.{told_names}
 use Rattle.followed_measures.specs.ToldViews.{net_view}
 use Rattle.followed_measures.proofs.FollowLemmas.{awaits, component_followed, heads_then}
@@ -89,10 +89,10 @@ returns g c = λ old made told measures yes_so.
     let exchanged = c.told_nets_are_exchanged.ensures in
     let cells_follow = c.told_cells_follow.ensures in
     let waits = awaits library (said old) (said last) follow exchanged cells_follow nets name bounds stars told leaves cells after a had.answers_are pins_are in
-    let stars_moved = c.in_ok-exchange_stars.ensures library (said old) (said last) name waits stars_yes in
-    let nets_moved = subst (λ (d : List Record). NetsMoved library (said old) d (told_names nets) first next) same (c.in_ok-exchange_nets.ensures (said old) told.nets_are nets_yes) in
+    let stars_done = c.in_ok-exchange_stars.ensures library (said old) (said last) name waits stars_yes in
+    let nets_done = subst (λ (d : List Record). NetsExchanged library (said old) d (told_names nets) first next) same (c.in_ok-exchange_nets.ensures (said old) told.nets_are nets_yes) in
     record {
-      answers_are = component_followed library (said old) (said last) follow exchanged cells_follow nets name bounds stars told leaves cells a first next c.exchange_component.new.self come had.answers_are stars_moved nets_moved c.in_ok-exchange_component.ensures come_is;
+      answers_are = component_followed library (said old) (said last) follow exchanged cells_follow nets name bounds stars told leaves cells a first next c.exchange_component.new.self come had.answers_are stars_done nets_done c.in_ok-exchange_component.ensures come_is;
       common_are = rw (c.in-Some-Some.is-0) left.1;
       heads_are = rw (c.in-Some-Some.is-1) (heads_then (said old) (said last) name leaves c.in-Some-Some.heads heads);
     }

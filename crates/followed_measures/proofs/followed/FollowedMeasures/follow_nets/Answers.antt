@@ -8,10 +8,10 @@ use Rattle.net_laws.specs.NetChanges.{is_one_of}
 use Rattle.design_text.specs.Exchanges.{records_in}
 use Rattle.followed_nets.specs.Heads.{Head}
 use Rattle.followed_nets.specs.Noted.{said}
-use Rattle.followed_measures.specs.Moved.{NetsMoved}
+use Rattle.followed_measures.specs.ExchangedNets.{NetsExchanged}
 use Rattle.followed_measures.specs.Told.{told_names}
 use Rattle.followed_measures.specs.ToldViews.{net_view}
-use Rattle.followed_measures.proofs.FollowLemmas.{all_of_others, nets_followed, nothing_moved}
+use Rattle.followed_measures.proofs.FollowLemmas.{all_of_others, nets_followed, nothing_exchanged}
 use Rattle.followed_measures.proofs.followed.FollowedMeasures.follow_nets.Goals as goal
 
 pub returns-in_default : goal.returns-in_default
@@ -27,9 +27,9 @@ returns-in_default g c = λ old made told measures empty.
     let size : length c.args.nets.items ≡ 0 = grind (arith, c.is_empty.ensures, empty) in
     let none : nets ≡ [] = ap (map net_view) (nil_from_length c.args.nets.items size) in
     let not_noted : c.args.self.now.common ≡ None = rw (← c.self.view_is, c.in_default.is) refl in
-    let moved = nothing_moved library (said old) (said last) c.told_measures_follow.ensures c.told_nets_are_exchanged.ensures c.told_cells_follow.ensures nets told c.deref-else-not-are_others.result.now named left.0 left.2 none c.args.self.now.answers in
+    let made = nothing_exchanged library (said old) (said last) c.told_measures_follow.ensures c.told_nets_are_exchanged.ensures c.told_cells_follow.ensures nets told c.deref-else-not-are_others.result.now named left.0 left.2 none c.args.self.now.answers in
     record {
-      answers_are = nets_followed library (said old) (said last) c.told_measures_follow.ensures c.told_nets_are_exchanged.ensures c.told_cells_follow.ensures nets told c.deref-else-not-are_others.result.now named left.0 left.2 _ _ measures.answers_are moved;
+      answers_are = nets_followed library (said old) (said last) c.told_measures_follow.ensures c.told_nets_are_exchanged.ensures c.told_cells_follow.ensures nets told c.deref-else-not-are_others.result.now named left.0 left.2 _ _ measures.answers_are made;
       common_are = rw (not_noted) tt;
       heads_are = all_of_others library (said old) (said last) c.told_measures_follow.ensures c.told_nets_are_exchanged.ensures c.told_cells_follow.ensures nets told c.deref-else-not-are_others.result.now named left.0 left.2 c.args.self.now.heads others measures.heads_are;
     }
@@ -57,9 +57,9 @@ returns g c = λ old made told measures.
     let reports = c.self.inside.reports in
     let then = c.exchange_nets.new.reports in
     IfOk-weaker c.exchange_nets.result _ _
-    (λ b moved is. record {
+    (λ b made is. record {
       answers_are = nets_followed library (said old) (said last) c.told_measures_follow.ensures c.told_nets_are_exchanged.ensures c.told_cells_follow.ensures nets told c.deref-else-not-are_others.result.now named left.0 left.2 reports then had.answers_are
-          (subst (λ (d : List Record). NetsMoved library (said old) d (told_names nets) reports then) (sym c.statements_are_kept.ensures.said) (moved is));
+          (subst (λ (d : List Record). NetsExchanged library (said old) d (told_names nets) reports then) (sym c.statements_are_kept.ensures.said) (made is));
       common_are = rw (c.in-Some.is) left.1;
       heads_are = all_of_others library (said old) (said last) c.told_measures_follow.ensures c.told_nets_are_exchanged.ensures c.told_cells_follow.ensures nets told c.deref-else-not-are_others.result.now named left.0 left.2 c.self.inside.heads others had.heads_are;
     })

@@ -1,6 +1,6 @@
--- What becomes of answers where nets are exchanged one after the other.
+-- What becomes of answers where nets of a design are exchanged for those of another, one after the other.
 use Rattle.std.specs.Prelude.{◌≡◌, ◌+◌, ℕ, List, Some, flat_map, if◌then◌else◌, map}
-use Rattle.std.specs.List.{AllByRecursion, sum_by}
+use Rattle.std.specs.List.{sum_by}
 use Rattle.def_grammar.specs.Records.{Record}
 use Rattle.lef_grammar.specs.Library.{Library}
 use Rattle.lef_grammar.specs.Measures.{Shape}
@@ -12,9 +12,9 @@ use Rattle.measure_rules.specs.Lengths.{length_of}
 use Rattle.measure_rules.specs.NetBoxes as net_boxes
 use Rattle.measure_rules.specs.NetBoxes.{box_round, rectangles_of}
 use Rattle.net_laws.specs.NetChanges.{is_one_of}
-use Rattle.net_laws.specs.OneNet.{TellNet}
 use Rattle.reports.specs.Answers.{Answers, box_in, length_in}
 use Rattle.reports.specs.Densities.{HasExchanged}
+use Rattle.followed_nets.specs.Blocked.{AllTell}
 
 abbrev pub shapes_of : List Net → List Shape
 shapes_of nets = map (λ (s : NetShape). s.shape) (flat_map shapes_of_net nets)
@@ -22,12 +22,8 @@ shapes_of nets = map (λ (s : NetShape). s.shape) (flat_map shapes_of_net nets)
 abbrev pub nets_of : Library → List Record → List (List ℕ) → List Net
 nets_of library design names = map (net_named library design (scale design)) names
 
--- some statements tell each of these nets of a design
-abbrev pub AllTell : List Record → List (List ℕ) → Type 0
-AllTell design names = AllByRecursion (λ (n : List ℕ). (some : List Record) × TellNet some design n) names
-
 -- the nets of these names have what a new design says of them, in the place of what an old one does; each other net has what it had
-pub record NetsMoved (library : Library) (old new : List Record) (names : List (List ℕ)) (before after : Answers) : Type 0 where
+pub record NetsExchanged (library : Library) (old new : List Record) (names : List (List ℕ)) (before after : Answers) : Type 0 where
   pub tell : AllTell old names
   pub then_tell : AllTell new names
   pub layers : after.layers ≡ before.layers

@@ -23,7 +23,7 @@ use Rattle.net_laws.specs.OneNet.{TellNet}
 use Rattle.reports.specs.Answers.{Answers, box_in, length_in}
 use Rattle.reports.specs.Exchanges.{NetExchanged}
 use Rattle.reports.proofs.DensitySteps.{exchanged_from}
-use Rattle.followed_measures.specs.Moved.{NetsMoved, nets_of, shapes_of}
+use Rattle.followed_measures.specs.ExchangedNets.{NetsExchanged, nets_of, shapes_of}
 
 -- what is answered on one net, and on the others
 by_name : {B : Type 0} (name n : List ℕ) (mine : B) (of : List ℕ → B) (others : B) (t : Bool) → bytes_eq name n ≡ t → mine ≡ of name → (if t then mine else others) ≡ (if t || false then of n else others)
@@ -40,8 +40,8 @@ both P [] ys h g = g
 both P (x ∷ xs) ys h g = (h.0, both P xs ys h.1 g)
 
 module _ (library : Library) (old new : List Record) where
-  pub none_moved : (a : Answers) → NetsMoved library old new [] a a
-  none_moved a = record {
+  pub exchange_of_none : (a : Answers) → NetsExchanged library old new [] a a
+  exchange_of_none a = record {
     tell = tt;
     then_tell = tt;
     layers = refl;
@@ -72,10 +72,10 @@ module _ (library : Library) (old new : List Record) where
       sums = λ w. omega (arith, is.sums w, sum_by-append w whole rest, sum_by-append w some stay, sum_by-append w some (stay ++ rest), sum_by-append w stay rest);
     }
 
-    pub one_moved : ((some : List Record) × TellNet some old name) → ((some : List Record) × TellNet some new name) → old_length ≡ length_of library old (scale old) name → new_length ≡ length_of library new (scale new) name
+    pub exchange_of_one : ((some : List Record) × TellNet some old name) → ((some : List Record) × TellNet some new name) → old_length ≡ length_of library old (scale old) name → new_length ≡ length_of library new (scale new) name
         → bounds ≡ box_round (rectangles_of (net_named library new (scale new) name)) → SameThings (old_shapes (name ∷ [])) (gone ++ stay) → SameThings (new_shapes (name ∷ [])) (come ++ stay)
-        → NetsMoved library old new (name ∷ []) a b
-    one_moved tell then_tell was_long is_long bounds_are goes comes = record {
+        → NetsExchanged library old new (name ∷ []) a b
+    exchange_of_one tell then_tell was_long is_long bounds_are goes comes = record {
       tell = (tell, tt);
       then_tell = (then_tell, tt);
       layers = e.layers;
@@ -92,7 +92,7 @@ module _ (library : Library) (old new : List Record) where
     }
 
   -- some nets, and then others
-  module _ (xs ys : List (List ℕ)) (a b c : Answers) (first : NetsMoved library old new xs a b) (next : NetsMoved library old new ys b c) where
+  module _ (xs ys : List (List ℕ)) (a b c : Answers) (first : NetsExchanged library old new xs a b) (next : NetsExchanged library old new ys b c) where
     in_all : {B : Type 0} (n : List ℕ) (mine others : B) → (if is_one_of ys n then mine else (if is_one_of xs n then mine else others)) ≡ (if is_one_of (ys ++ xs) n then mine else others)
     in_all n mine others = in_turn mine others (is_one_of ys n) (is_one_of xs n) ∙ ap (λ (t : Bool). if t then mine else others) (sym (list_any-append (λ m. bytes_eq m n) ys xs))
 
@@ -117,8 +117,8 @@ module _ (library : Library) (old new : List Record) where
           omega (arith, ap (sum_by w) (shapes_together new ys xs), sum_by-append w (new_shapes (ys ++ xs)) rest, sum_by-append w (new_shapes ys) (new_shapes xs), sum_by-append w (new_shapes ys) (new_shapes xs ++ rest), sum_by-append w (new_shapes xs) rest);
     }
 
-    pub more_moved : NetsMoved library old new (ys ++ xs) a c
-    more_moved = record {
+    pub exchange_of_more : NetsExchanged library old new (ys ++ xs) a c
+    exchange_of_more = record {
       tell = both (λ (n : List ℕ). (some : List Record) × TellNet some old n) ys xs next.tell first.tell;
       then_tell = both (λ (n : List ℕ). (some : List Record) × TellNet some new n) ys xs next.then_tell first.then_tell;
       layers = next.layers ∙ first.layers;
