@@ -27,6 +27,7 @@ mod noted;
 mod star_exchange;
 mod star_pins;
 mod stars;
+mod taking_bars;
 mod told;
 pub mod told_statements;
 mod touched;
