@@ -35,7 +35,7 @@ use crate::heads::{Head, are_of_others, heads_if};
 use crate::listed::{add_name, nets_listing};
 use crate::noted::{common_numbers, drawn_nets, star_names};
 use crate::star_exchange::{ExchangedStars, ToldExchange, exchange_stars, with_more};
-use crate::taking_bars::without_same;
+use crate::taking_bars::without_both;
 use crate::touched::{TouchedComponent, TouchedNets, are_named, told_nets, told_stars};
 use crate::within::{exchanges_are_within, is_one_of};
 use cell_library::library::Library;
@@ -497,7 +497,7 @@ impl<A: Allocator + Copy> FollowedNets<A> {
         let Some(changed) = changed_bars(alloc, library, text, made)? else {
             return Ok(None);
         };
-        let left = without_same(alloc, changed)?;
+        let left = without_both(alloc, changed)?;
         if left.are_none() {
             return Ok(Some(followed));
         }

@@ -97,7 +97,7 @@ fn went_alone<A: Allocator + Copy>(
 }
 
 /// The rectangles that went or came, but not both, each as often.
-pub(crate) fn without_same<A: Allocator + Copy>(
+pub(crate) fn without_both<A: Allocator + Copy>(
     alloc: A,
     changed: ChangedBars<A>,
 ) -> Result<ChangedBars<A>, AllocError>
