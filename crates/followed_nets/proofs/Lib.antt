@@ -14,6 +14,7 @@ mod NearLemmas
 mod NearNames
 mod NearPairs
 mod NetWalls
+mod NotBoth
 mod NoteLemmas
 mod OneEntry
 mod OthersLeft

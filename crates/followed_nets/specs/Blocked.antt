@@ -1,7 +1,10 @@
 -- Where routing is blocked, after an edit.
-use Rattle.std.specs.Prelude.{ℕ, List, ◌++◌, Option, flat_map, map}
+use Rattle.std.specs.Prelude.{◌≡◌, ◌<◌, ℕ, Bool, ◌&&◌, List, ◌++◌, Option, count_by, flat_map, map, nat_eq}
+use Rattle.std.specs.Bool.{beq}
 use Rattle.std.specs.List.{AllByRecursion}
+use Rattle.std.specs.Ordering.{int_eq}
 use Rattle.design_model.specs.Families.{cross_lines}
+use Rattle.design_model.specs.Geometry.{Rectangle}
 use Rattle.design_model.specs.declared.identifier.StmtId.{StmtId}
 use Rattle.def_grammar.specs.Records.{Record}
 use Rattle.lef_grammar.specs.Library.{Library}
@@ -25,6 +28,22 @@ bars_gone library slots xs = flat_map (λ (x : Exchanged). bars_under library sl
 
 abbrev pub bars_come : Library → List (Option Kept) → List Exchanged → List Barrier
 bars_come library slots xs = flat_map (λ (x : Exchanged). bars_under library slots x.came) xs
+
+-- two rectangles are one
+abbrev pub is_rectangle : Rectangle → Rectangle → Bool
+is_rectangle a b = int_eq a.x1 b.x1 && (int_eq a.y1 b.y1 && (int_eq a.x2 b.x2 && int_eq a.y2 b.y2))
+
+-- and on one layer, and both spare nets of power or neither
+abbrev pub is_bar : Barrier → Barrier → Bool
+is_bar a b = nat_eq a.layer b.layer && (beq a.spares_power b.spares_power && is_rectangle a.box b.box)
+
+-- how often a rectangle stands among some
+abbrev pub times_barred : Barrier → List Barrier → ℕ
+times_barred b bars = count_by (is_bar b) bars
+
+-- no rectangle both went and came
+abbrev pub AreNotBoth : List Barrier → List Barrier → Type 0
+AreNotBoth gone come = (b : Barrier) → 0 < times_barred b gone → times_barred b come ≡ 0
 
 -- the lines of the shapes of a net of a design with some rectangles
 abbrev pub barred_lines : (ℕ → List ℕ) → Library → List Record → List Barrier → List ℕ → List (List ℕ)

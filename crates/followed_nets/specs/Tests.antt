@@ -8,6 +8,7 @@ use Rattle.connection_rules.specs.NetParts.{net_named}
 use Rattle.design_rules.specs.Boxes.{scale}
 use Rattle.net_laws.specs.Blocked.{BarsChange}
 use Rattle.shape_index.specs.Near.{near_shapes}
+use Rattle.followed_nets.specs.Blocked.{AreNotBoth}
 use Rattle.followed_nets.specs.Told.{Told}
 
 -- the shapes of nets by themselves
@@ -39,10 +40,19 @@ near_barred bars shapes = near_each (map bar_shape bars) shapes
 abbrev pub near_bars : Library → List Record → List Barrier → ℕ
 near_bars library design bars = sum_by (λ (b : Barrier). near_shapes (bar_shape b) (map (λ n. n.shape) (net_shapes library design (scale design)))) bars
 
--- Shapes of nets of these names are compared with shapes near them, as they were and as they are then; so are rectangles that went or came
--- with the shapes of all nets, as they are then.
+-- Rectangles went or came, none of which did both, and were compared with those of these shapes that are near them, after other tests.
+pub record FewBarred (library : Library) (old new : List Record) (shapes : List NetShape) (before tests : ℕ) : Type 0 where
+  pub gone : List Barrier
+  pub come : List Barrier
+  pub changed : BarsChange (barriers library old (scale old)) (barriers library new (scale new)) gone come
+  pub apart : AreNotBoth gone come
+  pub few : tests ≤ before + near_barred (gone ++ come) shapes
+
+-- Shapes of nets of these names are compared with shapes near them, as they were and as they are then; so are rectangles that went or came,
+-- none of which did both, with the shapes of all nets, as they are then.
 pub record FewTests (library : Library) (old new : List Record) (names : List (List ℕ)) (tests : ℕ) : Type 0 where
   pub gone : List Barrier
   pub come : List Barrier
   pub changed : BarsChange (barriers library old (scale old)) (barriers library new (scale new)) gone come
+  pub apart : AreNotBoth gone come
   pub few : tests ≤ (near_pairs library old names + near_pairs library new names) + near_bars library new (gone ++ come)

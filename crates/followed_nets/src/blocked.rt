@@ -50,8 +50,10 @@ use std::alloc::{AllocError, Allocator};
 /// How many nets may have shapes where rectangles go or come so that they are told one by one.
 const MOST_NETS: usize = 512;
 
-/// Rectangles where routing is blocked: those that an edit took away, and those that it brought. Where it was made in several steps, one
-/// may be both.
+/// How many rectangles may go, or come, so that the lines on nets follow: each is looked for among all.
+const MOST_BARS: usize = 1024;
+
+/// Rectangles where routing is blocked: those that an edit took away, and those that it brought.
 #[derive(Drop)]
 pub(crate) struct ChangedBars<A: Allocator> {
     pub(crate) gone: Vec<Barrier, A>,
@@ -91,7 +93,8 @@ fn push_bars<A: Allocator + Copy>(
     Ok(())
 }
 
-/// The rectangles of the statements that an edit exchanged, one exchange after the other.
+/// The rectangles of the statements that an edit exchanged, one exchange after the other, unless they are many. One that stands in what went
+/// and in what came is both.
 pub(crate) fn changed_bars<A: Allocator + Copy>(
     alloc: A,
     library: &Library<'_, A>,
@@ -110,6 +113,9 @@ pub(crate) fn changed_bars<A: Allocator + Copy>(
         };
         push_bars(alloc, library, text, exchange.went, &mut gone)?;
         push_bars(alloc, library, text, exchange.came, &mut come)?;
+    }
+    if gone.len().max(come.len()) > MOST_BARS {
+        return Ok(None);
     }
     Ok(Some(ChangedBars { gone, come }))
 }

@@ -1,68 +1,18 @@
 //! Rectangles that are taken out of those where routing is blocked, and others that are put in, and lines that are kept.
 
-ghost use Rattle.std.specs.Prelude.{◌≡◌, ◌<◌, ◌∷◌, ◌++◌, [], ℕ, IfOk, IfSome, IsTrue, List, get_or, length, map};
+ghost use Rattle.std.specs.Prelude.{◌≡◌, ◌++◌, [], ℕ, IfOk, IfSome, IsTrue, List, map};
 ghost use Rattle.design_model.specs.Order.{sorted_by_bytes};
-ghost use Rattle.design_model.specs.Views.{rectangle_of};
 ghost use Rattle.following_laws.specs.Following.{LinesFollow};
 ghost use Rattle.line_laws.specs.Lines.{SameThings};
 ghost use Rattle.net_touches.specs.Barriers.{barrier_view};
 
 use crate::blocked::{BarredLines, ChangedBars};
 use crate::exchanging::MOST_MOVED;
-use design_model::geometry::Rect;
+use crate::taking_bars::take_bars;
 use kept_lines::KeptLines;
 use net_touches::Barrier;
 use report_lines::Lines;
 use std::alloc::{AllocError, Allocator};
-
-/// Whether two rectangles are one.
-fn is_rectangle(a: &Rect, b: &Rect) -> bool
-    ensures { IsTrue result → rectangle_of a.now ≡ rectangle_of b.now }
-{
-    a.x1 == b.x1 && a.y1 == b.y1 && a.x2 == b.x2 && a.y2 == b.y2
-}
-
-/// Whether two rectangles are one, on one layer, and both spare nets of power or neither.
-fn is_same(a: &Barrier, b: &Barrier) -> bool
-    ensures { IsTrue result → barrier_view a.now ≡ barrier_view b.now }
-{
-    a.layer.0 == b.layer.0 && a.spares_power == b.spares_power && is_rectangle(&a.rect, &b.rect)
-}
-
-/// The last place of a rectangle, if it is there.
-fn place_of(bars: &[Barrier], bar: &Barrier) -> Option<usize>
-    ensures { IfSome result (λ n. (n < length bars.now) × ((d : _) → barrier_view (get_or bars.now n d) ≡ barrier_view bar.now)) }
-{
-    for place in (0..bars.len()).rev() {
-        if is_same(&bars[place], bar) {
-            return Some(place);
-        }
-    }
-    None
-}
-
-/// Takes a rectangle out, once, and says whether it was there.
-fn take_bar<A: Allocator + Copy>(bars: &mut Vec<Barrier, A>, bar: &Barrier) -> bool
-    ensures { IsTrue result → SameThings (map barrier_view bars.old.items) (barrier_view bar.now ∷ map barrier_view bars.new.items) }
-{
-    let Some(place) = place_of(bars, bar) else {
-        return false;
-    };
-    bars.swap_remove(place);
-    true
-}
-
-/// Takes rectangles out, each once, and says whether all of them were there.
-fn take_bars<A: Allocator + Copy>(bars: &mut Vec<Barrier, A>, gone: &[Barrier]) -> bool
-    ensures { IsTrue result → SameThings (map barrier_view bars.old.items) (map barrier_view gone.now ++ map barrier_view bars.new.items) }
-{
-    for bar in gone {
-        if !take_bar(bars, bar) {
-            return false;
-        }
-    }
-    true
-}
 
 /// Puts the rectangles that came in, and then takes those that went out, and says whether all of these were there.
 pub(crate) fn exchange_bars<A: Allocator + Copy>(

@@ -15,7 +15,7 @@ ghost use Rattle.net_laws.specs.Within.{NoOtherLists};
 ghost use Rattle.design_text.specs.DesignTexts.{design_of};
 ghost use Rattle.design_text.specs.Exchanges.{AreExchanges, records_in};
 ghost use Rattle.net_touches.specs.Barriers.{barrier_view};
-ghost use Rattle.followed_nets.specs.Blocked.{AllTell, bars_come, bars_gone, barred_lines};
+ghost use Rattle.followed_nets.specs.Blocked.{AllTell, barred_lines};
 ghost use Rattle.followed_nets.specs.FollowedNets.{HasNets};
 ghost use Rattle.followed_nets.specs.Heads.{IsHead};
 ghost use Rattle.followed_nets.specs.Listed.{AllList, AreApart};
@@ -23,7 +23,7 @@ ghost use Rattle.followed_nets.specs.Noted.{AreCommon, said};
 ghost use Rattle.followed_nets.specs.Pieces.{AreOnPieces, ArePieces, Piece};
 ghost use Rattle.followed_nets.specs.StarExchanges.{AwaitsOwn, HaveComponent};
 ghost use Rattle.followed_nets.specs.Stars.{IsStar, names_of};
-ghost use Rattle.followed_nets.specs.Tests.{FewTests, near_barred, near_pairs, near_told};
+ghost use Rattle.followed_nets.specs.Tests.{FewBarred, FewTests, near_barred, near_pairs, near_told};
 ghost use Rattle.followed_nets.specs.ToldViews.{star_view, stars_of, told_view};
 ghost use Rattle.followed_nets.specs.Touched.{AreBarred, AreFollowed, ArePinsOf, AreTouched, star_names};
 ghost use Rattle.followed_nets.specs.Within.{Fits, LeavesOthers};
@@ -35,6 +35,7 @@ use crate::heads::{Head, are_of_others, heads_if};
 use crate::listed::{add_name, nets_listing};
 use crate::noted::{common_numbers, drawn_nets, star_names};
 use crate::star_exchange::{ExchangedStars, ToldExchange, exchange_stars, with_more};
+use crate::taking_bars::without_both;
 use crate::touched::{TouchedComponent, TouchedNets, are_named, told_nets, told_stars};
 use crate::within::{exchanges_are_within, is_one_of};
 use cell_library::library::Library;
@@ -488,18 +489,19 @@ impl<A: Allocator + Copy> FollowedNets<A> {
         requires { (old : List (Number × Record)) × AreExchanges text.now.pieces.table.slots old made.now.exchanges (records_in text.now) × AreBarred library.now (records_in text.now) (barriers library.now (said old) (scale (said old))) self.old followed.lines }
         ensures lines { (old : List (Number × Record)) → AreExchanges text.now.pieces.table.slots old made.now.exchanges (records_in text.now) → AreBarred library.now (records_in text.now) (barriers library.now (said old) (scale (said old))) self.old followed.lines
             → IfOk result (λ found. IfSome found (λ f. AreFollowed library.now (records_in text.now) self.new f.lines)) }
-        ensures tests { let slots = text.now.pieces.table.slots in
-            IfOk result (λ found. IfSome found (λ f. f.tests ≤ followed.tests + near_barred (bars_gone library.now slots made.now.exchanges ++ bars_come library.now slots made.now.exchanges) self.old.shapes)) }
+        ensures tests { (old : List (Number × Record)) → AreExchanges text.now.pieces.table.slots old made.now.exchanges (records_in text.now)
+            → IfOk result (λ found. IfSome found (λ f. FewBarred library.now (said old) (said (records_in text.now)) self.old.shapes followed.tests f.tests)) }
     {
         bars_are_exchanged();
         same_lines_sort_alike();
         let Some(changed) = changed_bars(alloc, library, text, made)? else {
             return Ok(None);
         };
-        if changed.are_none() {
+        let left = without_both(alloc, changed)?;
+        if left.are_none() {
             return Ok(Some(followed));
         }
-        let Some(found) = self.exchange_blocked(alloc, library, text, changed, followed)? else {
+        let Some(found) = self.exchange_blocked(alloc, library, text, left, followed)? else {
             return Ok(None);
         };
         Ok(Some(found))

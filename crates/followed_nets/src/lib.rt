@@ -29,6 +29,7 @@ mod star_exchange;
 mod star_heads;
 mod star_pins;
 mod stars;
+mod taking_bars;
 mod told;
 pub mod told_statements;
 mod touched;

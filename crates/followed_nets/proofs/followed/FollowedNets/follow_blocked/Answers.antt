@@ -1,13 +1,11 @@
-use Rattle.std.proofs.Common.{rules, ◌≡◌, ◌∙◌, ◌++◌, ◌≤◌, [], List, arith, ap, map, subst, sym}
+use Rattle.std.proofs.Common.{rules, ◌≡◌, ◌∙◌, ◌++◌, ◌≤◌, ◌+◌, [], List, arith, ap, map, subst, sym}
 use Rattle.connection_rules.specs.NetLines.{barriers}
 use Rattle.design_rules.specs.Boxes.{scale}
-use Rattle.net_laws.specs.Blocked.{BarsChange}
 use Rattle.net_touches.specs.Barriers.{barrier_view}
 use Rattle.design_text.specs.Exchanges.{records_in}
-use Rattle.followed_nets.specs.Blocked.{bars_come, bars_gone}
 use Rattle.followed_nets.specs.Noted.{said}
 use Rattle.followed_nets.proofs.BarredFollow.{none_changed, same_bars}
-use Rattle.followed_nets.proofs.ChangedBars.{bars_change}
+use Rattle.followed_nets.proofs.NotBoth.{what_is_left}
 use Rattle.followed_nets.proofs.followed.FollowedNets.follow_blocked.Goals as goal
 
 pub changed_bars-requires : goal.changed_bars-requires
@@ -19,8 +17,8 @@ exchange_blocked-requires g c =
     let last = records_in c.args.text.now in
     let gone = rw (c.in-Some.is) at c.in_ok-changed.ensures.gone in
     let come = rw (c.in-Some.is) at c.in_ok-changed.ensures.come in
-    let change = bars_change c.args.text.now.pieces.table.slots library c.bars_are_exchanged.ensures c.requires.0 last c.args.made.now.exchanges c.requires.1 in
-    (barriers library (said c.requires.0) (scale (said c.requires.0)), barriers library (said last) (scale (said last)), rw (gone, come) change, c.requires.2)
+    let left = what_is_left c.args.text.now.pieces.table.slots library c.bars_are_exchanged.ensures c.requires.0 last c.args.made.now.exchanges _ _ _ _ c.requires.1 gone come c.in_ok-left.ensures.same in
+    (barriers library (said c.requires.0) (scale (said c.requires.0)), barriers library (said last) (scale (said last)), left, c.requires.2)
 
 pub returns-clause-lines : goal.returns-clause-lines
 returns-clause-lines g c = λ old exchanges are.
@@ -28,14 +26,23 @@ returns-clause-lines g c = λ old exchanges are.
     let last = records_in c.args.text.now in
     let gone = rw (c.in-Some.is) at c.in_ok-changed.ensures.gone in
     let come = rw (c.in-Some.is) at c.in_ok-changed.ensures.come in
-    let change = bars_change c.args.text.now.pieces.table.slots library c.bars_are_exchanged.ensures old last c.args.made.now.exchanges exchanges in
-    rw (c.in-Some-2.is) at (c.in_ok-found.ensures.lines (barriers library (said old) (scale (said old))) (barriers library (said last) (scale (said last))) (rw (gone, come) change) are)
+    let left = what_is_left c.args.text.now.pieces.table.slots library c.bars_are_exchanged.ensures old last c.args.made.now.exchanges _ _ _ _ exchanges gone come c.in_ok-left.ensures.same in
+    rw (c.in-Some-2.is) at (c.in_ok-found.ensures.lines (barriers library (said old) (scale (said old))) (barriers library (said last) (scale (said last))) left are)
 
 pub returns-clause-tests : goal.returns-clause-tests
-returns-clause-tests g c =
+returns-clause-tests g c = λ old exchanges.
+    let library = c.args.library.now in
+    let last = records_in c.args.text.now in
     let gone = rw (c.in-Some.is) at c.in_ok-changed.ensures.gone in
     let come = rw (c.in-Some.is) at c.in_ok-changed.ensures.come in
-    rw (← gone, ← come) (rw (c.in-Some-2.is) at c.in_ok-found.ensures.tests)
+    let left = what_is_left c.args.text.now.pieces.table.slots library c.bars_are_exchanged.ensures old last c.args.made.now.exchanges _ _ _ _ exchanges gone come c.in_ok-left.ensures.same in
+    record {
+      gone = map barrier_view c.in_ok-left.field-0.gone.items;
+      come = map barrier_view c.in_ok-left.field-0.come.items;
+      changed = left;
+      apart = c.in_ok-left.ensures.apart;
+      few = rw (c.in-Some-2.is) at c.in_ok-found.ensures.tests;
+    }
 
 pub returns-then-are_none-clause-lines : goal.returns-then-are_none-clause-lines
 returns-then-are_none-clause-lines g c = λ old exchanges are.
@@ -43,12 +50,26 @@ returns-then-are_none-clause-lines g c = λ old exchanges are.
     let last = records_in c.args.text.now in
     let gone = rw (c.in-Some.is) at c.in_ok-changed.ensures.gone in
     let come = rw (c.in-Some.is) at c.in_ok-changed.ensures.come in
+    let left = what_is_left c.args.text.now.pieces.table.slots library c.bars_are_exchanged.ensures old last c.args.made.now.exchanges _ _ _ _ exchanges gone come c.in_ok-left.ensures.same in
     let none = c.are_none.ensures (search (rules, c.if-are_none.true)) in
-    let change = bars_change c.args.text.now.pieces.table.slots library c.bars_are_exchanged.ensures old last c.args.made.now.exchanges exchanges in
-    let slots = c.args.text.now.pieces.table.slots in
-    let made = c.args.made.now.exchanges in
-    let same = none_changed (barriers library (said old) (scale (said old))) (barriers library (said last) (scale (said last))) (bars_gone library slots made) (bars_come library slots made) (sym gone ∙ ap (map barrier_view) none.0) (sym come ∙ ap (map barrier_view) none.1) change in
-    same_bars c.same_lines_sort_alike.ensures library last (barriers library (said old) (scale (said old))) (barriers library (said last) (scale (said last))) c.args.self.now c.args.followed.lines same are
+    let gone_left = map barrier_view c.in_ok-left.field-0.gone.items in
+    let come_left = map barrier_view c.in_ok-left.field-0.come.items in
+    let was = barriers library (said old) (scale (said old)) in
+    let is = barriers library (said last) (scale (said last)) in
+    let same = none_changed was is gone_left come_left (ap (map barrier_view) none.0) (ap (map barrier_view) none.1) left in
+    same_bars c.same_lines_sort_alike.ensures library last was is c.args.self.now c.args.followed.lines same are
 
 pub returns-then-are_none-clause-tests : goal.returns-then-are_none-clause-tests
-returns-then-are_none-clause-tests g c = omega arith
+returns-then-are_none-clause-tests g c = λ old exchanges.
+    let library = c.args.library.now in
+    let last = records_in c.args.text.now in
+    let gone = rw (c.in-Some.is) at c.in_ok-changed.ensures.gone in
+    let come = rw (c.in-Some.is) at c.in_ok-changed.ensures.come in
+    let left = what_is_left c.args.text.now.pieces.table.slots library c.bars_are_exchanged.ensures old last c.args.made.now.exchanges _ _ _ _ exchanges gone come c.in_ok-left.ensures.same in
+    record {
+      gone = map barrier_view c.in_ok-left.field-0.gone.items;
+      come = map barrier_view c.in_ok-left.field-0.come.items;
+      changed = left;
+      apart = c.in_ok-left.ensures.apart;
+      few = omega arith;
+    }

@@ -1,7 +1,7 @@
 use Rattle.std.proofs.Common.{rules, map}
 use Rattle.net_touches.specs.Barriers.{barrier_view}
 use Rattle.kept_nets.proofs.Taken.{taken_at}
-use Rattle.followed_nets.proofs.exchanging_bars.take_bars.Goals as goal
+use Rattle.followed_nets.proofs.taking_bars.take_bars.Goals as goal
 
 pub loop-bar-preserved : goal.loop-bar-preserved
 loop-bar-preserved g c =
