@@ -1,6 +1,6 @@
 //! The components of a text that are noted, and the lines on them that follow.
 
-ghost use Rattle.std.specs.Prelude.{◌≡◌, ◌<◌, ◌≤◌, ◌+◌, ◌++◌, [], IfOk, IfSome, IsTrue, List, OnOk, false, map};
+ghost use Rattle.std.specs.Prelude.{◌≡◌, ◌<◌, ◌≤◌, ◌+◌, ◌++◌, [], IfOk, IfSome, IsTrue, List, OnOk, false, filter, map};
 ghost use Rattle.std.specs.List.{list_any};
 ghost use Rattle.design_model.specs.declared.identifier.StmtId.{StmtId as Number};
 ghost use Rattle.design_model.specs.Order.{sorted_by_bytes};
@@ -12,7 +12,7 @@ ghost use Rattle.design_tables.specs.TableViews.{numbered_view};
 ghost use Rattle.line_laws.specs.Lines.{SameThings};
 ghost use Rattle.place_checks.specs.IndexViews.{surroundings_view};
 ghost use Rattle.place_checks.specs.SameSurroundings.{HaveSameLines};
-ghost use Rattle.staying_laws.specs.PlaceStatements.{is_surrounding};
+ghost use Rattle.staying_laws.specs.PlaceStatements.{is_surrounding, surrounds_or_blocks};
 ghost use Rattle.text_pieces.specs.KeptRecords.{HavePieces, records_under};
 ghost use Rattle.design_text.specs.Exchanges.{IsExchange, exchange_view, records_in};
 ghost use Rattle.followed_places.specs.Lines.{Awaits, AwaitsRectangles};
@@ -23,7 +23,7 @@ ghost use Rattle.followed_places.specs.Tests.{near_pairs, near_rectangles, near_
 use crate::around::{Around, KeptAround, is_any_surrounding, numbers_around};
 use crate::blocked_lines::blocked_near;
 use crate::components::{Placed, boxes_of, components_of, insert_all, remove_all};
-use crate::keep_outs::{exchange_keep_outs, keep_outs_among};
+use crate::keep_outs::exchange_keep_outs;
 use crate::own_lines::lines_of;
 use cell_library::library::Library;
 use design_model::geometry::Rect;
@@ -35,6 +35,7 @@ use following_laws::same_lines_follow;
 use kept_lines::KeptLines;
 use line_laws::each::crosses_are_unordered;
 use line_laws::scales::scales_are_good;
+use place_checks::keep_outs::keep_outs_of;
 use statement_boxes::StatementBoxes;
 use staying_laws::{components_are_exchanged, surroundings_are_told};
 use std::alloc::{AllocError, Allocator, Global};
@@ -84,7 +85,8 @@ struct Change<'t, A: Allocator> {
 }
 
 /// The rectangles that go out of those which keep components of a text out, and those that come in, by an exchange of no component.
-struct Exchanged<'c> {
+#[derive(Clone, Copy)]
+struct ChangedKeepOuts<'c> {
     /// The database units per micron.
     scale: u32,
     went: &'c [Rect],
@@ -121,6 +123,21 @@ fn around_in<'t, A: Allocator + Copy>(
     KeptAround::of(alloc, library, &around)
 }
 
+/// The rectangles where some of the statements that are kept in a text keep components out. Of these, those are read once more that tell
+/// what stands round components or what keeps them out.
+fn keep_outs_among<A: Allocator + Copy>(
+    alloc: A,
+    text: &DesignText<A>,
+    statements: &[Numbered<'_>],
+) -> Result<Vec<Rect, A>, AllocError>
+    requires { (ids : List Number) × HavePieces text.now.pieces.table.slots ids × (map numbered_view statements.now ≡ records_under text.now.pieces.table.slots ids) }
+    ensures { IfOk result (λ v. map rectangle_of v.items ≡ keep_outs (filter surrounds_or_blocks (said (map numbered_view statements.now)))) }
+{
+    let numbers = numbers_around(alloc, statements)?;
+    let around = text.kept(alloc, &numbers)?;
+    keep_outs_of(alloc, &around)
+}
+
 /// The components that take part among the statements under some numbers, and the rectangles where these keep components out, unless one of
 /// them is of what stands round components.
 fn loose_places<'t, A: Allocator + Copy>(
@@ -137,12 +154,13 @@ fn loose_places<'t, A: Allocator + Copy>(
     ensures keep_outs { let records = records_under text.entry.now.pieces.table.slots ids.now in IfOk result (λ found. IfSome found (λ p. map rectangle_of p.keep_outs.items ≡ keep_outs (said records))) }
     ensures loose { let records = records_under text.entry.now.pieces.table.slots ids.now in IfOk result (λ found. IfSome found (λ _. list_any (λ x. is_surrounding x.1) records ≡ false)) }
 {
+    surroundings_are_told();
     let statements = text.kept_numbered(alloc, ids)?;
     if is_any_surrounding(&statements) {
         return Ok(None);
     }
     let components = components_of(alloc, library, scale, &statements)?;
-    let keep_outs = keep_outs_among(alloc, &statements)?;
+    let keep_outs = keep_outs_among(alloc, text, &statements)?;
     Ok(Some(LoosePlaces {
         components,
         keep_outs,
@@ -203,7 +221,7 @@ fn exchanged_keep_outs<'t, A: Allocator + Copy>(
     alloc: A,
     library: &'t Library<'_, A>,
     text: &'t DesignText<A>,
-    change: &Exchanged<'_>,
+    change: &ChangedKeepOuts<'_>,
     boxes: &StatementBoxes<A>,
     keep_outs: &mut Vec<Rect, A>,
     kept: KeptLines<A>,
@@ -278,7 +296,7 @@ impl<A: Allocator + Copy> FollowedPlaces<A> {
         };
         // An edit of a net exchanges none, and no rectangle either.
         if are_none(&went.components, &came.components) {
-            let change = Exchanged {
+            let change = ChangedKeepOuts {
                 scale,
                 went: &went.keep_outs,
                 came: &came.keep_outs,

@@ -2,30 +2,10 @@
 
 ghost use Rattle.std.specs.Prelude.{◌≡◌, ◌<◌, ◌∷◌, ◌++◌, IfOk, IfSome, IsTrue, get_or, length, map};
 ghost use Rattle.design_model.specs.Views.{rectangle_of};
-ghost use Rattle.design_rules.specs.Surroundings.{keep_outs};
-ghost use Rattle.design_tables.specs.TableViews.{numbered_view};
 ghost use Rattle.line_laws.specs.Lines.{SameThings};
-ghost use Rattle.followed_places.specs.Places.{said};
 
 use design_model::geometry::Rect;
-use design_tables::Numbered;
-use place_checks::keep_outs::keep_outs_of;
 use std::alloc::{AllocError, Allocator};
-
-/// The rectangles where numbered statements keep components out, in the order of the statements.
-pub(crate) fn keep_outs_among<A: Allocator + Copy>(
-    alloc: A,
-    statements: &[Numbered<'_>],
-) -> Result<Vec<Rect, A>, AllocError>
-    ensures { IfOk result (λ v. map rectangle_of v.items ≡ keep_outs (said (map numbered_view statements.now))) }
-{
-    let mut found = Vec::new(alloc);
-    for numbered in statements {
-        let mut some = keep_outs_of(alloc, &[numbered.statement])?;
-        found.append(&mut some)?;
-    }
-    Ok(found)
-}
 
 /// Whether two rectangles are one.
 fn is_same(a: &Rect, b: &Rect) -> bool
