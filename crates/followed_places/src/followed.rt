@@ -23,7 +23,7 @@ ghost use Rattle.followed_places.specs.Tests.{near_pairs, near_rectangles, near_
 use crate::around::{Around, KeptAround, is_any_surrounding, numbers_around};
 use crate::blocked_lines::blocked_near;
 use crate::components::{Placed, boxes_of, components_of, insert_all, remove_all};
-use crate::keep_outs::exchange_keep_outs;
+use crate::keep_outs::{are_no_rectangles, exchange_keep_outs};
 use crate::own_lines::lines_of;
 use cell_library::library::Library;
 use design_model::geometry::Rect;
@@ -174,13 +174,6 @@ fn are_none(went: &[Placed<'_>], came: &[Placed<'_>]) -> bool
     went.is_empty() && came.is_empty()
 }
 
-/// Whether no rectangle goes, and none comes.
-fn are_no_rectangles(went: &[Rect], came: &[Rect]) -> bool
-    ensures { IsTrue result → (went.now ≡ []) × (came.now ≡ []) }
-{
-    went.is_empty() && came.is_empty()
-}
-
 /// The lines after components of a text went out of those whose boxes are kept, and others came in, unless they are soon made anew.
 fn exchanged<'t, A: Allocator + Copy>(
     alloc: A,
@@ -237,13 +230,13 @@ fn exchanged_keep_outs<'t, A: Allocator + Copy>(
 {
     same_lines_follow();
     let scale = change.scale;
-    let out = blocked_near(alloc, library, scale, text, boxes, change.went)?;
-    let put = blocked_near(alloc, library, scale, text, boxes, change.came)?;
-    let tests = out.tests.saturating_add(put.tests);
+    let gone = blocked_near(alloc, library, scale, text, boxes, change.went)?;
+    let come = blocked_near(alloc, library, scale, text, boxes, change.came)?;
+    let tests = gone.tests.saturating_add(come.tests);
     if !exchange_keep_outs(keep_outs, change.went, change.came)? {
         return Ok(None);
     }
-    let Some(lines) = kept.followed(out.lines, put.lines, MOST_MOVED)? else {
+    let Some(lines) = kept.followed(gone.lines, come.lines, MOST_MOVED)? else {
         return Ok(None);
     };
     Ok(Some(FollowedOnPlaces { lines, tests }))

@@ -1,11 +1,18 @@
 //! Rectangles that keep components out, of which some go and others come (LEF/DEF 5.8 Language Reference, "Blockages").
 
-ghost use Rattle.std.specs.Prelude.{◌≡◌, ◌<◌, ◌∷◌, ◌++◌, IfOk, IfSome, IsTrue, get_or, length, map};
+ghost use Rattle.std.specs.Prelude.{◌≡◌, ◌<◌, ◌∷◌, ◌++◌, [], IfOk, IfSome, IsTrue, get_or, length, map};
 ghost use Rattle.design_model.specs.Views.{rectangle_of};
 ghost use Rattle.line_laws.specs.Lines.{SameThings};
 
 use design_model::geometry::Rect;
 use std::alloc::{AllocError, Allocator};
+
+/// Whether no rectangle goes, and none comes.
+pub(crate) fn are_no_rectangles(went: &[Rect], came: &[Rect]) -> bool
+    ensures { IsTrue result → (went.now ≡ []) × (came.now ≡ []) }
+{
+    went.is_empty() && came.is_empty()
+}
 
 /// Whether two rectangles are one.
 fn is_same(a: &Rect, b: &Rect) -> bool

@@ -12,15 +12,15 @@ pub followed-requires : goal.followed-requires
 followed-requires g c =
     let stay = c.requires.awaits.0 in
     let a = c.requires.awaits.2 in
-    let gone = c.in_ok-out.ensures.lines stay a.are_boxes in
-    let come = c.in_ok-put.ensures.lines stay a.are_boxes in
+    let gone = c.in_ok-gone.ensures.lines stay a.are_boxes in
+    let come = c.in_ok-come.ensures.lines stay a.are_boxes in
     (a.before, c.requires.awaits.1, a.kept_are, rectangle_lines_follow _ _ _ _ _ _ _ _ _ a c.same_lines_follow.ensures _ _ gone come)
 
 pub returns-clause-lines : goal.returns-clause-lines
 returns-clause-lines g c = λ stay after a.
-    let gone = c.in_ok-out.ensures.lines stay a.are_boxes in
-    let come = c.in_ok-put.ensures.lines stay a.are_boxes in
+    let gone = c.in_ok-gone.ensures.lines stay a.are_boxes in
+    let come = c.in_ok-come.ensures.lines stay a.are_boxes in
     rw (c.in-Some.is) at (c.in_ok-lines.ensures a.before after a.kept_are (rectangle_lines_follow _ _ _ _ _ _ _ _ _ a c.same_lines_follow.ensures _ _ gone come))
 
 pub returns-clause-tests : goal.returns-clause-tests
-returns-clause-tests g c = omega (arith, c.in_ok-out.ensures.tests, c.in_ok-put.ensures.tests)
+returns-clause-tests g c = omega (arith, c.in_ok-gone.ensures.tests, c.in_ok-come.ensures.tests)
