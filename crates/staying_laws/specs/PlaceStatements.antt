@@ -1,5 +1,5 @@
 -- The lines on components, where statements go out of a design and others come in.
-use Rattle.std.specs.Prelude.{◌≡◌, Bool, true, false, List, [], filter}
+use Rattle.std.specs.Prelude.{◌≡◌, Bool, true, false, List, filter}
 use Rattle.std.specs.List.{filter_map}
 use Rattle.def_grammar.specs.Records as records
 use Rattle.def_grammar.specs.Records.{Record, entry, top}
