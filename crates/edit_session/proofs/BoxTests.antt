@@ -10,6 +10,8 @@ use Rattle.design_model.specs.Geometry.{Rectangle}
 use Rattle.def_grammar.specs.Records.{Record}
 use Rattle.lef_grammar.specs.Library.{Library}
 use Rattle.design_rules.specs.Boxes.{Boxed, box_of, scale}
+use Rattle.design_rules.specs.Surroundings.{keep_outs}
+use Rattle.line_laws.proofs.PairSums.{sum_by-same}
 use Rattle.shape_index.specs.Near.{are_near}
 use Rattle.text_pieces.specs.KeptRecords.{records_under}
 use Rattle.text_pieces.specs.Tables.{Kept}
@@ -43,25 +45,33 @@ near_all all (c ∷ some) =
     ∙ ap₂ (λ m n. m + n) (near_one c.1.box all) (near_all all some)
     ∙ sym (sum_by-cons (λ (b : Boxed). count_by (λ (d : Boxed). are_near b.box d.box) (map (λ (x : StmtId × Boxed). x.1) all)) c.1 (map (λ (x : StmtId × Boxed). x.1) some))
 
+near_rectangles_all : (all : List (StmtId × Boxed)) (rs : List Rectangle) → sum_by (λ (r : Rectangle). count_by (λ (b : StmtId × Rectangle). are_near r b.1) (map place_under all)) rs
+    ≡ sum_by (λ (r : Rectangle). count_by (λ (c : Boxed). are_near r c.box) (map (λ (x : StmtId × Boxed). x.1) all)) rs
+near_rectangles_all all rs =
+    sum_by-same (λ (r : Rectangle). count_by (λ (b : StmtId × Rectangle). are_near r b.1) (map place_under all)) (λ (r : Rectangle). count_by (λ (c : Boxed). are_near r c.box) (map (λ (x : StmtId × Boxed). x.1) all)) (λ r. near_one r all) rs
+
 -- pairs of boxes by numbered statements are those of the definition
 pub same_pairs : (library : Library) (rs some : List (StmtId × Record)) → near_pairs library rs some ≡ near_boxes library (said rs) (said some)
 same_pairs library rs some =
     let u = scale (said rs) in
-    near_all (components_under library u rs) (components_under library u some)
-    ∙ ap₂ (λ (xs ys : List Boxed). sum_by (λ (b : Boxed). count_by (λ (c : Boxed). are_near b.box c.box) xs) ys) (seconds library u rs) (seconds library u some)
+    let outs = keep_outs (said some) in
+    ap₂ (λ m n. m + n)
+    (near_all (components_under library u rs) (components_under library u some)
+    ∙ ap₂ (λ (xs ys : List Boxed). sum_by (λ (b : Boxed). count_by (λ (c : Boxed). are_near b.box c.box) xs) ys) (seconds library u rs) (seconds library u some))
+    (near_rectangles_all (components_under library u rs) outs ∙ ap (λ (xs : List Boxed). sum_by (λ (r : Rectangle). count_by (λ (c : Boxed). are_near r c.box) xs) outs) (seconds library u rs))
 
 -- statements under numbers are as many as these
 many : (slots : List (Option Kept)) (ids : List StmtId) → length (said (records_under slots ids)) ≡ length ids
 many slots [] = refl
 many slots (i ∷ ids) = ap (λ n. suc n) (many slots ids)
 
--- whatever is compared from a design on, with what was compared before it is all of an edit's
-abbrev pub IsAhead : Library → List Record → List Record → List Record → ℕ → Type 0
-IsAhead library old between new tests =
-    (xs : List Exchanged) (pairs : ℕ) → AreNearIn library between xs new pairs → (all : List Exchanged) × (total : ℕ) × AreNearIn library old all new total × (tests + pairs ≤ total)
+-- whatever is compared from a design on, with what was compared before it, by so many exchanges, is all of an edit's
+abbrev pub IsAhead : Library → List Record → List Record → List Record → ℕ → ℕ → Type 0
+IsAhead library old between new made tests =
+    (xs : List Exchanged) (pairs : ℕ) → AreNearIn library between xs new pairs → (all : List Exchanged) × (total : ℕ) × (length all ≡ made + length xs) × AreNearIn library old all new total × (tests + pairs ≤ total)
 
-pub none_ahead : (library : Library) (old new : List Record) → IsAhead library old old new 0
-none_ahead library old new xs pairs near = (xs, pairs, near, omega arith)
+pub none_ahead : (library : Library) (old new : List Record) → IsAhead library old old new 0 0
+none_ahead library old new xs pairs near = (xs, pairs, refl, near, omega arith)
 
 module _ (library : Library) (slots : List (Option Kept)) (old between : List (StmtId × Record)) (x : text.Exchanged) (e : IsExchange slots old between x) where
   abbrev one : Exchanged
@@ -89,17 +99,21 @@ module _ (library : Library) (slots : List (Option Kept)) (old between : List (S
       )
 
   -- so it is one exchange further
-  pub ahead_then : (first new : List Record) (tests more next : ℕ) → length x.went ≤ 256 → length x.came ≤ 256 → IsAhead library first (said old) new tests
-      → more ≤ near_pairs library old (records_under slots x.went) + near_pairs library between (records_under slots x.came) → next ≤ tests + more → IsAhead library first (said between) new next
-  ahead_then first new tests more next few also ahead within sum xs pairs near =
+  pub ahead_then : (first new : List Record) (made tests more next : ℕ) → length x.went ≤ 256 → length x.came ≤ 256 → IsAhead library first (said old) new made tests
+      → more ≤ near_pairs library old (records_under slots x.went) + near_pairs library between (records_under slots x.came) → next ≤ tests + more → IsAhead library first (said between) new (made + 1) next
+  ahead_then first new made tests more next few also ahead within sum xs pairs near =
       let all = ahead (one ∷ xs) _ (near_then xs new pairs few also near) in
-      (all.0, all.1, all.2, let le = all.3 in omega (arith, le, within, sum))
+      let count : length all.0 ≡ made + (1 + length xs) = all.2 in
+      let counted : length all.0 ≡ (made + 1) + length xs = omega (arith, count) in
+      (all.0, all.1, counted, all.3, let le = all.4 in omega (arith, le, within, sum))
 
 -- and in the end
-pub few_boxes : (library : Library) (old between new : List Record) (tests : ℕ) → new ≡ between → IsAhead library old between new tests → FewBoxes library old new tests
-few_boxes library old between new tests same ahead =
+pub few_boxes : (library : Library) (old between new : List Record) (made tests : ℕ) → made ≤ 8 → new ≡ between → IsAhead library old between new made tests → FewBoxes library old new tests
+few_boxes library old between new made tests few same ahead =
     let all = ahead [] 0 (same, refl) in
-    (all.1, Some all.0, all.2, let le = all.3 in omega (arith, le))
+    let count : length all.0 ≡ made + 0 = all.2 in
+    let le = all.4 in
+    (all.1, Some all.0, (omega (arith, count, few), all.3), omega (arith, le))
 
 pub no_boxes : (library : Library) (old new : List Record) (tests : ℕ) → tests ≡ 0 → FewBoxes library old new tests
 no_boxes library old new tests none = (0, None, refl, omega (arith, none))

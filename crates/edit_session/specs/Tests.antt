@@ -2,9 +2,11 @@
 use Rattle.std.specs.Prelude.{◌≡◌, ◌+◌, ◌≤◌, ℕ, Bool, true, false, List, [], ◌∷◌, ◌++◌, length, count_by, sum_by, MatchOption, Option, Some, None, Ok}
 use Rattle.std.specs.List.{list_any}
 use Rattle.std.specs.Str.{bytes_eq}
+use Rattle.design_model.specs.Geometry.{Rectangle}
 use Rattle.def_grammar.specs.Records.{Record, read_def}
 use Rattle.lef_grammar.specs.Library.{Library}
 use Rattle.design_rules.specs.Boxes.{Boxed, boxes}
+use Rattle.design_rules.specs.Surroundings.{keep_outs}
 use Rattle.edit_rules.specs.Edits.{Change, change_of, of_component, of_net, of_section}
 use Rattle.edit_rules.specs.SectionEdits.{add_blockage, add_component, remove_component}
 use Rattle.net_laws.specs.NetChanges.{is_one_of}
@@ -40,9 +42,15 @@ is_touched design (Some (one_component c)) name = list_any (finds c) (terminals_
 abbrev pub TouchesEach : List Record → Option Subject → List (List ℕ) → Type 0
 TouchesEach design subject nets = (name : List ℕ) → is_one_of nets name ≡ true → is_touched design subject name ≡ true
 
--- each component of a design among some statements, with each whose box is near its own, itself too
+-- how many components of a design have their boxes near a rectangle
+abbrev pub near_rectangle : Library → List Record → Rectangle → ℕ
+near_rectangle library design r = count_by (λ (c : Boxed). are_near r c.box) (boxes library design)
+
+-- each component of a design among some statements, with each whose box is near its own, itself too; and each rectangle where they keep
+-- components out, with each whose box is near it
 abbrev pub near_boxes : Library → List Record → List Record → ℕ
-near_boxes library design some = sum_by (λ (b : Boxed). count_by (λ (c : Boxed). are_near b.box c.box) (boxes library design)) (boxes_among library design some)
+near_boxes library design some =
+    sum_by (λ (b : Boxed). near_rectangle library design b.box) (boxes_among library design some) + sum_by (near_rectangle library design) (keep_outs some)
 
 -- statements that went out of a design, and those that came in for them
 pub record Exchanged : Type 0 where
@@ -62,10 +70,10 @@ AreNearIn library old (x ∷ xs) new pairs =
     × (pairs ≡ near_boxes library old x.went + near_boxes library (front ++ (x.came ++ behind)) x.came + later)
     × AreNearIn library (front ++ (x.came ++ behind)) xs new later
 
--- so many pairs of boxes are near where the lines on components followed an edit; else none is compared
+-- so many pairs of boxes are near where the lines on components followed an edit of few exchanges; else none is compared
 abbrev pub FewBoxes : Library → List Record → List Record → ℕ → Type 0
 FewBoxes library old new tests =
-    (pairs : ℕ) × (exchanges : Option (List Exchanged)) × MatchOption exchanges (pairs ≡ 0) (λ xs. AreNearIn library old xs new pairs) × (tests ≤ pairs)
+    (pairs : ℕ) × (exchanges : Option (List Exchanged)) × MatchOption exchanges (pairs ≡ 0) (λ xs. (length xs ≤ 8) × AreNearIn library old xs new pairs) × (tests ≤ pairs)
 
 -- an edit that touches these nets touches no others than it says
 abbrev pub TouchesOnly : List Record → Option Subject → Touched → Type 0
@@ -85,7 +93,7 @@ pub record FewShapes (library : Library) (old new : List Record) (subject : Opti
   pub few : FewTests library old new nets tests
 
 -- Shapes of nets that the edit touches are compared with shapes near them, as they were and as they are then; so are rectangles where
--- routing is blocked, and boxes of components, that go or come; and nothing else.
+-- routing is blocked, boxes of components, and rectangles where placement is blocked, that go or come; and nothing else.
 pub record TestsFew (library : Library) (old new : List Record) (subject : Option Subject) (tests : ℕ) : Type 0 where
   pub by_shapes : ℕ
   pub by_boxes : ℕ

@@ -12,7 +12,7 @@ use crate::change::Change;
 use crate::known_lines::KnownLines;
 use crate::measures::{follow_measures, tell_measures};
 use crate::nets::{follow_nets, note_nets};
-use crate::places::{component_of, follow_places, note_places};
+use crate::places::{follow_places, is_of_places, note_places};
 use crate::statements::{follow_known, tell_known};
 use cell_library::library::Library;
 use design_text::made::Made;
@@ -93,7 +93,7 @@ impl<A: Allocator + Copy> Noted<A> {
         ensures only { (subject : Option Subject) × IsSubject change.entry subject × IfSome result.nets (TouchesOnly (said (records_in text.now)) subject) }
     {
         let is_wanted = match change {
-            Change::Design(edit) => component_of(edit).is_some(),
+            Change::Design(edit) => is_of_places(edit),
             Change::Text(_) => true,
         };
         note_places(alloc, library, text, is_wanted, known, &mut self.places);

@@ -1,4 +1,4 @@
-//! The lines on components, which follow an edit by the components that it touches.
+//! The lines on components, which follow an edit by the components that it touches, and by the rectangles where it keeps components out.
 
 ghost use Rattle.std.specs.Prelude.{◌≡◌, IfSome, List, Some};
 ghost use Rattle.edit_rules.specs.Edits.{change_of};
@@ -28,6 +28,9 @@ use std::alloc::Allocator;
 /// itself and compared with all the others, so beyond that making all lines anew is sooner done.
 const MOST_STATEMENTS: usize = 256;
 
+/// How many exchanges of statements an edit may have so that the lines on components follow.
+const MOST_EXCHANGES: usize = 8;
+
 /// The component that an edit adds, removes or moves, or gives another macro, if it is of one.
 pub(crate) fn component_of<'e>(edit: &Edit<'e>) -> Option<&'e [u8]>
     ensures { IfSome result (λ c. subject_of (change_of edit.now) ≡ Some (one_component c.now)) }
@@ -46,7 +49,15 @@ pub(crate) fn component_of<'e>(edit: &Edit<'e>) -> Option<&'e [u8]>
     }
 }
 
-/// Notes the components of a text where an edit is about to change some, unless they are noted or the lines on them aren't known. Where
+/// Whether an edit is of a component, or keeps components out of a rectangle.
+pub(crate) fn is_of_places(edit: &Edit<'_>) -> bool {
+    match edit {
+        Edit::Block { layer, .. } => layer.is_none(),
+        _ => component_of(edit).is_some(),
+    }
+}
+
+/// Notes the components of a text where an edit is about to change lines on them, unless they are noted or the lines on them aren't known. Where
 /// memory is refused they aren't noted.
 pub(crate) fn note_places<'t, A: Allocator + Copy>(
     alloc: A,
@@ -64,8 +75,9 @@ pub(crate) fn note_places<'t, A: Allocator + Copy>(
     }
 }
 
-/// The lines on components after an edit, from those before it: its exchanges of statements are followed one after the other, where each
-/// is of few statements and leaves what stands round components. What is noted then follows too, and else isn't to be used any more.
+/// The lines on components after an edit, from those before it: its exchanges of statements are followed one after the other, where they
+/// are few, and each is of few statements and leaves what stands round components. What is noted then follows too, and else isn't to be used
+/// any more.
 fn followed<'t, A: Allocator + Copy>(
     alloc: A,
     library: &'t Library<'_, A>,
@@ -79,6 +91,9 @@ fn followed<'t, A: Allocator + Copy>(
     ensures tests { (old : List (Number × Record)) → AreExchanges text.now.pieces.table.slots old made.now.exchanges (records_in text.now) → AreFollowed library.now old places.old kept
         → IfSome result (λ f. FewBoxes library.now (said old) (said (records_in text.now)) f.tests) }
 {
+    if made.len() > MOST_EXCHANGES {
+        return None;
+    }
     let mut kept = kept;
     let mut tests = 0_u64;
     for place in 0..made.len() {
@@ -97,7 +112,8 @@ fn followed<'t, A: Allocator + Copy>(
     Some(FollowedOnPlaces { lines: kept, tests })
 }
 
-/// The lines on components, where an edit exchanged no component and nothing of what stands round them. No boxes are compared.
+/// The lines on components, where an edit exchanged no component, no blockage of placement and nothing of what stands round components. No
+/// boxes are compared.
 fn kept_if_left<A: Allocator + Copy>(
     alloc: A,
     text: &DesignText<A>,

@@ -3,7 +3,9 @@ use Rattle.std.proofs.Common.{◌≡◌, ◌≤◌, ◌+◌, ℕ, List, [], ◌�
 use Rattle.std.proofs.lemmas.List.Sums.{sum_by-append}
 use Rattle.design_model.specs.declared.identifier.StmtId.{StmtId}
 use Rattle.design_model.specs.Geometry.{Rectangle}
+use Rattle.design_model.specs.Families.{cross_lines}
 use Rattle.design_rules.specs.Boxes.{Boxed}
+use Rattle.design_rules.specs.PlaceLines.{blocked_of}
 use Rattle.design_rules.specs.Surroundings.{Surroundings}
 use Rattle.lef_grammar.specs.Library.{Library}
 use Rattle.line_laws.specs.Lines.{SameLines, SameThings}
@@ -12,7 +14,7 @@ use Rattle.following_laws.specs.FamilyLaws.{SameLinesFollow}
 use Rattle.following_laws.specs.Following.{LinesFollow}
 use Rattle.text_pieces.specs.KeptRecords.{records_under}
 use Rattle.text_pieces.specs.Tables.{Kept}
-use Rattle.followed_places.specs.Lines.{AreBoxesOf, Awaits, boxed_under}
+use Rattle.followed_places.specs.Lines.{AreBoxesOf, Awaits, AwaitsRectangles, boxed_under}
 use Rattle.followed_places.specs.Placed.{component_of, placed_view}
 use Rattle.followed_places.specs.Places.{components_under, place_under}
 use Rattle.followed_places.specs.Tests.{near_sum}
@@ -82,3 +84,10 @@ module _ (library : Library) (u : ℕ) (slots : List (Option Kept)) (stay : List
 
   pub lines_follow : SameLinesFollow → (out put : List (List ℕ)) → SameLines out (on went) → SameLines put (on came) → LinesFollow a.before after out put
   lines_follow law out put gone come = law _ _ _ _ a.before after out put (same_lines a.before) (same_lines after) (turned out went gone) (turned put came come) a.follow
+
+-- the same where rectangles go and come
+pub rectangle_lines_follow : (library : Library) (u : ℕ) (slots : List (Option Kept)) (stay : List StmtId) (went came : List Rectangle) (boxes : List (StmtId × Rectangle)) (kept after : List (List ℕ))
+    (a : AwaitsRectangles library u slots stay went came boxes kept after) → SameLinesFollow → (out put : List (List ℕ))
+    → SameLines out (cross_lines blocked_of (boxed_under library u slots stay) went) → SameLines put (cross_lines blocked_of (boxed_under library u slots stay) came) → LinesFollow a.before after out put
+rectangle_lines_follow library u slots stay went came boxes kept after a law out put gone come =
+    law _ _ _ _ a.before after out put (record { often = λ q. refl }) (record { often = λ q. refl }) (record { often = λ q. sym (gone.often q) }) (record { often = λ q. sym (come.often q) }) a.follow

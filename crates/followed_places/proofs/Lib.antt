@@ -1,3 +1,4 @@
+mod BlockedLemmas
 mod ComponentLemmas
 mod ExchangeLemmas
 mod FollowedLemmas

@@ -8,7 +8,7 @@ use Rattle.design_model.specs.declared.identifier.StmtId.{StmtId}
 use Rattle.statement_boxes.specs.Boxes.{is_near, near_count}
 use Rattle.followed_places.specs.Placed.{placed_view}
 use Rattle.followed_places.specs.Places.{place_under}
-use Rattle.followed_places.specs.Tests.{near_sum}
+use Rattle.followed_places.specs.Tests.{near_rectangles, near_sum}
 use Rattle.followed_places.specs.declared.components.Placed.{Placed}
 use Rattle.followed_places.proofs.OthersMet.{left_from}
 
@@ -26,6 +26,9 @@ near_sum_part all part rest some same =
 pub near_sum_same : (xs ys some : List (StmtId × Rectangle)) → SameThings xs ys → near_sum xs some ≡ near_sum ys some
 near_sum_same xs ys some same =
     sum_by-same (λ (b : StmtId × Rectangle). near_count b.1 xs) (λ (b : StmtId × Rectangle). near_count b.1 ys) (λ b. same.sums (λ x. cond (is_near b.1 x) 1 0)) some
+
+pub near_rectangles_same : (xs ys : List (StmtId × Rectangle)) (some : List Rectangle) → SameThings xs ys → near_rectangles xs some ≡ near_rectangles ys some
+near_rectangles_same xs ys some same = sum_by-same (λ r. near_count r xs) (λ r. near_count r ys) (λ r. same.sums (λ x. cond (is_near r x) 1 0)) some
 
 abbrev places : List Placed → List (StmtId × Rectangle)
 places ps = map place_under (map placed_view ps)

@@ -30,7 +30,7 @@ near_low a b c d h = grind (arith, ints)
 near_high : (a b c d : ℤ) → int_lt (int_max a b) (int_min c d) ≡ true → le_z a d ≡ true
 near_high a b c d h = grind (arith, ints)
 
-overlap_meets : (a b : Rectangle) → overlap a b ≡ true → meets b a ≡ true
+pub overlap_meets : (a b : Rectangle) → overlap a b ≡ true → meets b a ≡ true
 overlap_meets a b h =
     let p = and_parts (int_lt (int_max a.x1 b.x1) (int_min a.x2 b.x2)) (int_lt (int_max a.y1 b.y1) (int_min a.y2 b.y2)) h in
     and_from (le_z b.x1 a.x2 && le_z a.x1 b.x2) (le_z b.y1 a.y2 && le_z a.y1 b.y2)

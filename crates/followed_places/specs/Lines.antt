@@ -4,7 +4,9 @@ use Rattle.design_model.specs.declared.identifier.StmtId.{StmtId}
 use Rattle.design_model.specs.Geometry.{Rectangle}
 use Rattle.lef_grammar.specs.Library.{Library}
 use Rattle.design_model.specs.Order.{sorted_by_bytes}
+use Rattle.design_model.specs.Families.{cross_lines}
 use Rattle.design_rules.specs.Boxes.{Boxed}
+use Rattle.design_rules.specs.PlaceLines.{blocked_of}
 use Rattle.design_rules.specs.Surroundings.{Surroundings}
 use Rattle.following_laws.specs.DesignLaws.{lines_of_components}
 use Rattle.following_laws.specs.Following.{LinesFollow}
@@ -32,3 +34,12 @@ pub record Awaits (library : Library) (u : ℕ) (slots : List (Option Kept)) (st
   pub kept_are : kept ≡ sorted_by_bytes before
   pub follow : LinesFollow before after (lines_of_components s (map (λ x. x.1) went) (boxed_under library u slots stay) outs [])
       (lines_of_components s (map (λ x. x.1) came) (boxed_under library u slots stay) outs [])
+
+-- The same when no component does, but rectangles that keep components out go out and others come in.
+pub record AwaitsRectangles (library : Library) (u : ℕ) (slots : List (Option Kept)) (stay : List StmtId) (went came : List Rectangle)
+    (boxes : List (StmtId × Rectangle)) (kept after : List (List ℕ)) : Type 0 where
+  pub are_boxes : AreBoxesOf library u slots stay boxes
+  pub before : List (List ℕ)
+  pub kept_are : kept ≡ sorted_by_bytes before
+  pub follow : LinesFollow before after (cross_lines blocked_of (boxed_under library u slots stay) went)
+      (cross_lines blocked_of (boxed_under library u slots stay) came)

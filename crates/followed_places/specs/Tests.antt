@@ -1,14 +1,19 @@
--- How many boxes are compared where components of a text go out and come in.
-use Rattle.std.specs.Prelude.{ℕ, List, map, sum_by}
+-- How many boxes are compared where components of a text, and rectangles that keep them out, go out and come in.
+use Rattle.std.specs.Prelude.{◌+◌, ℕ, List, map, sum_by}
 use Rattle.design_model.specs.declared.identifier.StmtId.{StmtId}
 use Rattle.design_model.specs.Geometry.{Rectangle}
 use Rattle.def_grammar.specs.Records.{Record}
 use Rattle.lef_grammar.specs.Library.{Library}
 use Rattle.design_rules.specs.Boxes.{scale}
+use Rattle.design_rules.specs.Surroundings.{keep_outs}
 use Rattle.statement_boxes.specs.Boxes.{near_count}
 use Rattle.followed_places.specs.Places.{components_under, place_under, said}
 
--- how many of these boxes are near each of some, in all
+-- how many of these boxes are near each of some rectangles, in all
+abbrev pub near_rectangles : List (StmtId × Rectangle) → List Rectangle → ℕ
+near_rectangles boxes some = sum_by (λ r. near_count r boxes) some
+
+-- and how many are near each of some boxes
 abbrev pub near_sum : List (StmtId × Rectangle) → List (StmtId × Rectangle) → ℕ
 near_sum boxes some = sum_by (λ b. near_count b.1 boxes) some
 
@@ -16,6 +21,8 @@ near_sum boxes some = sum_by (λ b. near_count b.1 boxes) some
 abbrev pub places_in : Library → List (StmtId × Record) → List (StmtId × Rectangle)
 places_in library records = map place_under (components_under library (scale (said records)) records)
 
--- each box of a component among some statements with each box of the design near it, itself too
+-- each box of a component among some statements with each box of the design near it, itself too; and each rectangle where they keep
+-- components out with each box of the design near it
 abbrev pub near_pairs : Library → List (StmtId × Record) → List (StmtId × Record) → ℕ
-near_pairs library records some = near_sum (places_in library records) (map place_under (components_under library (scale (said records)) some))
+near_pairs library records some =
+    near_sum (places_in library records) (map place_under (components_under library (scale (said records)) some)) + near_rectangles (places_in library records) (keep_outs (said some))

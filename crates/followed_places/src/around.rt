@@ -9,7 +9,7 @@ ghost use Rattle.design_rules.specs.Surroundings.{keep_outs, surroundings};
 ghost use Rattle.design_tables.specs.TableViews.{numbered_view};
 ghost use Rattle.place_checks.specs.IndexViews.{surroundings_view};
 ghost use Rattle.place_checks.specs.SameSurroundings.{HaveSameLines};
-ghost use Rattle.staying_laws.specs.PlaceStatements.{is_surrounding};
+ghost use Rattle.staying_laws.specs.PlaceStatements.{is_surrounding, surrounds_or_blocks};
 
 use cell_library::library::Library;
 use def_reader::entry::Entry;
@@ -23,11 +23,12 @@ use place_checks::scale::scale_of;
 use place_checks::surroundings::{Surroundings, surroundings_of};
 use std::alloc::{AllocError, Allocator};
 
-/// What stands round components, and the database units per micron by which it is measured, kept from one edit to the next.
+/// What stands round components, what keeps them out, and the database units per micron by which it is measured, kept from one edit to
+/// the next.
 #[derive(Drop)]
 pub(crate) struct KeptAround<A: Allocator> {
     pub(crate) surroundings: KeptSurroundings<A>,
-    /// The rectangles that keep components out.
+    /// The rectangles that keep components out, in an order that is left open.
     pub(crate) keep_outs: Vec<Rect, A>,
     pub(crate) scale: u32,
 }
@@ -47,14 +48,24 @@ pub(crate) fn is_surrounding(statement: &Statement<'_>) -> bool
     match statement {
         Statement::Units(_) | Statement::Floor(_) => true,
         Statement::Entry(entry) => match entry {
-            Entry::Region(_) | Entry::Group(_) | Entry::Blockage(_) => true,
+            Entry::Region(_) | Entry::Group(_) => true,
             _ => false,
         },
         _ => false,
     }
 }
 
-/// Whether one of these statements is.
+/// Whether a statement is such a one, or a blockage.
+fn surrounds_or_blocks(statement: &Statement<'_>) -> bool
+    ensures { result ≡ surrounds_or_blocks (record_view statement.now) }
+{
+    match statement {
+        Statement::Entry(Entry::Blockage(_)) => true,
+        _ => is_surrounding(statement),
+    }
+}
+
+/// Whether one of these statements is of what stands round components.
 pub(crate) fn is_any_surrounding(statements: &[Numbered<'_>]) -> bool
     ensures { result ≡ list_any (λ x. is_surrounding x.1) (map numbered_view statements.now) }
 {
@@ -101,16 +112,16 @@ impl<A: Allocator + Copy> KeptAround<A> {
     }
 }
 
-/// The numbers of those of these statements that are, in their order.
+/// The numbers of those of these statements that tell what stands round components and what keeps them out, in their order.
 pub(crate) fn numbers_around<A: Allocator + Copy>(
     alloc: A,
     statements: &[Numbered<'_>],
 ) -> Result<Vec<StmtId, A>, AllocError>
-    ensures { IfOk result (λ v. v.items ≡ map (λ x. x.0) (filter (λ x. is_surrounding x.1) (map numbered_view statements.now))) }
+    ensures { IfOk result (λ v. v.items ≡ map (λ x. x.0) (filter (λ x. surrounds_or_blocks x.1) (map numbered_view statements.now))) }
 {
     let mut numbers = Vec::new(alloc);
     for numbered in statements {
-        if is_surrounding(&numbered.statement) {
+        if surrounds_or_blocks(&numbered.statement) {
             numbers.push(numbered.id)?;
         }
     }

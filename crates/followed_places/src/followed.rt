@@ -1,6 +1,6 @@
 //! The components of a text that are noted, and the lines on them that follow.
 
-ghost use Rattle.std.specs.Prelude.{◌≡◌, ◌<◌, ◌≤◌, ◌+◌, ◌++◌, [], IfOk, IfSome, IsTrue, List, OnOk, false, map};
+ghost use Rattle.std.specs.Prelude.{◌≡◌, ◌<◌, ◌≤◌, ◌+◌, ◌++◌, [], IfOk, IfSome, IsTrue, List, OnOk, false, filter, map};
 ghost use Rattle.std.specs.List.{list_any};
 ghost use Rattle.design_model.specs.declared.identifier.StmtId.{StmtId as Number};
 ghost use Rattle.design_model.specs.Order.{sorted_by_bytes};
@@ -12,26 +12,30 @@ ghost use Rattle.design_tables.specs.TableViews.{numbered_view};
 ghost use Rattle.line_laws.specs.Lines.{SameThings};
 ghost use Rattle.place_checks.specs.IndexViews.{surroundings_view};
 ghost use Rattle.place_checks.specs.SameSurroundings.{HaveSameLines};
-ghost use Rattle.staying_laws.specs.PlaceStatements.{is_surrounding};
+ghost use Rattle.staying_laws.specs.PlaceStatements.{is_surrounding, surrounds_or_blocks};
 ghost use Rattle.text_pieces.specs.KeptRecords.{HavePieces, records_under};
 ghost use Rattle.design_text.specs.Exchanges.{IsExchange, exchange_view, records_in};
-ghost use Rattle.followed_places.specs.Lines.{Awaits};
+ghost use Rattle.followed_places.specs.Lines.{Awaits, AwaitsRectangles};
 ghost use Rattle.followed_places.specs.Placed.{placed_view};
 ghost use Rattle.followed_places.specs.Places.{AreFollowed, HasPlaces, components_under, place_under, said};
-ghost use Rattle.followed_places.specs.Tests.{near_pairs, near_sum};
+ghost use Rattle.followed_places.specs.Tests.{near_pairs, near_rectangles, near_sum};
 
 use crate::around::{Around, KeptAround, is_any_surrounding, numbers_around};
+use crate::blocked_lines::blocked_near;
 use crate::components::{Placed, boxes_of, components_of, insert_all, remove_all};
+use crate::keep_outs::{are_no_rectangles, exchange_keep_outs};
 use crate::own_lines::lines_of;
 use cell_library::library::Library;
+use design_model::geometry::Rect;
 use design_model::identifier::StmtId;
 use design_tables::Numbered;
 use design_text::made::Exchange;
 use design_text::text::DesignText;
 use following_laws::same_lines_follow;
 use kept_lines::KeptLines;
+use line_laws::each::crosses_are_unordered;
 use line_laws::scales::scales_are_good;
-use line_laws::sorting::same_lines_sort_alike;
+use place_checks::keep_outs::keep_outs_of;
 use statement_boxes::StatementBoxes;
 use staying_laws::{components_are_exchanged, surroundings_are_told};
 use std::alloc::{AllocError, Allocator, Global};
@@ -65,12 +69,28 @@ pub struct FollowedOnPlaces<A: Allocator = Global> {
     pub tests: u64,
 }
 
-/// The components that go out of a text and come in by an edit, and what stands round them before and after it.
+/// What goes out of a text or comes in by an exchange: the components that take part, and the rectangles that keep components out.
+#[derive(Drop)]
+struct LoosePlaces<'t, A: Allocator> {
+    components: Vec<Placed<'t>, A>,
+    keep_outs: Vec<Rect, A>,
+}
+
+/// The components that go out of a text and come in by an exchange, and what stands round them and keeps them out before and after it.
 #[derive(Drop)]
 struct Change<'t, A: Allocator> {
     around: Around<'t, A>,
     went: Vec<Placed<'t>, A>,
     came: Vec<Placed<'t>, A>,
+}
+
+/// The rectangles that go out of those which keep components of a text out, and those that come in, by an exchange of no component.
+#[derive(Clone, Copy)]
+struct ChangedKeepOuts<'c> {
+    /// The database units per micron.
+    scale: u32,
+    went: &'c [Rect],
+    came: &'c [Rect],
 }
 
 /// A law: the database units per micron of a text are as many as a text may have.
@@ -103,25 +123,48 @@ fn around_in<'t, A: Allocator + Copy>(
     KeptAround::of(alloc, library, &around)
 }
 
-/// The components that take part among the statements under some numbers, unless one of these stands round components.
-fn loose_components<'t, A: Allocator + Copy>(
+/// The rectangles where some of the statements that are kept in a text keep components out. Of these, those are read once more that tell
+/// what stands round components or what keeps them out.
+fn keep_outs_among<A: Allocator + Copy>(
+    alloc: A,
+    text: &DesignText<A>,
+    statements: &[Numbered<'_>],
+) -> Result<Vec<Rect, A>, AllocError>
+    requires { (ids : List Number) × HavePieces text.now.pieces.table.slots ids × (map numbered_view statements.now ≡ records_under text.now.pieces.table.slots ids) }
+    ensures { IfOk result (λ v. map rectangle_of v.items ≡ keep_outs (filter surrounds_or_blocks (said (map numbered_view statements.now)))) }
+{
+    let numbers = numbers_around(alloc, statements)?;
+    let around = text.kept(alloc, &numbers)?;
+    keep_outs_of(alloc, &around)
+}
+
+/// The components that take part among the statements under some numbers, and the rectangles where these keep components out, unless one of
+/// them is of what stands round components.
+fn loose_places<'t, A: Allocator + Copy>(
     alloc: A,
     library: &'t Library<'_, A>,
     scale: u32,
     text: &'t DesignText<A>,
     ids: &[StmtId],
-) -> Result<Option<Vec<Placed<'t>, A>>, AllocError>
+) -> Result<Option<LoosePlaces<'t, A>>, AllocError>
     requires some { 0 < scale }
     requires few { scale ≤ 100000 }
     requires pieces { HavePieces text.now.pieces.table.slots ids.now }
-    ensures components { let records = records_under text.entry.now.pieces.table.slots ids.now in IfOk result (λ found. IfSome found (λ v. map placed_view v.items ≡ components_under library.entry.now scale records)) }
-    ensures loose { let records = records_under text.entry.now.pieces.table.slots ids.now in IfOk result (λ found. IfSome found (λ v. list_any (λ x. is_surrounding x.1) records ≡ false)) }
+    ensures components { let records = records_under text.entry.now.pieces.table.slots ids.now in IfOk result (λ found. IfSome found (λ p. map placed_view p.components.items ≡ components_under library.entry.now scale records)) }
+    ensures keep_outs { let records = records_under text.entry.now.pieces.table.slots ids.now in IfOk result (λ found. IfSome found (λ p. map rectangle_of p.keep_outs.items ≡ keep_outs (said records))) }
+    ensures loose { let records = records_under text.entry.now.pieces.table.slots ids.now in IfOk result (λ found. IfSome found (λ _. list_any (λ x. is_surrounding x.1) records ≡ false)) }
 {
+    surroundings_are_told();
     let statements = text.kept_numbered(alloc, ids)?;
     if is_any_surrounding(&statements) {
         return Ok(None);
     }
-    Ok(Some(components_of(alloc, library, scale, &statements)?))
+    let components = components_of(alloc, library, scale, &statements)?;
+    let keep_outs = keep_outs_among(alloc, text, &statements)?;
+    Ok(Some(LoosePlaces {
+        components,
+        keep_outs,
+    }))
 }
 
 /// Whether no component goes, and none comes.
@@ -165,6 +208,40 @@ fn exchanged<'t, A: Allocator + Copy>(
     Ok(Some(FollowedOnPlaces { lines, tests }))
 }
 
+/// The lines after rectangles went out of those that keep the components of a text out, and others came in, unless they are sooner made
+/// anew. The components alone are read whose boxes meet one of these rectangles.
+fn exchanged_keep_outs<'t, A: Allocator + Copy>(
+    alloc: A,
+    library: &'t Library<'_, A>,
+    text: &'t DesignText<A>,
+    change: &ChangedKeepOuts<'_>,
+    boxes: &StatementBoxes<A>,
+    keep_outs: &mut Vec<Rect, A>,
+    kept: KeptLines<A>,
+) -> Result<Option<FollowedOnPlaces<A>>, AllocError>
+    requires some { 0 < change.now.scale }
+    requires few { change.now.scale ≤ 100000 }
+    requires awaits { (stay : List Number) × (after : List _) × AwaitsRectangles library.now change.now.scale text.now.pieces.table.slots stay (map rectangle_of change.now.went.now) (map rectangle_of change.now.came.now) boxes.now kept.lines after }
+    ensures lines { (stay : List Number) (after : List _) → AwaitsRectangles library.now change.now.scale text.now.pieces.table.slots stay (map rectangle_of change.now.went.now) (map rectangle_of change.now.came.now) boxes.now kept.lines after
+        → IfOk result (λ found. IfSome found (λ f. f.lines.lines ≡ sorted_by_bytes after)) }
+    ensures keep_outs { IfOk result (λ found. IfSome found (λ _.
+        SameThings (map rectangle_of keep_outs.old.items ++ map rectangle_of change.now.came.now) (map rectangle_of change.now.went.now ++ map rectangle_of keep_outs.new.items))) }
+    ensures tests { IfOk result (λ found. IfSome found (λ f. f.tests ≤ near_rectangles boxes.now (map rectangle_of change.now.went.now) + near_rectangles boxes.now (map rectangle_of change.now.came.now))) }
+{
+    same_lines_follow();
+    let scale = change.scale;
+    let gone = blocked_near(alloc, library, scale, text, boxes, change.went)?;
+    let come = blocked_near(alloc, library, scale, text, boxes, change.came)?;
+    let tests = gone.tests.saturating_add(come.tests);
+    if !exchange_keep_outs(keep_outs, change.went, change.came)? {
+        return Ok(None);
+    }
+    let Some(lines) = kept.followed(gone.lines, come.lines, MOST_MOVED)? else {
+        return Ok(None);
+    };
+    Ok(Some(FollowedOnPlaces { lines, tests }))
+}
+
 impl<A: Allocator + Copy> FollowedPlaces<A> {
     /// Notes the components of a text. Each statement is read once, from its piece.
     pub fn of<'t>(
@@ -183,8 +260,9 @@ impl<A: Allocator + Copy> FollowedPlaces<A> {
 
     /// After statements were exchanged that are all kept in a text, the lines on the components among those that stand then, from those
     /// before it; `None` where they are to be made anew. What was noted then follows too, and else isn't to be used any more. Nothing is
-    /// asked of the text but these statements, and those whose boxes meet theirs: of exchanges that were made one after the other, each is
-    /// followed by itself.
+    /// asked of the text but these statements, and those of the components whose boxes meet theirs, or the rectangles where they keep
+    /// components out: of exchanges that were made one after the other, each is followed by itself. One that exchanges components and such
+    /// rectangles at once isn't followed.
     pub fn follow<'t>(
         &mut self,
         alloc: A,
@@ -199,25 +277,42 @@ impl<A: Allocator + Copy> FollowedPlaces<A> {
         ensures tests { (old new : List (Number × Record)) → IsExchange text.entry.now.pieces.table.slots old new (exchange_view exchange.entry) → AreFollowed library.entry.now old self.old kept
             → IfOk result (λ found. IfSome found (λ f. f.tests ≤ near_pairs library.entry.now old (records_under text.entry.now.pieces.table.slots (exchange_view exchange.entry).went) + near_pairs library.entry.now new (records_under text.entry.now.pieces.table.slots (exchange_view exchange.entry).came))) }
     {
-        surroundings_are_told();
         components_are_exchanged();
-        same_lines_sort_alike();
+        same_lines_follow();
+        crosses_are_unordered();
         let scale = self.around.scale;
-        let Some(went) = loose_components(alloc, library, scale, text, exchange.went)? else {
+        let Some(went) = loose_places(alloc, library, scale, text, exchange.went)? else {
             return Ok(None);
         };
-        let Some(came) = loose_components(alloc, library, scale, text, exchange.came)? else {
+        let Some(came) = loose_places(alloc, library, scale, text, exchange.came)? else {
             return Ok(None);
         };
-        // An edit of a net exchanges none.
-        if are_none(&went, &came) {
-            return Ok(Some(FollowedOnPlaces {
-                lines: kept,
-                tests: 0,
-            }));
+        // An edit of a net exchanges none, and no rectangle either.
+        if are_none(&went.components, &came.components) {
+            let change = ChangedKeepOuts {
+                scale,
+                went: &went.keep_outs,
+                came: &came.keep_outs,
+            };
+            return exchanged_keep_outs(
+                alloc,
+                library,
+                text,
+                &change,
+                &self.boxes,
+                &mut self.around.keep_outs,
+                kept,
+            );
+        }
+        if !are_no_rectangles(&went.keep_outs, &came.keep_outs) {
+            return Ok(None);
         }
         let around = self.around.lent(alloc)?;
-        let change = Change { around, went, came };
+        let change = Change {
+            around,
+            went: went.components,
+            came: came.components,
+        };
         exchanged(alloc, library, text, &change, &mut self.boxes, kept)
     }
 }

@@ -13,8 +13,10 @@
 #![tactic(auto)]
 
 mod around;
+mod blocked_lines;
 mod components;
 mod followed;
+mod keep_outs;
 mod own_lines;
 
 pub use followed::{FollowedOnPlaces, FollowedPlaces};

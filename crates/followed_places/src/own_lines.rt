@@ -28,14 +28,14 @@ use std::alloc::{AllocError, Allocator};
 
 /// The components whose boxes meet a rectangle.
 #[derive(Drop)]
-struct MetComponents<'t, A: Allocator> {
-    components: Vec<PlacedBox<'t>, A>,
+pub(crate) struct MetComponents<'t, A: Allocator> {
+    pub(crate) components: Vec<PlacedBox<'t>, A>,
     /// How many boxes were compared.
-    compared: u64,
+    pub(crate) compared: u64,
 }
 
 /// The components of a text whose boxes meet a rectangle. They alone are read.
-fn met<'t, A: Allocator + Copy>(
+pub(crate) fn met<'t, A: Allocator + Copy>(
     alloc: A,
     library: &'t Library<'_, A>,
     scale: u32,

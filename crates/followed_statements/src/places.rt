@@ -7,14 +7,29 @@ ghost use Rattle.def_grammar.specs.Records.{Record};
 ghost use Rattle.def_reader.specs.StatementViews.{record_view, records_view};
 ghost use Rattle.design_text.specs.Exchanges.{AreExchanges, IsExchange, exchange_view, records_in};
 ghost use Rattle.followed_statements.specs.Following.{said};
-ghost use Rattle.followed_statements.specs.Places.{SamePlaces, is_of_places};
+ghost use Rattle.place_parts.specs.BlockageViews.{blockage_entry_view};
+ghost use Rattle.followed_statements.specs.Places.{SamePlaces, is_of_places, is_placement_blockage};
 
 use def_reader::entry::Entry;
 use def_reader::statement::Statement;
 use design_text::made::{Exchange, Made};
 use design_text::text::DesignText;
+use place_parts::blockages::{BlockageEntry, BlockageKind};
 use staying_laws::components_are_exchanged;
 use std::alloc::{AllocError, Allocator};
+
+/// Whether an entry of BLOCKAGES blocks placement.
+fn blocks_placement(entry: &BlockageEntry<'_>) -> bool
+    ensures { result ≡ is_placement_blockage (blockage_entry_view entry.now) }
+{
+    match entry {
+        BlockageEntry::Blocks(blockage) => match blockage.kind {
+            BlockageKind::Placement => true,
+            BlockageKind::Layer(_) => false,
+        },
+        BlockageEntry::Kept(_) => false,
+    }
+}
 
 /// Whether lines on components hang on a statement.
 fn is_of_places(statement: &Statement<'_>) -> bool
@@ -23,7 +38,8 @@ fn is_of_places(statement: &Statement<'_>) -> bool
     match statement {
         Statement::Units(_) | Statement::Floor(_) => true,
         Statement::Entry(entry) => match entry {
-            Entry::Component(_) | Entry::Region(_) | Entry::Group(_) | Entry::Blockage(_) => true,
+            Entry::Component(_) | Entry::Region(_) | Entry::Group(_) => true,
+            Entry::Blockage(blockage) => blocks_placement(&blockage.parts()),
             _ => false,
         },
         _ => false,

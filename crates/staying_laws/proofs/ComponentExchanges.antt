@@ -2,8 +2,7 @@
 use Rattle.std.proofs.Common.{◌≡◌, ◌+◌, ℕ, Bool, true, false, List, [], ◌∷◌, ◌++◌, filter, flat_map, map, sum_by, Option, Some, None, refl, sym, ap, ap₂, ◌∙◌, arith, if◌then◌else◌}
 use Rattle.std.specs.List.{cons_option, filter_map}
 use Rattle.std.proofs.lemmas.List.Elements.{filter_map-append}
-use Rattle.std.proofs.lemmas.List.Sums.{sum_by-cons}
-use Rattle.design_model.specs.Geometry.{Rectangle}
+use Rattle.std.proofs.lemmas.List.Sums.{sum_by-append, sum_by-cons}
 use Rattle.form_meanings.specs.Words.{first}
 use Rattle.def_grammar.specs.Records as records
 use Rattle.def_grammar.specs.Records.{Record, end_section, entry, in_properties, top, units_of}
@@ -15,7 +14,7 @@ use Rattle.line_laws.specs.Lines.{SameThings}
 use Rattle.line_laws.proofs.OneOfAll.{design_has_component_lines}
 use Rattle.following_laws.specs.DesignLaws.{ComponentLinesFollow}
 use Rattle.following_laws.specs.Following.{Exchange}
-use Rattle.staying_laws.specs.PlaceStatements.{SurroundingsAreTold, PlacesFollow, ComponentsAreExchanged, TellsSurroundings, boxes_among, is_surrounding}
+use Rattle.staying_laws.specs.PlaceStatements.{SurroundingsAreTold, PlacesFollow, ComponentsAreExchanged, boxes_among, is_surrounding, surrounds_or_blocks}
 
 -- what is selected of statements of which some say nothing
 module _ {A B : Type 0} (says : A → Bool) (select : A → Option B) where
@@ -104,7 +103,23 @@ no_assignment (entry (records.skipped s x)) h = refl
 no_assignment (in_properties p) h = refl
 no_assignment (end_section s) h = refl
 
-no_keep_out : (r : Record) → is_surrounding r ≡ false → keep_out_of r ≡ []
+-- what isn't one of these or a blockage isn't one of these
+not_round : (r : Record) → surrounds_or_blocks r ≡ false → is_surrounding r ≡ false
+not_round (top t) h = h
+not_round (entry (records.component x)) h = h
+not_round (entry (records.pin x)) h = h
+not_round (entry (records.region x)) h = h
+not_round (entry (records.group x)) h = h
+not_round (entry (records.blockage x)) h = refl
+not_round (entry (records.net x)) h = h
+not_round (entry (records.special_net x)) h = h
+not_round (entry (records.via x)) h = h
+not_round (entry (records.rule x)) h = h
+not_round (entry (records.skipped s x)) h = h
+not_round (in_properties p) h = h
+not_round (end_section s) h = h
+
+no_keep_out : (r : Record) → surrounds_or_blocks r ≡ false → keep_out_of r ≡ []
 no_keep_out (top t) h = refl
 no_keep_out (entry (records.component x)) h = refl
 no_keep_out (entry (records.pin x)) h = refl
@@ -119,28 +134,36 @@ no_keep_out (entry (records.skipped s x)) h = refl
 no_keep_out (in_properties p) h = refl
 no_keep_out (end_section s) h = refl
 
-module _ (library : Library) (design : List Record) where
+-- what stands round components, by statements among which are all of those that tell it
+module _ (says : Record → Bool) (only : (r : Record) → says r ≡ false → is_surrounding r ≡ false) (library : Library) (design : List Record) where
   abbrev around : List Record
-  around = filter is_surrounding design
+  around = filter says design
 
   same_scale : scale around ≡ scale design
-  same_scale = ap (λ ns. units_or_1 (first ns)) (selected_of_those is_surrounding units_of no_units design)
+  same_scale = ap (λ ns. units_or_1 (first ns)) (selected_of_those says units_of (λ r h. no_units r (only r h)) design)
 
   same_rows : placed_rows library around ≡ placed_rows library design
-  same_rows = ap₂ (λ u rs. map (placed_row library u) rs) same_scale (selected_of_those is_surrounding row_of no_row design)
+  same_rows = ap₂ (λ u rs. map (placed_row library u) rs) same_scale (selected_of_those says row_of (λ r h. no_row r (only r h)) design)
 
   same_die : die around ≡ die design
-  same_die = ap first (selected_of_those is_surrounding die_of no_die design)
+  same_die = ap first (selected_of_those says die_of (λ r h. no_die r (only r h)) design)
 
-  pub told : TellsSurroundings library design
-  told = record {
-    surroundings = rw (same_rows, same_die, selected_of_those is_surrounding fence_of no_fence design, selected_of_those is_surrounding assignment_of no_assignment design) refl;
-    keep_outs = listed_of_those is_surrounding keep_out_of no_keep_out design;
-    scale = same_scale;
-  }
+  same_surroundings : surroundings library around ≡ surroundings library design
+  same_surroundings =
+      rw (
+        same_rows,
+        same_die,
+        selected_of_those says fence_of (λ r h. no_fence r (only r h)) design,
+        selected_of_those says assignment_of (λ r h. no_assignment r (only r h)) design,
+      )
+      refl
 
 pub surroundings_are_told : SurroundingsAreTold
-surroundings_are_told library design = told library design
+surroundings_are_told library design = record {
+  surroundings = same_surroundings surrounds_or_blocks not_round library design;
+  keep_outs = listed_of_those surrounds_or_blocks keep_out_of no_keep_out design;
+  scale = same_scale surrounds_or_blocks not_round library design;
+}
 
 -- what is selected of things in another order
 module _ {A B : Type 0} (select : A → Option B) where
@@ -165,15 +188,31 @@ module _ {A B : Type 0} (select : A → Option B) where
         sum_of_selected w all ∙ same.sums v ∙ sym (sum_of_selected w (some ++ rest)) ∙ ap (sum_by w) (filter_map-append select some rest);
   }
 
+-- and what is listed of them
+module _ {A B : Type 0} (parts : A → List B) where
+  sum_of_listed : (w : B → ℕ) (xs : List A) → sum_by w (flat_map parts xs) ≡ sum_by (λ a. sum_by w (parts a)) xs
+  sum_of_listed w [] = refl
+  sum_of_listed w (a ∷ xs) =
+      let later = sum_of_listed w xs in
+      omega (arith, later, sum_by-append w (parts a) (flat_map parts xs), sum_by-cons (λ b. sum_by w (parts b)) a xs)
+
+  listed_parts : (all some rest : List A) → SameThings all (some ++ rest) → SameThings (flat_map parts all) (flat_map parts some ++ flat_map parts rest)
+  listed_parts all some rest same = record {
+    sums = λ w.
+        let v = λ (a : A). sum_by w (parts a) in
+        let whole = sum_of_listed w all in
+        let first = sum_of_listed w some in
+        let others = sum_of_listed w rest in
+        let sums = same.sums v in
+        omega (arith, whole, first, others, sums, sum_by-append v some rest, sum_by-append w (flat_map parts some) (flat_map parts rest));
+  }
+
 module _ (component_lines_follow : ComponentLinesFollow) (library : Library) (old new out put stay : List Record) (exchange : Exchange old new out put stay) (same : filter is_surrounding old ≡ filter is_surrounding new) where
   scales : scale new ≡ scale old
-  scales = sym (same_scale library new) ∙ ap scale (sym same) ∙ same_scale library old
+  scales = sym (same_scale is_surrounding (λ r h. h) library new) ∙ ap scale (sym same) ∙ same_scale is_surrounding (λ r h. h) library old
 
   surroundings_stay : surroundings library new ≡ surroundings library old
-  surroundings_stay = sym (told library new).surroundings ∙ ap (surroundings library) (sym same) ∙ (told library old).surroundings
-
-  keep_outs_stay : keep_outs new ≡ keep_outs old
-  keep_outs_stay = sym (told library new).keep_outs ∙ ap keep_outs (sym same) ∙ (told library old).keep_outs
+  surroundings_stay = sym (same_surroundings is_surrounding (λ r h. h) library new) ∙ ap (surroundings library) (sym same) ∙ same_surroundings is_surrounding (λ r h. h) library old
 
   boxes_exchanged : Exchange (boxes library old) (boxes library new) (boxes_among library old out) (boxes_among library old put) (boxes_among library old stay)
   boxes_exchanged = record {
@@ -181,16 +220,19 @@ module _ (component_lines_follow : ComponentLinesFollow) (library : Library) (ol
     new_is = rw (ap (λ u. filter_map (box_of library u) new) scales) (selected_parts (box_of library (scale old)) new put stay exchange.new_is);
   }
 
-  none_exchanged : (rs : List Rectangle) → Exchange rs rs [] [] rs
-  none_exchanged rs = record { old_is = record { sums = λ w. refl }; new_is = record { sums = λ w. refl } }
+  keep_outs_exchanged : Exchange (keep_outs old) (keep_outs new) (keep_outs out) (keep_outs put) (keep_outs stay)
+  keep_outs_exchanged = record { old_is = listed_parts keep_out_of old out stay exchange.old_is; new_is = listed_parts keep_out_of new put stay exchange.new_is }
 
   pub places_follow : PlacesFollow library old new out put stay
   places_follow =
       let follow = component_lines_follow (surroundings library old) (boxes library old) (boxes library new) (boxes_among library old out) (boxes_among library old put) (boxes_among library old stay)
-      (keep_outs old) (keep_outs old) [] [] (keep_outs old) boxes_exchanged (none_exchanged (keep_outs old)) in
+      (keep_outs old) (keep_outs new) (keep_outs out) (keep_outs put) (keep_outs stay) boxes_exchanged keep_outs_exchanged in
       record {
+        surroundings = sym surroundings_stay;
+        scale = sym scales;
         boxes = boxes_exchanged;
-        lines = rw (design_has_component_lines library old, design_has_component_lines library new, surroundings_stay, keep_outs_stay) follow;
+        keep_outs = keep_outs_exchanged;
+        lines = rw (design_has_component_lines library old, design_has_component_lines library new, surroundings_stay) follow;
       }
 
 pub components_are_exchanged : ComponentLinesFollow → ComponentsAreExchanged

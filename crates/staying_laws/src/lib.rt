@@ -2,8 +2,8 @@
 //!
 //! Each law is an empty function that ensures it; call it to use it. A report has the lines on headers, single statements and the
 //! library (`lines_on_statements` of `specs/Staying`), those on components (`lines_on_places`), and those on nets. The second part follows
-//! any exchange of statements that leaves those of what stands round components (`specs/PlaceStatements`); the first one follows by
-//! `agreement_laws`, and the third by `net_laws`.
+//! any exchange of statements that leaves those of what stands round components (`specs/PlaceStatements`), blockages too; the first one
+//! follows by `agreement_laws`, and the third by `net_laws`.
 #![tactic(auto)]
 
 ghost use Rattle.staying_laws.specs.PlaceStatements.{SurroundingsAreTold, ComponentsAreExchanged};
@@ -16,12 +16,14 @@ pub fn parts_are_all()
     ensures { PartsAreAll }
 {}
 
-/// What stands round components is told by some statements alone: rows, the die, regions, groups, blockages and UNITS.
+/// What stands round components, and what keeps them out, is told by some statements alone: rows, the die, regions, groups, blockages and
+/// UNITS.
 pub fn surroundings_are_told()
     ensures { SurroundingsAreTold }
 {}
 
-/// Where those statements stay, the lines on components follow an exchange of others by the lines on the components among them.
+/// Where those statements but blockages stay, the lines on components follow an exchange of others by the lines on the components and the
+/// blockages among them.
 pub fn components_are_exchanged()
     ensures { ComponentsAreExchanged }
 {

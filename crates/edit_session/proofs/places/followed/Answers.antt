@@ -32,7 +32,7 @@ loop-place-preserved g c =
             then.0,
             then.2,
             rw (c.in-Ok-Some.field-0-is) at (c.in-Ok-Some.ensures.followed j.0 then.0 then.1 j.2),
-            ahead_then c.args.library.now text.pieces.table.slots j.0 then.0 x then.1 (said old) (said (records_in text)) c.loop-place.tests _ _ (omega arith) (omega arith) j.3
+            ahead_then c.args.library.now text.pieces.table.slots j.0 then.0 x then.1 (said old) (said (records_in text)) c.loop-place.place c.loop-place.tests _ _ (omega arith) (omega arith) j.3
                 (rw (c.in-Ok-Some.field-0-is) at (c.in-Ok-Some.ensures.tests j.0 then.0 then.1 j.2)) (omega arith),
           );
     }
@@ -48,5 +48,6 @@ pub returns-clause-tests : goal.returns-clause-tests
 returns-clause-tests g c = λ old made followed.
     let j = c.loop-place.invariant.tests old made followed in
     let last : length c.args.made.now.exchanges ≡ c.loop-place.place = omega (arith, c.loop-place-test.false, c.len-place-end.ensures) in
+    let few : length c.args.made.now.exchanges ≤ 8 = ?few in
     let same = all_exchanged c.args.text.now j.0 (records_in c.args.text.now) c.args.made.now.exchanges c.loop-place.place (omega (arith, last)) j.1 in
-    few_boxes c.args.library.now (said old) (said j.0) (said (records_in c.args.text.now)) c.loop-place.tests (ap said same) j.3
+    few_boxes c.args.library.now (said old) (said j.0) (said (records_in c.args.text.now)) c.loop-place.place c.loop-place.tests (omega (arith, last, few)) (ap said same) j.3

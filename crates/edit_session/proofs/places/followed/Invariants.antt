@@ -13,5 +13,5 @@ invariant-loop-place g l = record {
   tests :
       (old : List (StmtId × Record)) → AreExchanges l.text.pieces.table.slots old l.made.exchanges (records_in l.text) → AreFollowed l.library old l.initial.places l.initial.kept
       → (between : List (StmtId × Record)) × AreExchanges l.text.pieces.table.slots between (drop l.place l.made.exchanges) (records_in l.text) × AreFollowed l.library between l.places l.kept
-      × IsAhead l.library (said old) (said between) (said (records_in l.text)) l.tests;
+      × IsAhead l.library (said old) (said between) (said (records_in l.text)) l.place l.tests;
 }

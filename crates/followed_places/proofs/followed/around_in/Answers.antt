@@ -4,7 +4,7 @@ use Rattle.def_grammar.specs.Records.{Record}
 use Rattle.def_reader.specs.StatementViews.{record_view}
 use Rattle.design_rules.specs.Boxes.{scale}
 use Rattle.design_rules.specs.Surroundings.{keep_outs, surroundings}
-use Rattle.staying_laws.specs.PlaceStatements.{is_surrounding}
+use Rattle.staying_laws.specs.PlaceStatements.{surrounds_or_blocks}
 use Rattle.text_pieces.specs.KeptRecords.{record_of}
 use Rattle.text_pieces.specs.Tables.{ids_of, kept_at}
 use Rattle.design_text.specs.Exchanges.{records_in}
@@ -16,7 +16,7 @@ pub kept-requires : goal.kept-requires
 kept-requires g c =
     let text = c.args.text.now in
     let kept = c.statements_are_kept.ensures.kept in
-    let around_is = c.deref.ensures.value ∙ c.in_ok-numbers.ensures ∙ ap (λ (rs : List (StmtId × Record)). map (λ x. x.0) (filter (λ x. is_surrounding x.1) rs)) c.requires in
+    let around_is = c.deref.ensures.value ∙ c.in_ok-numbers.ensures ∙ ap (λ (rs : List (StmtId × Record)). map (λ x. x.0) (filter (λ x. surrounds_or_blocks x.1) rs)) c.requires in
     rw around_is (their_pieces text.pieces.table.slots (records_in text) (ids_of text.pieces.table) kept.says kept.pieces)
 
 pub of-requires-clause-some : goal.of-requires-clause-some
@@ -24,8 +24,8 @@ of-requires-clause-some g c =
     let text = c.args.text.now in
     let slots = text.pieces.table.slots in
     let kept = c.statements_are_kept.ensures.kept in
-    let around_is = c.deref.ensures.value ∙ c.in_ok-numbers.ensures ∙ ap (λ (rs : List (StmtId × Record)). map (λ x. x.0) (filter (λ x. is_surrounding x.1) rs)) c.requires in
-    let read : map record_view c.deref-2.result.now ≡ filter is_surrounding (said (records_in text)) =
+    let around_is = c.deref.ensures.value ∙ c.in_ok-numbers.ensures ∙ ap (λ (rs : List (StmtId × Record)). map (λ x. x.0) (filter (λ x. surrounds_or_blocks x.1) rs)) c.requires in
+    let read : map record_view c.deref-2.result.now ≡ filter surrounds_or_blocks (said (records_in text)) =
     ap (map record_view) c.deref-2.ensures.value
     ∙ c.in_ok-around.ensures
     ∙ ap (map (λ id. record_of (kept_at slots id))) around_is
@@ -38,8 +38,8 @@ of-requires-clause-few g c =
     let text = c.args.text.now in
     let slots = text.pieces.table.slots in
     let kept = c.statements_are_kept.ensures.kept in
-    let around_is = c.deref.ensures.value ∙ c.in_ok-numbers.ensures ∙ ap (λ (rs : List (StmtId × Record)). map (λ x. x.0) (filter (λ x. is_surrounding x.1) rs)) c.requires in
-    let read : map record_view c.deref-2.result.now ≡ filter is_surrounding (said (records_in text)) =
+    let around_is = c.deref.ensures.value ∙ c.in_ok-numbers.ensures ∙ ap (λ (rs : List (StmtId × Record)). map (λ x. x.0) (filter (λ x. surrounds_or_blocks x.1) rs)) c.requires in
+    let read : map record_view c.deref-2.result.now ≡ filter surrounds_or_blocks (said (records_in text)) =
     ap (map record_view) c.deref-2.ensures.value
     ∙ c.in_ok-around.ensures
     ∙ ap (map (λ id. record_of (kept_at slots id))) around_is
@@ -52,8 +52,8 @@ returns g c =
     let text = c.args.text.now in
     let slots = text.pieces.table.slots in
     let kept = c.statements_are_kept.ensures.kept in
-    let around_is = c.deref.ensures.value ∙ c.in_ok-numbers.ensures ∙ ap (λ (rs : List (StmtId × Record)). map (λ x. x.0) (filter (λ x. is_surrounding x.1) rs)) c.requires in
-    let read : map record_view c.deref-2.result.now ≡ filter is_surrounding (said (records_in text)) =
+    let around_is = c.deref.ensures.value ∙ c.in_ok-numbers.ensures ∙ ap (λ (rs : List (StmtId × Record)). map (λ x. x.0) (filter (λ x. surrounds_or_blocks x.1) rs)) c.requires in
+    let read : map record_view c.deref-2.result.now ≡ filter surrounds_or_blocks (said (records_in text)) =
     ap (map record_view) c.deref-2.ensures.value
     ∙ c.in_ok-around.ensures
     ∙ ap (map (λ id. record_of (kept_at slots id))) around_is

@@ -1,0 +1,51 @@
+//! The lines on components that lie on rectangles which keep them out.
+
+ghost use Rattle.std.specs.Prelude.{◌≡◌, ◌<◌, ◌≤◌, IfOk, List, map};
+ghost use Rattle.design_model.specs.declared.identifier.StmtId.{StmtId as Number};
+ghost use Rattle.design_model.specs.Families.{cross_lines};
+ghost use Rattle.design_model.specs.Views.{rectangle_of};
+ghost use Rattle.design_rules.specs.PlaceLines.{blocked_of};
+ghost use Rattle.line_laws.specs.Lines.{SameLines};
+ghost use Rattle.followed_places.specs.Lines.{AreBoxesOf, boxed_under};
+ghost use Rattle.followed_places.specs.Tests.{near_rectangles};
+
+use crate::own_lines::met;
+use cell_library::library::Library;
+use design_model::geometry::Rect;
+use design_text::text::DesignText;
+use line_laws::each::crosses_turn;
+use place_checks::blocked::blocked_of;
+use place_checks::sweep::sort_boxes;
+use report_lines::{Checked, Lines};
+use statement_boxes::StatementBoxes;
+use std::alloc::{AllocError, Allocator};
+
+/// A line for each component of a text, whose boxes are kept, and each of some rectangles that it lies on; and how many of the boxes were
+/// compared with these. The components alone are read whose boxes meet one of them.
+pub(crate) fn blocked_near<'t, A: Allocator + Copy>(
+    alloc: A,
+    library: &'t Library<'_, A>,
+    scale: u32,
+    text: &'t DesignText<A>,
+    boxes: &StatementBoxes<A>,
+    rects: &[Rect],
+) -> Result<Checked<A>, AllocError>
+    requires some { 0 < scale }
+    requires few { scale ≤ 100000 }
+    requires kept { (ids : List Number) × AreBoxesOf library.now scale text.now.pieces.table.slots ids boxes.now }
+    ensures lines { (ids : List Number) → AreBoxesOf library.now scale text.now.pieces.table.slots ids boxes.now
+        → IfOk result (λ c. SameLines c.lines (cross_lines blocked_of (boxed_under library.now scale text.now.pieces.table.slots ids) (map rectangle_of rects.now))) }
+    ensures tests { IfOk result (λ c. c.tests ≤ near_rectangles boxes.now (map rectangle_of rects.now)) }
+{
+    crosses_turn();
+    let mut lines = Lines::new(alloc);
+    let mut tests = 0_u64;
+    for rect in rects {
+        let found = met(alloc, library, scale, text, boxes, *rect)?;
+        tests = tests.saturating_add(found.compared);
+        let mut components = found.components;
+        sort_boxes(&mut components);
+        blocked_of(&components, &[*rect], &mut lines)?;
+    }
+    Ok(Checked { lines, tests })
+}
