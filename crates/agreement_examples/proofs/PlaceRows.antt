@@ -29,9 +29,9 @@ with_blockages = refl
 -- blockages of a layer, of placement, and of placement that are soft, and a group
 abbrev blocked : List Record
 blocked =
-    records_of (read_def (codes "BLOCKAGES 3 ;\n- LAYER m RECT ( 0 0 ) ( 1 1 ) ;\n- PLACEMENT RECT ( 4 4 ) ( 9 9 ) ;\n- PLACEMENT + SOFT RECT ( 2 2 ) ( 3 3 ) ;\nEND BLOCKAGES\nGROUPS 1 ;\n- g c ;\nEND GROUPS\nEND DESIGN\n"))
+    records_of (read_def (codes "UNITS DISTANCE MICRONS 1 ;\nBLOCKAGES 3 ;\n- LAYER m RECT ( 0 0 ) ( 1 1 ) ;\n- PLACEMENT RECT ( 4 4 ) ( 9 9 ) ;\n- PLACEMENT + SOFT RECT ( 2 2 ) ( 3 3 ) ;\nEND BLOCKAGES\nGROUPS 1 ;\n- g c ;\nEND GROUPS\nEND DESIGN\n"))
 
-of_blockages : map is_surrounding blocked ≡ false ∷ false ∷ false ∷ false ∷ false ∷ false ∷ true ∷ false ∷ false ∷ []
+of_blockages : map is_surrounding blocked ≡ true ∷ false ∷ false ∷ false ∷ false ∷ false ∷ false ∷ true ∷ false ∷ false ∷ []
 unfolding def_lines
 of_blockages = refl
 

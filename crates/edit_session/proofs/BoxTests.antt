@@ -71,7 +71,7 @@ IsAhead library old between new made tests =
     (xs : List Exchanged) (pairs : ℕ) → AreNearIn library between xs new pairs → (all : List Exchanged) × (total : ℕ) × (length all ≡ made + length xs) × AreNearIn library old all new total × (tests + pairs ≤ total)
 
 pub none_ahead : (library : Library) (old new : List Record) → IsAhead library old old new 0 0
-none_ahead library old new xs pairs near = (xs, pairs, refl, near, omega arith)
+none_ahead library old new xs pairs near = (xs, pairs, omega arith, near, omega arith)
 
 module _ (library : Library) (slots : List (Option Kept)) (old between : List (StmtId × Record)) (x : text.Exchanged) (e : IsExchange slots old between x) where
   abbrev one : Exchanged
@@ -103,7 +103,7 @@ module _ (library : Library) (slots : List (Option Kept)) (old between : List (S
       → more ≤ near_pairs library old (records_under slots x.went) + near_pairs library between (records_under slots x.came) → next ≤ tests + more → IsAhead library first (said between) new (made + 1) next
   ahead_then first new made tests more next few also ahead within sum xs pairs near =
       let all = ahead (one ∷ xs) _ (near_then xs new pairs few also near) in
-      let count : length all.0 ≡ made + (1 + length xs) = all.2 in
+      let count : length all.0 ≡ made + suc (length xs) = all.2 in
       let counted : length all.0 ≡ (made + 1) + length xs = omega (arith, count) in
       (all.0, all.1, counted, all.3, let le = all.4 in omega (arith, le, within, sum))
 

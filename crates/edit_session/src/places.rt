@@ -91,11 +91,11 @@ fn followed<'t, A: Allocator + Copy>(
     ensures tests { (old : List (Number × Record)) → AreExchanges text.now.pieces.table.slots old made.now.exchanges (records_in text.now) → AreFollowed library.now old places.old kept
         → IfSome result (λ f. FewBoxes library.now (said old) (said (records_in text.now)) f.tests) }
 {
+    let mut kept = kept;
+    let mut tests = 0_u64;
     if made.len() > MOST_EXCHANGES {
         return None;
     }
-    let mut kept = kept;
-    let mut tests = 0_u64;
     for place in 0..made.len() {
         let exchange = made.exchange(place)?;
         if exchange.went.len().max(exchange.came.len()) > MOST_STATEMENTS {

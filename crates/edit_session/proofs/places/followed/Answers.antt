@@ -1,4 +1,4 @@
-use Rattle.std.proofs.Common.{◌≡◌, arith, length, ap, subst, sym}
+use Rattle.std.proofs.Common.{◌≤◌, ◌≡◌, arith, length, ap, subst, sym}
 use Rattle.design_text.specs.Exchanges.{exchange_view, records_in}
 use Rattle.followed_places.specs.Places.{AreFollowed, said}
 use Rattle.edit_session.proofs.BoxTests.{ahead_then, few_boxes, none_ahead}
@@ -48,6 +48,6 @@ pub returns-clause-tests : goal.returns-clause-tests
 returns-clause-tests g c = λ old made followed.
     let j = c.loop-place.invariant.tests old made followed in
     let last : length c.args.made.now.exchanges ≡ c.loop-place.place = omega (arith, c.loop-place-test.false, c.len-place-end.ensures) in
-    let few : length c.args.made.now.exchanges ≤ 8 = ?few in
+    let few : length c.args.made.now.exchanges ≤ 8 = omega (arith, c.if-len-gt-MOST_EXCHANGES.false, c.len.ensures) in
     let same = all_exchanged c.args.text.now j.0 (records_in c.args.text.now) c.args.made.now.exchanges c.loop-place.place (omega (arith, last)) j.1 in
     few_boxes c.args.library.now (said old) (said j.0) (said (records_in c.args.text.now)) c.loop-place.place c.loop-place.tests (omega (arith, last, few)) (ap said same) j.3

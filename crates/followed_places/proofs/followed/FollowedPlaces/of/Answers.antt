@@ -1,4 +1,4 @@
-use Rattle.std.proofs.Common.{◌≡◌, ◌∙◌, map, ap}
+use Rattle.std.proofs.Common.{◌≡◌, ◌∙◌, map, ap, sum_by}
 use Rattle.design_tables.specs.TableViews.{numbered_view}
 use Rattle.design_text.specs.Exchanges.{records_in}
 use Rattle.followed_places.proofs.followed.FollowedPlaces.of.Goals as goal
@@ -13,4 +13,4 @@ pub returns : goal.returns
 returns g c =
     let around = c.in_ok-around.ensures in
     let all : map numbered_view c.deref-2.result.now ≡ records_in c.args.text.now = ap (map numbered_view) c.deref-2.ensures.value ∙ c.in_ok-statements.ensures in
-    record { boxes_are = rw (all, around.scale) at c.in_ok-boxes.ensures; surroundings_are = around.surroundings; keep_outs_are = around.keep_outs; scale_is = around.scale }
+    record { boxes_are = rw (all, around.scale) at c.in_ok-boxes.ensures; surroundings_are = around.surroundings; keep_outs_are = record { sums = λ w. ap (sum_by w) around.keep_outs }; scale_is = around.scale }
