@@ -15,3 +15,11 @@ returns-in-Ok-true g c =
     let told = of_some (λ (t : ToldMeasures g.row.A.Denot). IsToldIn library (said before) (told_view t)) _ _ (sym c.in-Some-Some.is-1) c.requires.2 in
     let had = of_some (HasMeasures library before) _ _ (sym c.in-Some-Some.is-0 ∙ c.take-kept.ensures.value) c.requires.3 in
     c.in-Ok-true.ensures before c.requires.1 told had c.in-Ok-true.field-0-test
+
+pub follow-requires : goal.follow-requires
+follow-requires g c =
+    let library = c.args.library.now in
+    let before = records_in c.requires.0 in
+    let told = of_some (λ (t : ToldMeasures g.row.A.Denot). IsToldIn library (said before) (told_view t)) _ _ (sym c.in-Some-Some.is-1) c.requires.2 in
+    let had = of_some (HasMeasures library before) _ _ (sym c.in-Some-Some.is-0 ∙ c.take-kept.ensures.value) c.requires.3 in
+    (before, c.requires.1, told, had)

@@ -1,12 +1,14 @@
 use Rattle.std.proofs.Common.{◌≡◌, ℕ, List, Ok, subst, sym}
 use Rattle.std.specs.Prelude.{IsOk}
+use Rattle.std.proofs.lemmas.Result.{err_from_is_err_and}
 use Rattle.design_model.specs.declared.identifier.StmtId.{StmtId}
 use Rattle.def_grammar.specs.Records.{Record, read_def}
 use Rattle.design_text.specs.DesignTexts.{text_of}
-use Rattle.design_text.specs.Exchanges.{records_in}
+use Rattle.design_text.specs.Exchanges.{MadeEdit, records_in}
 use Rattle.followed_places.specs.Places.{said}
 use Rattle.edit_session.specs.Known.{AreKnownOf, HasFollowed, HasNoted}
 use Rattle.edit_session.specs.Tests.{TestsFew}
+use Rattle.edit_session.proofs.EditLemmas.{replaces_nothing}
 use Rattle.edit_session.proofs.FollowLemmas.{is_read, said_is}
 use Rattle.edit_session.proofs.ReportLemmas.{of_this}
 use Rattle.edit_session.proofs.session.Session.text_edit.Goals as goal
@@ -61,3 +63,10 @@ invariant_of-self-2 g c =
           (subst (λ (rs : List (StmtId × Record)). HasFollowed library (said rs) c.follow-followed.result) (sym c.let_go.ensures.records) c.follow-followed.ensures.lines)),
       subst (λ (rs : List (StmtId × Record)). HasNoted library rs c.follow-followed.new.self) (sym c.let_go.ensures.records) c.follow-followed.ensures.noted,
     )
+
+pub returns-in_err-made-clause-answer : goal.returns-in_err-made-clause-answer
+returns-in_err-made-clause-answer g c =
+    let library = c.self.inside.library.now in
+    let answers = replaces_nothing MadeEdit library (text_of c.self.inside.text) c.args.a c.args.b c.args.new.now c.in_err-made.field-0.0 (text_of c.replace-edited.new.self) c.in_err-made.ensures.replaces in
+    let p = err_from_is_err_and c.from_residual.result c.from_residual.ensures.1 in
+    rw (← c.self.view_is, p.1, p.2) answers
