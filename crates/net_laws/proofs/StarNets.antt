@@ -57,16 +57,6 @@ module _ {A : Type 0} where
       one false true h g xs ys later = ap (λ (b : Bool). if b then a ∷ filter p xs else filter p xs) h ∙ later
       one false false h g xs ys later = later
 
-  pub within : (p t : A → Bool) → ((a : A) → p a ≡ true → t a ≡ true) → (all : List A) → filter p (filter t all) ≡ filter p all
-  within p t follows [] = refl
-  within p t follows (a ∷ all) = one (p a) (t a) refl refl (filter t all) (within p t follows all)
-    where
-      one : (b c : Bool) → p a ≡ b → t a ≡ c → (left : List A) → filter p left ≡ filter p all → filter p (if c then a ∷ left else left) ≡ (if b then a ∷ filter p all else filter p all)
-      one true true h g left later = ap (λ (b : Bool). if b then a ∷ filter p left else filter p left) h ∙ ap (λ (l : List A). a ∷ l) later
-      one false true h g left later = ap (λ (b : Bool). if b then a ∷ filter p left else filter p left) h ∙ later
-      one true false h g left later = absurd (let no = follows a h in cc)
-      one false false h g left later = later
-
   flat_alike : {B : Type 0} (test : B → Bool) (f g : A → List B) → ((a : A) → filter test (f a) ≡ filter test (g a)) → (all : List A) → filter test (flat_map f all) ≡ filter test (flat_map g all)
   flat_alike test f g same [] = refl
   flat_alike {B = B} test f g same (a ∷ all) =
