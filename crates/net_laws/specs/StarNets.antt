@@ -11,7 +11,7 @@ use Rattle.design_rules.specs.Boxes.{scale}
 use Rattle.following_laws.specs.Following.{Exchange}
 use Rattle.net_laws.specs.NetsTold.{is_common, is_of_net, net_of_record, pins_of_net, terminals_in}
 use Rattle.net_laws.specs.OneNet.{TellNet}
-use Rattle.net_laws.specs.Within.{AreWithin, of_component}
+use Rattle.net_laws.specs.Within.{AreWithin, a_component}
 
 -- a statement tells what a component is to a net: it is the component, an entry of the net, a pin of the design, or of what any net may be
 -- made of
@@ -53,7 +53,7 @@ OneComponentExchanged = (library : Library) (a b : List Record) (u : ℕ) (net c
 
 -- Designs agree so where statements of that component are exchanged, and others of which no net is made,
 abbrev pub OneExchangedAgree : Type 0
-OneExchangedAgree = (front out put behind : List Record) (component : List ℕ) → AreWithin [] (of_component component) out → AreWithin [] (of_component component) put
+OneExchangedAgree = (front out put behind : List Record) (component : List ℕ) → AreWithin [] (a_component component) out → AreWithin [] (a_component component) put
     → (net : List ℕ) → AgreeBut (front ++ (out ++ behind)) (front ++ (put ++ behind)) net component
 
 -- also after several such exchanges.

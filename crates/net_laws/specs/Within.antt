@@ -15,17 +15,17 @@ use Rattle.net_laws.specs.NetsTold.{is_common, lists_pin, terminals_in}
 
 -- what an edit is of beside nets: a component or a pin of the design, by its name, or neither
 pub data Subject : Type 0 where
-  of_component : List ℕ → Subject
-  of_pin : List ℕ → Subject
-  of_neither : Subject
+  a_component : List ℕ → Subject
+  a_pin : List ℕ → Subject
+  neither : Subject
 
 -- the component that it is, if it is one, and the pin
 abbrev pub component_in : Subject → Option (List ℕ)
-component_in (of_component c) = Some c
+component_in (a_component c) = Some c
 component_in _ = None
 
 abbrev pub pin_in : Subject → Option (List ℕ)
-pin_in (of_pin p) = Some p
+pin_in (a_pin p) = Some p
 pin_in _ = None
 
 -- a name is that of a component, if there is one
@@ -47,9 +47,9 @@ is_within nets subject (entry (records.special_net n)) = is_one_of nets n.name
 is_within nets subject r = not (is_common r)
 
 abbrev pub finds_it : Subject → Terminal → Bool
-finds_it (of_component c) t = finds c t
-finds_it (of_pin p) t = lists_pin p t
-finds_it of_neither t = false
+finds_it (a_component c) t = finds c t
+finds_it (a_pin p) t = lists_pin p t
+finds_it neither t = false
 
 -- no other net lists that component or pin
 abbrev pub NoOtherLists : List Record → List (List ℕ) → Subject → Type 0

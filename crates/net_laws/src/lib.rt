@@ -3,9 +3,9 @@
 //! Each law is an empty function that ensures it; call it to use it. A net is told by its entries, by the components that these list, by
 //! the pins of the design that these list or that name the net, and by UNITS, vias and nondefault rules (`specs/NetsTold`). So where
 //! statements are exchanged for others, only those nets change of which one of these is an entry, which list a component or a pin among
-//! them, or which a pin among them names (`specs/NetExchanges`). One net is told by
-//! few statements (`specs/OneNet`), and where designs agree on all nets but some which are so told, these alone are exchanged
-//! (`specs/NetChanges`). Where routing is blocked tells no net, and has laws of its own (`specs/Blocked`).
+//! them, or which a pin among them names (`specs/NetExchanges`). One net is told by few statements (`specs/OneNet`), and where designs
+//! agree on all nets but some which are so told, these alone are exchanged (`specs/NetChanges`). Where routing is blocked tells no net, and
+//! has laws of its own (`specs/Blocked`).
 #![tactic(auto)]
 
 ghost use Rattle.net_laws.specs.Blocked.{BarredLinesFollow, BarsAreExchanged};
