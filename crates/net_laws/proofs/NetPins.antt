@@ -1,5 +1,5 @@
 -- The pins of the design that are of a net: where two designs have the same, so do its terminals find, and the same name it.
-use Rattle.std.proofs.Common.{◌≡◌, ◌∙◌, ℕ, Bool, true, false, ◌||◌, ◌&&◌, List, [], ◌∷◌, ◌++◌, filter, Option, Some, None, refl, sym, ap, ap₂, if◌then◌else◌}
+use Rattle.std.proofs.Common.{◌≡◌, ◌∙◌, ℕ, Bool, true, false, ◌||◌, ◌&&◌, List, [], ◌∷◌, ◌++◌, filter, Option, Some, refl, sym, ap, ap₂, if◌then◌else◌}
 use Rattle.std.specs.Prelude.{flat_map}
 use Rattle.std.specs.List.{AllByRecursion, filter_map, list_any}
 use Rattle.std.specs.Str.{bytes_eq}
@@ -114,9 +114,10 @@ module _ (library : Library) (u : ℕ) (net : List ℕ) (listed : List Terminal)
 
     all_find : (ts : List Terminal) → ((name : List ℕ) → list_any (lists_pin name) ts ≡ true → list_any (lists_pin name) listed ≡ true) → AllByRecursion (FindsPin library u a b) ts
     all_find [] follows = tt
-    all_find (t ∷ ts) follows =
-        (λ (is : is_of_design t ≡ true). found_alike t.pin (follows t.pin (or_first (lists_pin t.pin t) (list_any (lists_pin t.pin) ts) (itself t is))),
-        all_find ts (λ name h. follows name (or_second (lists_pin name t) (list_any (lists_pin name) ts) h)))
+    all_find (t ∷ ts) follows = (
+      λ (is : is_of_design t ≡ true). found_alike t.pin (follows t.pin (or_first (lists_pin t.pin t) (list_any (lists_pin t.pin) ts) (itself t is))),
+      all_find ts (λ name h. follows name (or_second (lists_pin name t) (list_any (lists_pin name) ts) h)),
+    )
 
 module _ (library : Library) (u : ℕ) (a b : List Record) (net : List ℕ) (terminals : terminals_in a net ≡ terminals_in b net) (pins : pins_of_net a net ≡ pins_of_net b net) where
   same_pins : filter (is_pin_of_net net (terminals_in a net)) a ≡ filter (is_pin_of_net net (terminals_in a net)) b

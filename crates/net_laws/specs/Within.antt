@@ -4,7 +4,7 @@ use Rattle.std.specs.List.{list_any}
 use Rattle.std.specs.Str.{bytes_eq}
 use Rattle.form_meanings.specs.Firsts.{first_of}
 use Rattle.def_grammar.specs.Nets.{is_net}
-use Rattle.def_grammar.specs.Pins.{Pin, net_of_clause}
+use Rattle.def_grammar.specs.Pins.{net_of_clause}
 use Rattle.def_grammar.specs.Records as records
 use Rattle.def_grammar.specs.Records.{Record, entry}
 use Rattle.def_grammar.specs.Terminals.{Terminal}
