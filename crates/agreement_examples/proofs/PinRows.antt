@@ -14,7 +14,7 @@ use Rattle.agreement_examples.proofs.PartRows.{records_of}
 -- one that names two nets, and one that names a net without an entry; a star with the name of a pin; and a virtual pin
 abbrev design : List Record
 design =
-    records_of (read_def (codes "COMPONENTS 3 ;\n- c M ;\n- PIN M ;\n- Z M ;\nEND COMPONENTS\nPINS 6 ;\n- p ;\n- q + NET o ;\n- c + NET n ;\n- Z ;\n- r + NET m + NET n ;\n- t + NET x ;\nEND PINS\nSPECIALNETS 1 ;\n- s ( * Z ) ( * p ) ;\nEND SPECIALNETS\nNETS 4 ;\n- n ( PIN p ) ( c A ) ;\n- m ( PIN p ) ( VPIN q ) ;\n- o ( Z Z ) ;\n- MUSTJOIN ( PIN Z ) ;\nEND NETS\nEND DESIGN\n"))
+    records_of (read_def (codes "UNITS DISTANCE MICRONS 1 ;\nCOMPONENTS 3 ;\n- c M ;\n- PIN M ;\n- Z M ;\nEND COMPONENTS\nPINS 6 ;\n- p ;\n- q + NET o ;\n- c + NET n ;\n- Z ;\n- r + NET m + NET n ;\n- t + NET x ;\nEND PINS\nSPECIALNETS 1 ;\n- s ( * Z ) ( * p ) ;\nEND SPECIALNETS\nNETS 4 ;\n- n ( PIN p ) ( c A ) ;\n- m ( PIN p ) ( VPIN q ) ;\n- o ( Z Z ) ;\n- MUSTJOIN ( PIN Z ) ;\nEND NETS\nEND DESIGN\n"))
 
 abbrev pin_name : Record → Option (List ℕ)
 pin_name (entry (records.pin p)) = Some p.name
@@ -43,24 +43,24 @@ listed = (refl, refl, refl, refl, refl)
 
 -- the component and the pin that it lists, the pin that names it, and the entry; and the component that is named PIN
 n_touched : map (touches design (codes "n")) design
-    ≡ false ∷ true ∷ true ∷ false ∷ false ∷ false ∷ true ∷ false ∷ true ∷ false ∷ false ∷ false ∷ false ∷ false ∷ false ∷ false ∷ false ∷ true ∷ false ∷ false ∷ false ∷ false ∷ false ∷ []
+    ≡ false ∷ false ∷ true ∷ true ∷ false ∷ false ∷ false ∷ true ∷ false ∷ true ∷ false ∷ false ∷ false ∷ false ∷ false ∷ false ∷ false ∷ false ∷ true ∷ false ∷ false ∷ false ∷ false ∷ false ∷ []
 unfolding def_lines
 n_touched = refl
 
 -- a pin that names it, and no pin that has the name of one of a component
 o_touched : map (touches design (codes "o")) design
-    ≡ false ∷ false ∷ false ∷ true ∷ false ∷ false ∷ false ∷ true ∷ false ∷ false ∷ false ∷ false ∷ false ∷ false ∷ false ∷ false ∷ false ∷ false ∷ false ∷ true ∷ false ∷ false ∷ false ∷ []
+    ≡ false ∷ false ∷ false ∷ false ∷ true ∷ false ∷ false ∷ false ∷ true ∷ false ∷ false ∷ false ∷ false ∷ false ∷ false ∷ false ∷ false ∷ false ∷ false ∷ false ∷ true ∷ false ∷ false ∷ false ∷ []
 unfolding def_lines
 o_touched = refl
 
 -- by a star all components, and no pin
 s_touched : map (touches design (codes "s")) design
-    ≡ false ∷ true ∷ true ∷ true ∷ false ∷ false ∷ false ∷ false ∷ false ∷ false ∷ false ∷ false ∷ false ∷ false ∷ true ∷ false ∷ false ∷ false ∷ false ∷ false ∷ false ∷ false ∷ false ∷ []
+    ≡ false ∷ false ∷ true ∷ true ∷ true ∷ false ∷ false ∷ false ∷ false ∷ false ∷ false ∷ false ∷ false ∷ false ∷ false ∷ true ∷ false ∷ false ∷ false ∷ false ∷ false ∷ false ∷ false ∷ false ∷ []
 unfolding def_lines
 s_touched = refl
 
 abbrev pins : List Record → List Record
-pins (h ∷ c ∷ d ∷ e ∷ f ∷ g ∷ p ∷ q ∷ r ∷ s ∷ t ∷ u ∷ rest) = p ∷ q ∷ r ∷ s ∷ t ∷ u ∷ []
+pins (a ∷ b ∷ c ∷ d ∷ e ∷ f ∷ g ∷ p ∷ q ∷ r ∷ s ∷ t ∷ u ∷ rest) = p ∷ q ∷ r ∷ s ∷ t ∷ u ∷ []
 pins _ = []
 
 abbrev within : List (List ℕ) → Listed → List Bool
@@ -78,9 +78,9 @@ pins_within = (refl, refl, refl, refl, refl, refl, refl)
 
 -- a component named as the pin isn't within, and the pin isn't for an edit of the component
 by_kind : (map (is_within (codes "n" ∷ []) (a_pin (codes "c"))) design
-    ≡ true ∷ false ∷ false ∷ false ∷ true ∷ true ∷ false ∷ false ∷ true ∷ false ∷ false ∷ false ∷ true ∷ true ∷ false ∷ true ∷ true ∷ true ∷ false ∷ false ∷ true ∷ true ∷ true ∷ [])
+    ≡ false ∷ true ∷ false ∷ false ∷ false ∷ true ∷ true ∷ false ∷ false ∷ true ∷ false ∷ false ∷ false ∷ true ∷ true ∷ false ∷ true ∷ true ∷ true ∷ false ∷ false ∷ true ∷ true ∷ true ∷ [])
     × (map (is_within (codes "n" ∷ []) (a_component (codes "c"))) design
-    ≡ true ∷ true ∷ false ∷ false ∷ true ∷ true ∷ false ∷ false ∷ false ∷ false ∷ false ∷ false ∷ true ∷ true ∷ false ∷ true ∷ true ∷ true ∷ false ∷ false ∷ true ∷ true ∷ true ∷ [])
+    ≡ false ∷ true ∷ true ∷ false ∷ false ∷ true ∷ true ∷ false ∷ false ∷ false ∷ false ∷ false ∷ false ∷ true ∷ true ∷ false ∷ true ∷ true ∷ true ∷ false ∷ false ∷ true ∷ true ∷ true ∷ [])
 unfolding def_lines
 by_kind = (refl, refl)
 
@@ -95,6 +95,6 @@ unfolding def_lines
 finding = (refl, refl, refl, refl, refl, refl, refl)
 
 all_pins : map is_of_pins design
-    ≡ false ∷ false ∷ false ∷ false ∷ false ∷ false ∷ true ∷ true ∷ true ∷ true ∷ true ∷ true ∷ false ∷ false ∷ false ∷ false ∷ false ∷ false ∷ false ∷ false ∷ false ∷ false ∷ false ∷ []
+    ≡ false ∷ false ∷ false ∷ false ∷ false ∷ false ∷ false ∷ true ∷ true ∷ true ∷ true ∷ true ∷ true ∷ false ∷ false ∷ false ∷ false ∷ false ∷ false ∷ false ∷ false ∷ false ∷ false ∷ false ∷ []
 unfolding def_lines
 all_pins = refl

@@ -12,7 +12,7 @@ use Rattle.def_grammar.specs.Terminals.{Terminal, is_of_design}
 use Rattle.lef_grammar.specs.Library.{Library}
 use Rattle.connection_rules.specs.Terminals.{design_pins, names_net, pin_of}
 use Rattle.net_laws.specs.NetsTold.{is_named_or_listed, is_of_net, is_pin_of_net, lists_pin, pins_of_net, terminals_in, terminals_of}
-use Rattle.net_laws.specs.OneNet.{AllPinsTell, is_of_pins}
+use Rattle.net_laws.specs.OneNet.{AllPinsTell, OwnPinsTell, is_of_pins}
 use Rattle.net_laws.proofs.Selecting.{exchanged_alike, within}
 
 or_first : (b c : Bool) → b ≡ true → (b || c) ≡ true
@@ -57,6 +57,15 @@ all_pins_tell some design net same all =
     let test = is_pin_of_net net (terminals_in some net) in
     by_terminals some design net same
     (sym (within test is_of_pins (of_design net (terminals_in some net)) some) ∙ ap (filter test) all ∙ within test is_of_pins (of_design net (terminals_in some net)) design)
+
+pub own_pins_tell : OwnPinsTell
+own_pins_tell some design net same own =
+    let test = is_pin_of_net net (terminals_in some net) in
+    let there = is_pin_of_net net (terminals_in design net) in
+    sym (within test is_of_pins (of_design net (terminals_in some net)) some)
+    ∙ ap (filter test) own
+    ∙ ap (λ (ts : List Terminal). filter (is_pin_of_net net ts) (pins_of_net design net)) same
+    ∙ within there there (λ r h. h) design
 
 -- a terminal finds the same pin of the design in two designs
 abbrev pub FindsPin : Library → ℕ → List Record → List Record → Terminal → Type 0

@@ -31,7 +31,12 @@ abbrev pub is_of_pins : Record → Bool
 is_of_pins (entry (records.pin p)) = true
 is_of_pins _ = false
 
--- Statements that have all pins of a design have those of each net: whoever tells a net may take all, or its own alone.
+-- Statements that have all pins of a design have those of each net,
 abbrev pub AllPinsTell : Type 0
 AllPinsTell = (some design : List Record) (net : List ℕ) → terminals_in some net ≡ terminals_in design net → filter is_of_pins some ≡ filter is_of_pins design
+    → pins_of_net some net ≡ pins_of_net design net
+
+-- and so have those whose pins are the net's alone: whoever tells a net may take either.
+abbrev pub OwnPinsTell : Type 0
+OwnPinsTell = (some design : List Record) (net : List ℕ) → terminals_in some net ≡ terminals_in design net → filter is_of_pins some ≡ pins_of_net design net
     → pins_of_net some net ≡ pins_of_net design net

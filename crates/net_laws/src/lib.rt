@@ -12,7 +12,7 @@ ghost use Rattle.net_laws.specs.Blocked.{BarredLinesFollow, BarsAreExchanged};
 ghost use Rattle.net_laws.specs.NetsTold.{NetsAreTold};
 ghost use Rattle.net_laws.specs.NetExchanges.{NetsAreExchanged, NoNetsNoLines};
 ghost use Rattle.net_laws.specs.NetChanges.{ApartOnAndOn, ToldNetsAreExchanged, TouchedApart};
-ghost use Rattle.net_laws.specs.OneNet.{AllPinsTell, OneNetIsTold};
+ghost use Rattle.net_laws.specs.OneNet.{AllPinsTell, OneNetIsTold, OwnPinsTell};
 ghost use Rattle.net_laws.specs.PinLines.{PinLinesFollow};
 ghost use Rattle.net_laws.specs.StarNets.{AgreeOnAndOn, OneComponentExchanged, OneComponentIsTold, OneEntryTells, OneExchangedAgree};
 ghost use Rattle.net_laws.specs.Within.{WithinApart};
@@ -37,9 +37,14 @@ pub fn one_net_is_told()
     ensures { OneNetIsTold }
 {}
 
-/// Statements that have all pins of a design have those of each net.
+/// Statements that have all pins of a design have those of each net,
 pub fn all_pins_tell()
     ensures { AllPinsTell }
+{}
+
+/// and so have those whose pins are the net's alone.
+pub fn own_pins_tell()
+    ensures { OwnPinsTell }
 {}
 
 /// Designs agree apart from the nets that statements touch which are exchanged,
