@@ -1,12 +1,13 @@
 -- One net of a design, which few statements tell.
-use Rattle.std.specs.Prelude.{◌≡◌, ℕ, Bool, List, [], ◌∷◌}
+use Rattle.std.specs.Prelude.{◌≡◌, ℕ, Bool, true, false, List, [], ◌∷◌, filter}
 use Rattle.std.specs.List.{filter_map}
 use Rattle.std.specs.Str.{bytes_eq}
-use Rattle.def_grammar.specs.Records.{Record}
+use Rattle.def_grammar.specs.Records as records
+use Rattle.def_grammar.specs.Records.{Record, entry}
 use Rattle.lef_grammar.specs.Library.{Library}
 use Rattle.connection_rules.specs.NetParts.{all_nets, net_named}
 use Rattle.design_rules.specs.Boxes.{scale}
-use Rattle.net_laws.specs.NetsTold.{AgreeOnNet, net_of_record}
+use Rattle.net_laws.specs.NetsTold.{AgreeOnNet, net_of_record, pins_of_net, terminals_in}
 
 -- some statements tell a net of a design: they agree with it on what tells the net, and have one entry of it and of no other
 pub record TellNet (some design : List Record) (net : List ℕ) : Type 0 where
@@ -24,3 +25,13 @@ OneNetIsTold = (library : Library) (some design : List Record) (net : List ℕ) 
 -- a name is that of a net
 abbrev pub is_net : List ℕ → List ℕ → Bool
 is_net net name = bytes_eq name net
+
+-- a statement is a pin of the design
+abbrev pub is_design_pin : Record → Bool
+is_design_pin (entry (records.pin p)) = true
+is_design_pin _ = false
+
+-- Statements that have all pins of a design have those of each net: whoever tells a net may take all, or its own alone.
+abbrev pub AllPinsTell : Type 0
+AllPinsTell = (some design : List Record) (net : List ℕ) → terminals_in some net ≡ terminals_in design net → filter is_design_pin some ≡ filter is_design_pin design
+    → pins_of_net some net ≡ pins_of_net design net
