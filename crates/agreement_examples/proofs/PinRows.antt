@@ -6,8 +6,8 @@ use Rattle.def_grammar.specs.Records.{Record, entry, read_def}
 use Rattle.entry_examples.proofs.Computing.{def_lines}
 use Rattle.net_laws.specs.NetExchanges.{touches}
 use Rattle.net_laws.specs.NetsTold.{lists_pin, pins_of_net, terminals_in}
-use Rattle.net_laws.specs.OneNet.{is_design_pin}
-use Rattle.net_laws.specs.Within.{Subject, a_component, a_pin, finds_it, is_within, neither}
+use Rattle.net_laws.specs.OneNet.{is_of_pins}
+use Rattle.net_laws.specs.Within.{Listed, a_component, a_pin, finds_it, is_within, neither}
 use Rattle.agreement_examples.proofs.PartRows.{records_of}
 
 -- components of which one is named PIN, and two as pins of the design; a pin that two nets list, one that names a net that doesn't list it,
@@ -63,8 +63,8 @@ abbrev pins : List Record → List Record
 pins (h ∷ c ∷ d ∷ e ∷ f ∷ g ∷ p ∷ q ∷ r ∷ s ∷ t ∷ u ∷ rest) = p ∷ q ∷ r ∷ s ∷ t ∷ u ∷ []
 pins _ = []
 
-abbrev within : List (List ℕ) → Subject → List Bool
-within nets subject = map (is_within nets subject) (pins design)
+abbrev within : List (List ℕ) → Listed → List Bool
+within nets what = map (is_within nets what) (pins design)
 
 -- the pin alone, where it names none but these nets by its first NET; a component of its name isn't it
 pins_within : (within [] (a_pin (codes "p")) ≡ true ∷ false ∷ false ∷ false ∷ false ∷ false ∷ []) × (within [] (a_pin (codes "q")) ≡ false ∷ false ∷ false ∷ false ∷ false ∷ false ∷ [])
@@ -84,8 +84,8 @@ by_kind : (map (is_within (codes "n" ∷ []) (a_pin (codes "c"))) design
 unfolding def_lines
 by_kind = (refl, refl)
 
-abbrev found : Subject → List ℕ → List Bool
-found subject net = map (finds_it subject) (terminals_in design net)
+abbrev found : Listed → List ℕ → List Bool
+found what net = map (finds_it what) (terminals_in design net)
 
 -- which terminals find the pin, or the component; those of pins of the design stand for a component named PIN, too
 finding : (found (a_pin (codes "p")) (codes "n") ≡ true ∷ false ∷ []) × (found (a_component (codes "c")) (codes "n") ≡ false ∷ true ∷ []) × (found (a_component (codes "PIN")) (codes "n") ≡ true ∷ false ∷ [])
@@ -94,7 +94,7 @@ finding : (found (a_pin (codes "p")) (codes "n") ≡ true ∷ false ∷ []) × (
 unfolding def_lines
 finding = (refl, refl, refl, refl, refl, refl, refl)
 
-all_pins : map is_design_pin design
+all_pins : map is_of_pins design
     ≡ false ∷ false ∷ false ∷ false ∷ false ∷ false ∷ true ∷ true ∷ true ∷ true ∷ true ∷ true ∷ false ∷ false ∷ false ∷ false ∷ false ∷ false ∷ false ∷ false ∷ false ∷ false ∷ false ∷ []
 unfolding def_lines
 all_pins = refl

@@ -1,5 +1,5 @@
 -- The pins of the design that are of a net: where two designs have the same, so do its terminals find, and the same name it.
-use Rattle.std.proofs.Common.{◌≡◌, ◌∙◌, ℕ, Bool, true, false, ◌||◌, ◌&&◌, List, [], ◌∷◌, ◌++◌, filter, Option, Some, None, refl, sym, ap, ap₂, if◌then◌else◌}
+use Rattle.std.proofs.Common.{◌≡◌, ◌∙◌, ℕ, Bool, true, false, ◌||◌, ◌&&◌, List, [], ◌∷◌, ◌++◌, filter, Option, Some, refl, sym, ap, ap₂, if◌then◌else◌}
 use Rattle.std.specs.Prelude.{flat_map}
 use Rattle.std.specs.List.{AllByRecursion, filter_map, list_any}
 use Rattle.std.specs.Str.{bytes_eq}
@@ -12,7 +12,7 @@ use Rattle.def_grammar.specs.Terminals.{Terminal, is_of_design}
 use Rattle.lef_grammar.specs.Library.{Library}
 use Rattle.connection_rules.specs.Terminals.{design_pins, names_net, pin_of}
 use Rattle.net_laws.specs.NetsTold.{is_named_or_listed, is_of_net, is_pin_of_net, lists_pin, pins_of_net, terminals_in, terminals_of}
-use Rattle.net_laws.specs.OneNet.{AllPinsTell, is_design_pin}
+use Rattle.net_laws.specs.OneNet.{AllPinsTell, is_of_pins}
 use Rattle.net_laws.proofs.Selecting.{exchanged_alike, within}
 
 or_first : (b c : Bool) → b ≡ true → (b || c) ≡ true
@@ -48,7 +48,7 @@ pins_within net test all nets pins =
     ∙ within (is_pin_of_net net (terminals_in all net)) test pins all
 
 -- a pin of a net is one of the design
-of_design : (net : List ℕ) (ts : List Terminal) (r : Record) → is_pin_of_net net ts r ≡ true → is_design_pin r ≡ true
+of_design : (net : List ℕ) (ts : List Terminal) (r : Record) → is_pin_of_net net ts r ≡ true → is_of_pins r ≡ true
 of_design net ts (entry (records.pin p)) h = refl
 of_design net ts _ h = absurd (cc)
 
@@ -56,7 +56,7 @@ pub all_pins_tell : AllPinsTell
 all_pins_tell some design net same all =
     let test = is_pin_of_net net (terminals_in some net) in
     by_terminals some design net same
-    (sym (within test is_design_pin (of_design net (terminals_in some net)) some) ∙ ap (filter test) all ∙ within test is_design_pin (of_design net (terminals_in some net)) design)
+    (sym (within test is_of_pins (of_design net (terminals_in some net)) some) ∙ ap (filter test) all ∙ within test is_of_pins (of_design net (terminals_in some net)) design)
 
 -- a terminal finds the same pin of the design in two designs
 abbrev pub FindsPin : Library → ℕ → List Record → List Record → Terminal → Type 0
@@ -114,9 +114,10 @@ module _ (library : Library) (u : ℕ) (net : List ℕ) (listed : List Terminal)
 
     all_find : (ts : List Terminal) → ((name : List ℕ) → list_any (lists_pin name) ts ≡ true → list_any (lists_pin name) listed ≡ true) → AllByRecursion (FindsPin library u a b) ts
     all_find [] follows = tt
-    all_find (t ∷ ts) follows =
-        (λ (is : is_of_design t ≡ true). found_alike t.pin (follows t.pin (or_first (lists_pin t.pin t) (list_any (lists_pin t.pin) ts) (itself t is))),
-        all_find ts (λ name h. follows name (or_second (lists_pin name t) (list_any (lists_pin name) ts) h)))
+    all_find (t ∷ ts) follows = (
+      λ (is : is_of_design t ≡ true). found_alike t.pin (follows t.pin (or_first (lists_pin t.pin t) (list_any (lists_pin t.pin) ts) (itself t is))),
+      all_find ts (λ name h. follows name (or_second (lists_pin name t) (list_any (lists_pin name) ts) h)),
+    )
 
 module _ (library : Library) (u : ℕ) (a b : List Record) (net : List ℕ) (terminals : terminals_in a net ≡ terminals_in b net) (pins : pins_of_net a net ≡ pins_of_net b net) where
   same_pins : filter (is_pin_of_net net (terminals_in a net)) a ≡ filter (is_pin_of_net net (terminals_in a net)) b

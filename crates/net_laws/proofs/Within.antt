@@ -15,7 +15,7 @@ use Rattle.entry_rules.specs.Unknown.{is_same}
 use Rattle.net_laws.specs.NetChanges.{is_one_of}
 use Rattle.net_laws.specs.NetExchanges.{TouchOnly, finds, touches}
 use Rattle.net_laws.specs.NetsTold.{is_common, lists_pin, terminals_in, terminals_of}
-use Rattle.net_laws.specs.Within.{AreWithin, NoOtherLists, Subject, WithinApart, component_in, finds_it, is_component, is_none_or_one_of, is_within, a_component, neither, a_pin, pin_in}
+use Rattle.net_laws.specs.Within.{AreWithin, NoOtherLists, Listed, WithinApart, component_in, finds_it, is_component, is_none_or_one_of, is_within, a_component, neither, a_pin, pin_in}
 use Rattle.net_laws.proofs.NetChanges.{touched_apart}
 use Rattle.net_laws.proofs.Selecting.{none_of_both}
 
@@ -27,9 +27,9 @@ neither_is : (b c : Bool) → b ≡ false → c ≡ false → (b || c) ≡ false
 neither_is true c h g = absurd (cc)
 neither_is false c h g = g
 
-module _ (nets : List (List ℕ)) (subject : Subject) where
+module _ (nets : List (List ℕ)) (listed : Listed) where
   abbrev within : Record → Bool
-  within r = is_within nets subject r
+  within r = is_within nets listed r
 
   opposite : (b : Bool) → not b ≡ true → b ≡ false
   opposite true h = absurd (cc)
@@ -59,13 +59,13 @@ module _ (nets : List (List ℕ)) (subject : Subject) where
   no_common (end_section s) h = refl
 
   -- that component is found as it is by its name
-  found_as : (s : Subject) (name : List ℕ) (ts : List Terminal) → is_component (component_in s) name ≡ true → list_any (finds_it s) ts ≡ list_any (finds name) ts
+  found_as : (s : Listed) (name : List ℕ) (ts : List Terminal) → is_component (component_in s) name ≡ true → list_any (finds_it s) ts ≡ list_any (finds name) ts
   found_as (a_component c) name ts h = let same : c ≡ name = (bytes_eq-Decides c name).0 h in ap (λ (n : List ℕ). list_any (finds n) ts) same
   found_as (a_pin p) name ts h = absurd (cc)
   found_as neither name ts h = absurd (cc)
 
   -- so is that pin
-  listed_as : (s : Subject) (name : List ℕ) (ts : List Terminal) → is_same name (pin_in s) ≡ true → list_any (finds_it s) ts ≡ list_any (lists_pin name) ts
+  listed_as : (s : Listed) (name : List ℕ) (ts : List Terminal) → is_same name (pin_in s) ≡ true → list_any (finds_it s) ts ≡ list_any (lists_pin name) ts
   listed_as (a_pin p) name ts h = let same : p ≡ name = (bytes_eq-Decides p name).0 h in ap (λ (n : List ℕ). list_any (lists_pin n) ts) same
   listed_as (a_component c) name ts h = absurd (cc)
   listed_as neither name ts h = absurd (cc)
@@ -84,26 +84,26 @@ module _ (nets : List (List ℕ)) (subject : Subject) where
   within_or_not true h = refl
   within_or_not false h = absurd (cc)
 
-  none_of : (test : Record → Bool) → ((r : Record) → within r ≡ true → test r ≡ false) → (some : List Record) → AreWithin nets subject some → list_any test some ≡ false
+  none_of : (test : Record → Bool) → ((r : Record) → within r ≡ true → test r ≡ false) → (some : List Record) → AreWithin nets listed some → list_any test some ≡ false
   none_of test h [] all = refl
   none_of test h (r ∷ some) all =
       let both = none_of_both (not (within r)) (list_any (λ (x : Record). not (within x)) some) all in
       ap (λ (b : Bool). b || list_any test some) (h r (within_or_not (within r) both.0)) ∙ none_of test h some both.1
 
-  pub none_common : (some : List Record) → AreWithin nets subject some → list_any is_common some ≡ false
+  pub none_common : (some : List Record) → AreWithin nets listed some → list_any is_common some ≡ false
   none_common some all = none_of is_common no_common some all
 
-  module _ (design : List Record) (lists : NoOtherLists design nets subject) where
+  module _ (design : List Record) (lists : NoOtherLists design nets listed) where
     untouched : (net : List ℕ) → is_one_of nets net ≡ false → (r : Record) → within r ≡ true → touches design net r ≡ false
-    untouched net out (entry (records.component c)) h = sym (found_as subject c.name (terminals_in design net) h) ∙ lists net out
+    untouched net out (entry (records.component c)) h = sym (found_as listed c.name (terminals_in design net) h) ∙ lists net out
     untouched net out (entry (records.net (is_net n))) h = of_no_other n.name net (bytes_eq n.name net) h out refl
     untouched net out (entry (records.special_net n)) h = of_no_other n.name net (bytes_eq n.name net) h out refl
     untouched net out (entry (records.net (must_join x))) h = refl
     untouched net out (entry (records.pin p)) h =
-        let both = both_are (is_same p.name (pin_in subject)) (is_none_or_one_of nets (first_of net_of_clause p.clauses)) h in
+        let both = both_are (is_same p.name (pin_in listed)) (is_none_or_one_of nets (first_of net_of_clause p.clauses)) h in
         neither_is (is_same net (first_of net_of_clause p.clauses)) (list_any (lists_pin p.name) (terminals_in design net))
         (names_no_other (first_of net_of_clause p.clauses) net both.1 out)
-        (sym (listed_as subject p.name (terminals_in design net) both.0) ∙ lists net out)
+        (sym (listed_as listed p.name (terminals_in design net) both.0) ∙ lists net out)
     untouched net out (entry (records.region x)) h = refl
     untouched net out (entry (records.group x)) h = refl
     untouched net out (entry (records.blockage x)) h = refl
@@ -114,15 +114,15 @@ module _ (nets : List (List ℕ)) (subject : Subject) where
     untouched net out (in_properties x) h = refl
     untouched net out (end_section s) h = refl
 
-    touch_only : (some : List Record) → AreWithin nets subject some → TouchOnly design some (is_one_of nets)
+    touch_only : (some : List Record) → AreWithin nets listed some → TouchOnly design some (is_one_of nets)
     touch_only some all = record {
       none_common = none_common some all;
       passes = λ net out. none_of (touches design net) (untouched net out) some all;
     }
 
 pub within_apart : WithinApart
-within_apart front out put behind nets subject lists goes comes =
+within_apart front out put behind nets listed lists goes comes =
     let old = front ++ (out ++ behind) in
     let new = front ++ (put ++ behind) in
-    let apart = touched_apart front out put behind (is_one_of nets) (touch_only nets subject old lists out goes) (touch_only nets subject old lists put comes) in
-    (apart, λ net no. ap (λ (es : List Record). list_any (finds_it subject) (flat_map terminals_of es)) (sym (apart.agree net no).entries) ∙ lists net no)
+    let apart = touched_apart front out put behind (is_one_of nets) (touch_only nets listed old lists out goes) (touch_only nets listed old lists put comes) in
+    (apart, λ net no. ap (λ (es : List Record). list_any (finds_it listed) (flat_map terminals_of es)) (sym (apart.agree net no).entries) ∙ lists net no)

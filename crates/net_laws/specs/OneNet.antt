@@ -27,11 +27,11 @@ abbrev pub is_net : List ℕ → List ℕ → Bool
 is_net net name = bytes_eq name net
 
 -- a statement is a pin of the design
-abbrev pub is_design_pin : Record → Bool
-is_design_pin (entry (records.pin p)) = true
-is_design_pin _ = false
+abbrev pub is_of_pins : Record → Bool
+is_of_pins (entry (records.pin p)) = true
+is_of_pins _ = false
 
 -- Statements that have all pins of a design have those of each net: whoever tells a net may take all, or its own alone.
 abbrev pub AllPinsTell : Type 0
-AllPinsTell = (some design : List Record) (net : List ℕ) → terminals_in some net ≡ terminals_in design net → filter is_design_pin some ≡ filter is_design_pin design
+AllPinsTell = (some design : List Record) (net : List ℕ) → terminals_in some net ≡ terminals_in design net → filter is_of_pins some ≡ filter is_of_pins design
     → pins_of_net some net ≡ pins_of_net design net
