@@ -3,7 +3,7 @@ use Rattle.std.specs.Prelude.{◌≡◌, Bool, ◌||◌, List, Option, filter, m
 use Rattle.design_model.specs.declared.identifier.StmtId.{StmtId}
 use Rattle.def_grammar.specs.Records.{Record}
 use Rattle.net_laws.specs.NetsTold.{is_common}
-use Rattle.net_laws.specs.OneNet.{is_design_pin}
+use Rattle.net_laws.specs.OneNet.{is_of_pins}
 use Rattle.text_pieces.specs.KeptRecords.{records_under}
 use Rattle.text_pieces.specs.Tables.{Kept}
 
@@ -13,7 +13,7 @@ said records = map (λ x. x.1) records
 
 -- a statement is read whichever net is told: it is of what any net may be made of, or a pin of the design
 abbrev pub tells_any : Record → Bool
-tells_any r = is_common r || is_design_pin r
+tells_any r = is_common r || is_of_pins r
 
 -- the numbers of those of some numbered statements
 abbrev pub numbers_telling : List (StmtId × Record) → List StmtId

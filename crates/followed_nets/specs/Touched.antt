@@ -11,7 +11,7 @@ use Rattle.design_rules.specs.Boxes.{scale}
 use Rattle.following_laws.specs.DesignLaws.{lines_on_nets}
 use Rattle.kept_lines.specs.Kept.{Kept}
 use Rattle.net_laws.specs.StarNets.{pins_by_one}
-use Rattle.net_laws.specs.Within.{NoOtherLists, Subject, a_component, a_pin, neither}
+use Rattle.net_laws.specs.Within.{Listed, NoOtherLists, a_component, a_pin, neither}
 use Rattle.followed_nets.specs.Exchanging.{AreToldIn, name_of}
 use Rattle.followed_nets.specs.FollowedNets.{HasNetsBarred, Nets}
 use Rattle.followed_nets.specs.Listed.{AreApart}
@@ -33,7 +33,7 @@ pub record Touched : Type 0 where
   pub stars : List StarPins
 
 -- what an edit is of, by the component and the pin that it may be of
-abbrev pub subject_by : Option (List ℕ) → Option (List ℕ) → Subject
+abbrev pub subject_by : Option (List ℕ) → Option (List ℕ) → Listed
 subject_by (Some component) pin = a_component component
 subject_by None (Some pin) = a_pin pin
 subject_by None None = neither

@@ -100,8 +100,8 @@ impl<A: Allocator + Copy> TouchedNets<A> {
     fn are_all(&self, alloc: A, text: &DesignText<A>, made: &Made<A>) -> Result<bool, AllocError>
         requires { (old : List (Number × Record)) × AreExchanges text.now.pieces.table.slots old made.now.exchanges (records_in text.now) }
         ensures { (old : List (Number × Record)) (common : List Number) → AreExchanges text.now.pieces.table.slots old made.now.exchanges (records_in text.now)
-            → NoOtherLists (said old) (self.now.names ++ star_names self.now.stars) (subject_by self.now.component self.now.pin) → AreCommon old common
-            → IfOk result (λ b. b ≡ true → LeavesOthers (said old) (said (records_in text.now)) self.now × (self.now.pin ≡ None → AreCommon (records_in text.now) common)) }
+            → NoOtherLists (said old) (self.now.names ++ star_names self.now.stars) (subject_by self.now.component self.now.pin)
+            → IfOk result (λ b. b ≡ true → LeavesOthers (said old) (said (records_in text.now)) self.now × (self.now.pin ≡ None → AreCommon old common → AreCommon (records_in text.now) common)) }
     {
         match &self.component {
             Some(own) => {

@@ -185,8 +185,8 @@ fn exchange_is_within<A: Allocator + Copy>(
     subject: EditSubject<'_>,
 ) -> Result<bool, AllocError>
     requires { (old : List (Number × Record)) × (new : List (Number × Record)) × IsExchange text.now.pieces.table.slots old new (exchange_view exchange) }
-    ensures { (old new : List (Number × Record)) (common : List Number) → IsExchange text.now.pieces.table.slots old new (exchange_view exchange.entry) → AreCommon old common
-        → IfOk result (λ b. b ≡ true → Leaves (said old) (said new) nets.now (subject_view subject.entry) × (pin_in (subject_view subject.entry) ≡ None → AreCommon new common)) }
+    ensures { (old new : List (Number × Record)) (common : List Number) → IsExchange text.now.pieces.table.slots old new (exchange_view exchange.entry)
+        → IfOk result (λ b. b ≡ true → Leaves (said old) (said new) nets.now (subject_view subject.entry) × (pin_in (subject_view subject.entry) ≡ None → AreCommon old common → AreCommon new common)) }
 {
     within_apart();
     one_exchanged_agree();
@@ -204,8 +204,8 @@ pub fn exchanges_are_within<A: Allocator + Copy>(
     subject: EditSubject<'_>,
 ) -> Result<bool, AllocError>
     requires { (old : List (Number × Record)) × AreExchanges text.now.pieces.table.slots old made.now.exchanges (records_in text.now) }
-    ensures { (old : List (Number × Record)) (common : List Number) → AreExchanges text.now.pieces.table.slots old made.now.exchanges (records_in text.now) → AreCommon old common
-        → IfOk result (λ b. b ≡ true → Leaves (said old) (said (records_in text.now)) nets.now (subject_view subject.entry) × (pin_in (subject_view subject.entry) ≡ None → AreCommon (records_in text.now) common)) }
+    ensures { (old : List (Number × Record)) (common : List Number) → AreExchanges text.now.pieces.table.slots old made.now.exchanges (records_in text.now)
+        → IfOk result (λ b. b ≡ true → Leaves (said old) (said (records_in text.now)) nets.now (subject_view subject.entry) × (pin_in (subject_view subject.entry) ≡ None → AreCommon old common → AreCommon (records_in text.now) common)) }
 {
     apart_on_and_on();
     agree_on_and_on();
