@@ -16,6 +16,7 @@ mod NearPairs
 mod NetWalls
 mod NotBoth
 mod NoteLemmas
+mod NumberLemmas
 mod OneEntry
 mod OthersLeft
 mod PartedNets

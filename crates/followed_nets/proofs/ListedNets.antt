@@ -1,17 +1,23 @@
 -- The names of nets whose entries list a component, or a pin of the design.
-use Rattle.std.proofs.Common.{◌≡◌, ◌&&◌, ◌||◌, ℕ, Bool, true, false, not, List, [], ◌∷◌, ◌++◌, refl, sym, ap, ap₂, ◌∙◌, inl, inr, if◌then◌else◌}
-use Rattle.std.specs.Prelude.{codes, filter, flat_map}
+use Rattle.std.proofs.Common.{◌≡◌, ◌&&◌, ◌||◌, ℕ, Bool, true, false, not, Option, Some, None, List, [], ◌∷◌, ◌++◌, refl, sym, ap, ap₂, ◌∙◌, inl, inr, if◌then◌else◌}
+use Rattle.std.specs.Prelude.{IfSome, codes, filter, flat_map}
+use Rattle.std.specs.Option.{option_map}
 use Rattle.std.specs.List.{list_any}
 use Rattle.std.specs.Str.{bytes_eq}
 use Rattle.std.proofs.lemmas.Bool.{cases_Bool}
 use Rattle.std.proofs.lemmas.List.Folds.{list_any-append}
 use Rattle.std.proofs.lemmas.Slice.Eq.{bytes_eq-Decides}
+use Rattle.design_model.specs.EnumWords.{section_word}
+use Rattle.design_model.specs.declared.mode.Section.TheVariants.{Pins}
+use Rattle.form_meanings.specs.Firsts.{first_of}
 use Rattle.def_grammar.specs.Nets.{is_net, must_join}
+use Rattle.def_grammar.specs.Pins.{Pin, net_of_clause}
 use Rattle.def_grammar.specs.Points.{is_star}
 use Rattle.def_grammar.specs.Records as records
 use Rattle.def_grammar.specs.Terminals.{Terminal, is_of_all, is_of_design, is_virtual}
 use Rattle.def_grammar.specs.Records.{Record, end_section, entry, in_properties, top}
-use Rattle.design_tables.specs.Lookups.{is_design_pin, lists}
+use Rattle.entry_rules.specs.Unknown.{is_same}
+use Rattle.design_tables.specs.Lookups.{is_design_pin, is_named_entry, lists}
 use Rattle.design_text.specs.Listings.{HasListing, HasPinListing}
 use Rattle.net_laws.specs.NetChanges.{is_one_of}
 use Rattle.net_laws.specs.NetExchanges.{finds}
@@ -136,6 +142,20 @@ more_of_pin pin design nets more name are all names net is = one (is_one_of nets
     one false this h =
         ap (λ (b : Bool). list_any (lists_pin pin) (terminals_in design net) || b) (ap (λ (n : List ℕ). list_any (is_pin_naming pin n) design) (sym ((bytes_eq-Decides name net).0 h)) ∙ names)
         ∙ or_true (list_any (lists_pin pin) (terminals_in design net))
+
+-- a pin of the design that names a net
+named_so : (p : Pin) (net pin : List ℕ) → first_of net_of_clause p.clauses ≡ Some net → is_named_entry Pins pin (entry (records.pin p)) ≡ true → is_pin_naming pin net (entry (records.pin p)) ≡ true
+named_so p net pin names is =
+    ap₂ (λ (a b : Bool). a && b) (second_so (bytes_eq (section_word Pins) (section_word Pins)) (bytes_eq p.name pin) is) (ap (is_same net) names ∙ (bytes_eq-Decides net net).1 refl)
+
+pub if_named : {X : Type 0} (view : X → List ℕ) (p : Pin) (found : Option X) → option_map view found ≡ first_of net_of_clause p.clauses
+    → IfSome found (λ net. (pin : List ℕ) → is_named_entry Pins pin (entry (records.pin p)) ≡ true → is_pin_naming pin (view net) (entry (records.pin p)) ≡ true)
+if_named view p None is = tt
+if_named view p (Some net) is = λ pin named. named_so p (view net) pin (sym is) named
+
+pub if_some : {X : Type 0} (P Q : X → Type 0) (found : Option X) → ((x : X) → P x → Q x) → IfSome found P → IfSome found Q
+if_some P Q None so h = tt
+if_some P Q (Some x) so h = so x h
 
 -- what is found by a section and a name is one of the design's statements
 pub found_there : (test of : Record → Bool) (design : List Record) (r : Record) → (of r ≡ true → test r ≡ true) → filter of design ≡ r ∷ [] → list_any test design ≡ true

@@ -5,13 +5,18 @@ use Rattle.std.specs.Str.{bytes_eq}
 use Rattle.std.proofs.lemmas.List.Folds.{list_any-append}
 use Rattle.def_grammar.specs.Records.{Record}
 use Rattle.net_laws.specs.NetChanges.{is_one_of}
-use Rattle.net_laws.specs.Within.{NoOtherLists, a_component}
+use Rattle.net_laws.specs.Within.{NoOtherLists, a_component, pin_in}
 use Rattle.followed_nets.specs.Touched.{Touched, star_names, subject_by}
 use Rattle.followed_nets.specs.Within.{Cover, Leaves, LeavesOthers}
 
 pub if_ok : {A E : Type 0} (P Q : A → Type 0) (r : Result A E) → ((a : A) → P a → Q a) → IfOk r P → IfOk r Q
 if_ok P Q (Ok a) f h = f a h
 if_ok P Q (Err e) f h = tt
+
+-- a pin is one in what an edit is of
+pub no_pin_in : (pin : Option (List ℕ)) → pin ≡ None → pin_in (subject_by None pin) ≡ None
+no_pin_in None is = refl
+no_pin_in (Some p) is = absurd (cc)
 
 cover_none : (more : List (List ℕ)) → Cover more []
 cover_none more net is = absurd (cc)

@@ -138,15 +138,15 @@ pub(crate) fn numbers_after<A: Allocator + Copy>(
     ensures { (old : List (Number × Record)) → AreExchanges text.now.pieces.table.slots old made.now.exchanges (records_in text.now) → AreCommon old numbers.now
         → IfOk result (λ found. IfSome found (λ v. AreCommon (records_in text.now) v.items)) }
 {
-    let mut then = Vec::from_slice(alloc, numbers)?;
+    let mut after = Vec::from_slice(alloc, numbers)?;
     for place in 0..made.len() {
         let Some(exchange) = made.exchange(place) else {
             return Ok(None);
         };
-        let Some(next) = after_exchange(alloc, text, exchange, &then)? else {
+        let Some(next) = after_exchange(alloc, text, exchange, &after)? else {
             return Ok(None);
         };
-        then = next;
+        after = next;
     }
-    Ok(Some(then))
+    Ok(Some(after))
 }
