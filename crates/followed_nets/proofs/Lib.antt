@@ -28,7 +28,7 @@ mod SameParts
 mod ShortLines
 pub mod StarHeadLemmas
 mod StarsLeft
-mod TellLemmas
+pub mod TellLemmas
 pub mod TellOneLemmas
 mod ToldLemmas
 pub mod ToldNets
