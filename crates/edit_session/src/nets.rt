@@ -133,9 +133,7 @@ fn is_followed<A: Allocator + Copy>(text: &DesignText<A>, change: Change<'_, '_>
     match change {
         Change::Design(_) => true,
         Change::Text(position) => match text.statement_at(position) {
-            Some(Statement::Entry(entry)) => {
-                !matches!(entry, Entry::Via(_) | Entry::Rule(_))
-            }
+            Some(Statement::Entry(entry)) => { !matches!(entry, Entry::Via(_) | Entry::Rule(_)) }
             Some(Statement::Units(_)) => false,
             _ => true,
         },

@@ -106,7 +106,13 @@ impl<A: Allocator + Copy> TouchedNets<A> {
         match &self.component {
             Some(own) => {
                 let none = Vec::new(alloc);
-                exchanges_are_within(alloc, text, made, &none, EditSubject::Component(own.name.bytes()))
+                exchanges_are_within(
+                    alloc,
+                    text,
+                    made,
+                    &none,
+                    EditSubject::Component(own.name.bytes()),
+                )
             }
             None => exchanges_are_within(alloc, text, made, &self.names, self.pin_or_neither()),
         }

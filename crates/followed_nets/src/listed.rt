@@ -13,7 +13,6 @@ ghost use Rattle.design_tables.specs.Lookups.{is_named_entry};
 ghost use Rattle.design_text.specs.DesignTexts.{design_of};
 ghost use Rattle.followed_nets.specs.Listed.{AllList, AllOfPin, AreApart, AreListing, AreListingPin, is_pin_naming};
 
-
 use crate::told_statements::entry_in;
 use crate::within::{is_one_of, net_of_pin};
 use def_reader::entry::Entry;
