@@ -22,7 +22,7 @@ use Rattle.design_text.specs.Listings.{HasListing, HasPinListing}
 use Rattle.net_laws.specs.NetChanges.{is_one_of}
 use Rattle.net_laws.specs.NetExchanges.{finds}
 use Rattle.net_laws.specs.NetsTold.{is_of_net, lists_pin, terminals_in, terminals_of}
-use Rattle.followed_nets.specs.Listed.{AllList, AllOfPin, AreApart, AreListing, AreListingPin, is_of_pin, is_pin_naming, is_pin_of}
+use Rattle.followed_nets.specs.Listed.{AllList, AllOfPin, AreApart, AreListing, AreListingPin, is_of_pin, is_pin_naming, is_pin_of, net_named_by}
 
 or_none : (a : Bool) → (a || false) ≡ a
 or_none true = refl
@@ -129,42 +129,59 @@ all_of_pin pin design found nets same names net is =
     ap (λ (b : Bool). b || list_any (is_pin_naming pin net) design) (pin_listed pin net design found same ∙ sym (names net) ∙ is)
 
 -- with one more, that the pin names
-pub more_listing_pin : (pin : List ℕ) (design : List Record) (nets more : List (List ℕ)) (name : List ℕ) → ((net : List ℕ) → is_one_of more net ≡ (is_one_of nets net || bytes_eq name net)) → AreListingPin design pin nets
+pub more_listing_pin : (pin : List ℕ) (design : List Record) (nets more : List (List ℕ)) (named : Option (List ℕ)) → ((net : List ℕ) → is_one_of more net ≡ (is_one_of nets net || is_same net named)) → AreListingPin design pin nets
     → AreListingPin design pin more
-more_listing_pin pin design nets more name are listed net other = listed net (or_parts (is_one_of nets net) (bytes_eq name net) (sym (are net) ∙ other)).0
+more_listing_pin pin design nets more named are listed net other = listed net (or_parts (is_one_of nets net) (is_same net named) (sym (are net) ∙ other)).0
 
-pub more_of_pin : (pin : List ℕ) (design : List Record) (nets more : List (List ℕ)) (name : List ℕ) → ((net : List ℕ) → is_one_of more net ≡ (is_one_of nets net || bytes_eq name net)) → AllOfPin design pin nets
-    → list_any (is_pin_naming pin name) design ≡ true → AllOfPin design pin more
-more_of_pin pin design nets more name are all names net is = one (is_one_of nets net) refl (sym (are net) ∙ is)
+pub more_of_pin : (pin : List ℕ) (design : List Record) (nets more : List (List ℕ)) (named : Option (List ℕ)) → ((net : List ℕ) → is_one_of more net ≡ (is_one_of nets net || is_same net named)) → AllOfPin design pin nets
+    → IfSome named (λ name. list_any (is_pin_naming pin name) design ≡ true) → AllOfPin design pin more
+more_of_pin pin design nets more named are all names net is = one (is_one_of nets net) named refl (sym (are net) ∙ is) names
   where
-    one : (b : Bool) → is_one_of nets net ≡ b → (b || bytes_eq name net) ≡ true → is_of_pin design pin net ≡ true
-    one true this h = all net this
-    one false this h =
-        ap (λ (b : Bool). list_any (lists_pin pin) (terminals_in design net) || b) (ap (λ (n : List ℕ). list_any (is_pin_naming pin n) design) (sym ((bytes_eq-Decides name net).0 h)) ∙ names)
+    one : (b : Bool) (found : Option (List ℕ)) → is_one_of nets net ≡ b → (b || is_same net found) ≡ true → IfSome found (λ name. list_any (is_pin_naming pin name) design ≡ true) → is_of_pin design pin net ≡ true
+    one true found this h there = all net this
+    one false None this h there = absurd (cc)
+    one false (Some name) this h there =
+        ap (λ (b : Bool). list_any (lists_pin pin) (terminals_in design net) || b) (ap (λ (n : List ℕ). list_any (is_pin_naming pin n) design) (sym ((bytes_eq-Decides name net).0 h)) ∙ there)
         ∙ or_true (list_any (lists_pin pin) (terminals_in design net))
+
+pub if_seen : {X : Type 0} (view : X → List ℕ) (P : List ℕ → Type 0) (found : Option X) → IfSome found (λ x. P (view x)) → IfSome (option_map view found) P
+if_seen view P None h = tt
+if_seen view P (Some x) h = h
 
 -- a pin of the design that names a net
 named_so : (p : Pin) (net pin : List ℕ) → first_of net_of_clause p.clauses ≡ Some net → is_named_entry Pins pin (entry (records.pin p)) ≡ true → is_pin_naming pin net (entry (records.pin p)) ≡ true
 named_so p net pin names is =
     ap₂ (λ (a b : Bool). a && b) (second_so (bytes_eq (section_word Pins) (section_word Pins)) (bytes_eq p.name pin) is) (ap (is_same net) names ∙ (bytes_eq-Decides net net).1 refl)
 
-pub if_named : {X : Type 0} (view : X → List ℕ) (p : Pin) (found : Option X) → option_map view found ≡ first_of net_of_clause p.clauses
-    → IfSome found (λ net. (pin : List ℕ) → is_named_entry Pins pin (entry (records.pin p)) ≡ true → is_pin_naming pin (view net) (entry (records.pin p)) ≡ true)
-if_named view p None is = tt
-if_named view p (Some net) is = λ pin named. named_so p (view net) pin (sym is) named
-
-pub if_some : {X : Type 0} (P Q : X → Type 0) (found : Option X) → ((x : X) → P x → Q x) → IfSome found P → IfSome found Q
-if_some P Q None so h = tt
-if_some P Q (Some x) so h = so x h
+names_so : (r : Record) (net pin : List ℕ) → net_named_by r ≡ Some net → is_named_entry Pins pin r ≡ true → is_pin_naming pin net r ≡ true
+names_so (entry (records.pin p)) net pin names is = named_so p net pin names is
+names_so (top t) net pin names is = absurd (cc)
+names_so (in_properties p) net pin names is = absurd (cc)
+names_so (end_section s) net pin names is = absurd (cc)
+names_so (entry (records.component c)) net pin names is = absurd (cc)
+names_so (entry (records.region x)) net pin names is = absurd (cc)
+names_so (entry (records.group x)) net pin names is = absurd (cc)
+names_so (entry (records.blockage x)) net pin names is = absurd (cc)
+names_so (entry (records.net x)) net pin names is = absurd (cc)
+names_so (entry (records.special_net x)) net pin names is = absurd (cc)
+names_so (entry (records.via x)) net pin names is = absurd (cc)
+names_so (entry (records.rule x)) net pin names is = absurd (cc)
+names_so (entry (records.skipped s x)) net pin names is = absurd (cc)
 
 -- what is found by a section and a name is one of the design's statements
 pub found_there : (test of : Record → Bool) (design : List Record) (r : Record) → (of r ≡ true → test r ≡ true) → filter of design ≡ r ∷ [] → list_any test design ≡ true
 found_there test of [] r so is = absurd (cc)
-found_there test of (x ∷ xs) r so is = one (of x) refl is
+found_there test of (x ∷ xs) r so is = one (of x) refl is (found_there test of xs r so)
   where
-    one : (b : Bool) → of x ≡ b → (if b then x ∷ filter of xs else filter of xs) ≡ r ∷ [] → list_any test (x ∷ xs) ≡ true
-    one true passes h = let same : x ≡ r = cc in ap (λ (b : Bool). b || list_any test xs) (ap test same ∙ so (ap of (sym same) ∙ passes))
-    one false passes h = ap (λ (b : Bool). test x || b) (found_there test of xs r so h) ∙ or_true (test x)
+    one : (b : Bool) → of x ≡ b → (if b then x ∷ filter of xs else filter of xs) ≡ r ∷ [] → (filter of xs ≡ r ∷ [] → list_any test xs ≡ true) → list_any test (x ∷ xs) ≡ true
+    one true passes h later = let same : x ≡ r = cc in ap (λ (b : Bool). b || list_any test xs) (ap test same ∙ so (ap of (sym same) ∙ passes))
+    one false passes h later = ap (λ (b : Bool). test x || b) (later h) ∙ or_true (test x)
+
+-- where it is found so, some pin of that name names that net
+pub if_named : {X : Type 0} (view : X → List ℕ) (pin : List ℕ) (design : List Record) (r : Record) (found : Option X) → filter (is_named_entry Pins pin) design ≡ r ∷ [] → option_map view found ≡ net_named_by r
+    → IfSome found (λ net. list_any (is_pin_naming pin (view net)) design ≡ true)
+if_named view pin design r None there is = tt
+if_named view pin design r (Some net) there is = found_there (is_pin_naming pin (view net)) (is_named_entry Pins pin) design r (names_so r (view net) pin (sym is)) there
 
 -- nets that list it by its name, and those that list a pin of all
 pub both_list : (component : List ℕ) (design : List Record) (nets stars : List (List ℕ)) → AllList design component nets

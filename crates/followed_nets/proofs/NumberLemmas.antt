@@ -1,10 +1,11 @@
 -- The numbers of the statements that are read whichever net is told, one exchange after the other.
 use Rattle.std.proofs.Common.{◌≡◌, ◌∙◌, ◌+◌, ◌<◌, ◌≤◌, ◌||◌, ℕ, Bool, true, false, List, [], ◌∷◌, ◌++◌, drop, get_or, length, map, slice_get, take, Option, Some, None, Result, Ok, Err, refl, sym, ap, ap₂, arith, subst}
-use Rattle.std.specs.Prelude.{IfOk, IfSome, filter}
+use Rattle.std.specs.Prelude.{◌==◌, IfOk, IfSome, filter}
 use Rattle.std.specs.List.{list_any}
 use Rattle.std.proofs.Math.Seq.{drop-append-add, drop-append_seam}
 use Rattle.std.proofs.lemmas.Bool.{cases_eq}
-use Rattle.std.proofs.lemmas.List.{drop_all, drop_more, map-append, take-append-drop}
+use Rattle.std.proofs.lemmas.List.{drop_all, drop_more, length-take-le, map-append, take-append-drop}
+use Rattle.std.proofs.lemmas.Option.{get_or_from_slice_get, slice_get_within}
 use Rattle.std.proofs.lemmas.List.Elements.{filter-append}
 use Rattle.std.proofs.lemmas.List.Folds.{list_any-append}
 use Rattle.design_model.specs.declared.identifier.StmtId.{StmtId}
@@ -26,7 +27,7 @@ is_itself : (id : StmtId) → is_number id id ≡ true
 is_itself id = same id.0
   where
     same : (n : ℕ) → (n == n) ≡ true
-    same n = grind (arith)
+    same n = grind arith
 
 none_of_two : (b c : Bool) → (b || c) ≡ false → (b ≡ false) × (c ≡ false)
 none_of_two true c h = absurd (cc)
@@ -64,6 +65,25 @@ behind_row front went rest place end is to =
     ap (λ (n : ℕ). drop n (front ++ (went ++ rest))) (to ∙ ap (λ (n : ℕ). n + length went) is)
     ∙ drop-append-add front (went ++ rest) (length went)
     ∙ drop-append_seam went rest
+
+-- the first of a row, and those behind it
+pub first_of_row : (went : List StmtId) (first : StmtId) → slice_get went 0 ≡ Some first → went ≡ first ∷ drop 1 went
+first_of_row went first is = drop_more went 0 first (slice_get_within went 0 first is) ∙ ap (λ (x : StmtId). x ∷ drop 1 went) (get_or_from_slice_get went 0 first first is)
+
+-- a row that stands at the place of its first is exchanged there
+pub row_exchanged : (ids went came front rest : List StmtId) (first : StmtId) (place end : ℕ) (all : List StmtId) → slice_get went 0 ≡ Some first → ids ≡ front ++ (went ++ rest)
+    → ((before behind : List StmtId) → ids ≡ before ++ first ∷ behind → (before ≡ take place ids) × (length before ≡ place)) → end ≡ place + length went
+    → all ≡ take place ids ++ (came ++ drop end ids) → all ≡ front ++ (came ++ rest)
+row_exchanged ids went came front rest first place end all begins is only to are =
+    let there = only front (drop 1 went ++ rest) (is ∙ ap (λ (l : List StmtId). front ++ (l ++ rest)) (first_of_row went first begins)) in
+    are ∙ ap₂ (λ (a b : List StmtId). a ++ (came ++ b)) (sym there.0) (ap (drop end) is ∙ behind_row front went rest place end (sym there.1) to)
+
+-- where a number stands once
+pub only_at : (ids : List StmtId) (place : ℕ) (id : StmtId) → ids ≡ take place ids ++ id ∷ drop (place + 1) ids → place < length ids → list_any (is_number id) (take place ids) ≡ false
+    → list_any (is_number id) (drop (place + 1) ids) ≡ false → (front rest : List StmtId) → ids ≡ front ++ id ∷ rest → (front ≡ take place ids) × (length front ≡ place)
+only_at ids place id parted below none none_behind front rest is =
+    let same = only_once id (take place ids) (drop (place + 1) ids) front rest none none_behind (sym parted ∙ is) in
+    (same, ap length same ∙ length-take-le place ids (omega (arith, below)))
 
 module _ (slots : List (Option Kept)) where
   abbrev under : List StmtId → List StmtId

@@ -82,9 +82,9 @@ module _ (nets more : List (List ℕ)) (subject : Listed) (cover : Cover more ne
   covered_or_none None h = h
   covered_or_none (Some name) h = covered name (is_one_of nets name) refl h
 
-  covered_pin : (own : Bool) (net : Option (List ℕ)) → not (own && is_none_or_one_of nets net) ≡ false → not (own && is_none_or_one_of more net) ≡ false
-  covered_pin true net h = covered_or_none net h
-  covered_pin false net h = h
+  covered_pin : (own : Bool) (named : Option (List ℕ)) → not (own && is_none_or_one_of nets named) ≡ false → not (own && is_none_or_one_of more named) ≡ false
+  covered_pin true named h = covered_or_none named h
+  covered_pin false named h = h
 
   within_more : (r : Record) → not (is_within nets subject r) ≡ false → not (is_within more subject r) ≡ false
   within_more (top t) h = h

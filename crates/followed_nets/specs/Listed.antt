@@ -1,5 +1,5 @@
 -- Which nets of a design list a component, or a pin of the design.
-use Rattle.std.specs.Prelude.{◌≡◌, ℕ, Bool, true, false, not, ◌&&◌, ◌||◌, List, [], ◌∷◌}
+use Rattle.std.specs.Prelude.{◌≡◌, ℕ, Bool, true, false, not, ◌&&◌, ◌||◌, List, [], ◌∷◌, Option, None}
 use Rattle.std.specs.List.{list_any}
 use Rattle.std.specs.Str.{bytes_eq}
 use Rattle.form_meanings.specs.Firsts.{first_of}
@@ -30,8 +30,13 @@ AreListingPin design pin nets = (net : List ℕ) → is_one_of nets net ≡ fals
 
 -- a statement is the pin of the design of a name, and names a net
 abbrev pub is_pin_naming : List ℕ → List ℕ → Record → Bool
-is_pin_naming pin net (entry (records.pin p)) = bytes_eq p.name pin && is_same net (first_of net_of_clause p.clauses)
-is_pin_naming pin net r = false
+is_pin_naming name named (entry (records.pin p)) = bytes_eq p.name name && is_same named (first_of net_of_clause p.clauses)
+is_pin_naming name named _ = false
+
+-- the net that a statement names, if it is a pin of the design that names one
+abbrev pub net_named_by : Record → Option (List ℕ)
+net_named_by (entry (records.pin p)) = first_of net_of_clause p.clauses
+net_named_by _ = None
 
 -- a net lists the pin of the design of a name, or is named by it
 abbrev pub is_of_pin : List Record → List ℕ → List ℕ → Bool

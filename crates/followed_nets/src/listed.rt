@@ -4,14 +4,13 @@ ghost use Rattle.std.specs.Prelude.{◌≡◌, ◌||◌, ℕ, true, List, IfOk, 
 ghost use Rattle.std.specs.List.{list_any};
 ghost use Rattle.std.specs.Option.{option_map};
 ghost use Rattle.std.specs.Str.{bytes_eq};
-ghost use Rattle.design_model.specs.declared.mode.Section.TheVariants.{Pins};
+ghost use Rattle.entry_rules.specs.Unknown.{is_same};
 ghost use Rattle.lefdef_tokens.specs.Views.{word_view};
 ghost use Rattle.def_reader.specs.StatementViews.{record_view};
 ghost use Rattle.net_laws.specs.NetChanges.{is_one_of};
 ghost use Rattle.net_laws.specs.NetsTold.{is_of_net, net_of_record};
-ghost use Rattle.design_tables.specs.Lookups.{is_named_entry};
 ghost use Rattle.design_text.specs.DesignTexts.{design_of};
-ghost use Rattle.followed_nets.specs.Listed.{AllList, AllOfPin, AreApart, AreListing, AreListingPin, is_pin_naming};
+ghost use Rattle.followed_nets.specs.Listed.{AllList, AllOfPin, AreApart, AreListing, AreListingPin, is_pin_naming, net_named_by};
 
 use crate::told_statements::entry_in;
 use crate::within::{is_one_of, net_of_pin};
@@ -118,7 +117,7 @@ fn nets_listing_pin<A: Allocator + Copy>(
 
 /// The net that a statement names by its NET, if it is a pin of the design that names one.
 fn named_net<'t>(statement: &Statement<'t>) -> Option<&'t [u8]>
-    ensures { IfSome result (λ net. (pin : List ℕ) → is_named_entry Pins pin (record_view statement.now) ≡ true → is_pin_naming pin net.now (record_view statement.now) ≡ true) }
+    ensures { option_map word_view result ≡ net_named_by (record_view statement.now) }
 {
     match statement {
         Statement::Entry(Entry::Pin(parts)) => net_of_pin(&parts.clauses),
@@ -132,6 +131,21 @@ fn net_by_pin<'t, A: Allocator + Copy>(text: &'t DesignText<A>, pin: &[u8]) -> O
 {
     let entry = entry_in(text, Section::Pins, pin)?;
     named_net(&entry)
+}
+
+/// Puts a name behind others, if there is one and it is none of them.
+fn add_if<A: Allocator + Copy>(
+    alloc: A,
+    nets: &mut Vec<OwnName<A>, A>,
+    name: Option<&[u8]>,
+) -> Result<(), AllocError>
+    ensures all { OnOk result ((net : List ℕ) → is_one_of nets.new.items net ≡ (is_one_of nets.old.items net || is_same net (option_map word_view name.entry))) }
+    ensures apart { AreApart nets.old.items → OnOk result (AreApart nets.new.items) }
+{
+    match name {
+        Some(name) => add_name(alloc, nets, name),
+        None => Ok(()),
+    }
 }
 
 /// The names of the nets of a text that a pin of the design is of, each once, unless they are many: those that list it, and the one that it
@@ -149,8 +163,6 @@ pub(crate) fn nets_of_pin<A: Allocator + Copy>(
         return Ok(None);
     };
     let mut nets = listing;
-    if let Some(net) = net_by_pin(text, pin) {
-        add_name(alloc, &mut nets, net)?;
-    }
+    add_if(alloc, &mut nets, net_by_pin(text, pin))?;
     Ok(Some(nets))
 }

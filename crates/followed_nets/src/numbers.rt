@@ -2,7 +2,7 @@
 //!
 //! An exchange takes some of them, which stand one behind the other, out of the numbers, and puts others in at their place.
 
-ghost use Rattle.std.specs.Prelude.{◌≡◌, ◌++◌, ◌∷◌, IfOk, IfSome, List, drop, take};
+ghost use Rattle.std.specs.Prelude.{◌≡◌, ◌<◌, ◌+◌, ◌++◌, ◌∷◌, IfOk, IfSome, List, drop, length, take};
 ghost use Rattle.std.specs.List.{list_any};
 ghost use Rattle.design_model.specs.declared.identifier.StmtId.{StmtId as Number};
 ghost use Rattle.def_grammar.specs.Records.{Record};
@@ -31,7 +31,8 @@ fn is_among(ids: &[StmtId], id: StmtId) -> bool
 
 /// Where a number stands first among these.
 fn place_of(ids: &[StmtId], id: StmtId) -> Option<usize>
-    ensures { IfSome result (λ place. ids.now ≡ take place ids.now ++ id ∷ drop (place + 1) ids.now) }
+    ensures parted { IfSome result (λ place. ids.now ≡ take place ids.now ++ id ∷ drop (place + 1) ids.now) }
+    ensures below { IfSome result (λ place. place < length ids.now) }
 {
     for place in 0..ids.len() {
         if ids[place].0 == id.0 {
@@ -43,7 +44,7 @@ fn place_of(ids: &[StmtId], id: StmtId) -> Option<usize>
 
 /// Where a number stands among these, if it stands there once.
 fn only_place(ids: &[StmtId], id: StmtId) -> Option<usize>
-    ensures { (front rest : List Number) → ids.now ≡ front ++ id ∷ rest → IfSome result (λ place. front ≡ take place ids.now) }
+    ensures { (front rest : List Number) → ids.now ≡ front ++ id ∷ rest → IfSome result (λ place. (front ≡ take place ids.now) × (length front ≡ place)) }
 {
     let place = place_of(ids, id)?;
     let front = ids.get(..place)?;
