@@ -14,7 +14,7 @@ use Rattle.measuring_laws.specs.Measuring.{ToldCellsFollow, ToldMeasuresFollow, 
 use Rattle.net_laws.specs.NetChanges.{AgreeApart, ToldNetsAreExchanged, is_one_of}
 use Rattle.net_laws.specs.NetsTold.{is_common}
 use Rattle.net_laws.specs.StarNets.{AgreeBut}
-use Rattle.net_laws.specs.Within.{a_component, neither}
+use Rattle.net_laws.specs.Within.{a_component, neither, pin_in}
 use Rattle.net_laws.proofs.Selecting.{selected_alike}
 use Rattle.reports.specs.Answers.{Answers, ReportsOn}
 use Rattle.reports.specs.Densities.{box_shape, box_shapes}
@@ -22,6 +22,7 @@ use Rattle.reports.specs.Exchanges.{ComponentExchanged}
 use Rattle.followed_nets.specs.Heads.{Head}
 use Rattle.followed_nets.specs.Listed.{AreApart}
 use Rattle.followed_nets.specs.StarHeads.{AreStarHeads, ArePinShapes, PinShapes, head_names, pin_names}
+use Rattle.followed_nets.specs.Touched.{subject_by}
 use Rattle.followed_nets.specs.Within.{Leaves}
 use Rattle.followed_nets.proofs.StarHeadLemmas.{star_heads_stay}
 use Rattle.followed_measures.specs.Exchanging.{AwaitsStars}
@@ -33,6 +34,11 @@ use Rattle.followed_measures.proofs.ReportLemmas.{reports_then}
 -- no component is exchanged
 none_placed : (a : Answers) → ComponentExchanged None None a a
 none_placed a = record { layers = refl; nets = refl; total_length = refl; cells = refl; place_cells = record { holds = λ columns rows rest held. held } }
+
+-- an edit of a component, or of none, is of no pin
+pub of_no_pin : (component : Option (List ℕ)) → pin_in (subject_by component None) ≡ None
+of_no_pin None = refl
+of_no_pin (Some c) = refl
 
 -- a net of which there is a head is none of those that no head is of
 not_one : (names : List (List ℕ)) (hs : List Head) → AllByRecursion (λ (h : Head). is_one_of names h.name ≡ false) hs → (net : List ℕ) → is_one_of (head_names hs) net ≡ true → is_one_of names net ≡ false

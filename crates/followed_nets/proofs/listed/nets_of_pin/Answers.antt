@@ -11,5 +11,5 @@ pub returns-clause-only : goal.returns-clause-only
 returns-clause-only g c =
     let pin = c.args.pin.now in
     let design = design_of c.args.text.now in
-    more_of_pin pin design c.in-Some.listing.items c.add_if.new.nets.items (option_map word_view c.net_by_pin.result) c.in_ok-add_if.ensures.all c.in_ok-listing.ensures.only
+    more_of_pin pin design c.in-Some.listing.items c.add_if.new.nets.items (option_map word_view c.net_by_pin.result) c.in_ok-add_if.ensures.all (rw (c.in-Some.is) at c.in_ok-listing.ensures.only)
     (if_seen word_view (λ (n : List ℕ). list_any (is_pin_naming pin n) design ≡ true) c.net_by_pin.result c.net_by_pin.ensures)

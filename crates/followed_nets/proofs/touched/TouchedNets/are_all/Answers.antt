@@ -24,7 +24,8 @@ pub returns-in-None : goal.returns-in-None
 returns-in-None g c = λ old common exchanges lists.
     let last = records_in c.args.text.now in
     let seen = rw (← c.self.view_is) at lists in
-    let within = rw (c.deref-in-None.ensures.value, c.pin_or_neither.ensures) at (c.exchanges_are_within-in-None.ensures old common exchanges) in
+    let of_pin = rw (← c.self.view_is) at c.pin_or_neither.ensures in
+    let within = rw (c.deref-in-None.ensures.value, of_pin) at (c.exchanges_are_within-in-None.ensures old common exchanges) in
     rw (← c.self.view_is)
     (if_ok (λ (b : Bool). b ≡ true → Leaves (said old) (said last) c.self.inside.names.items (subject_by None c.self.inside.pin) × (pin_in (subject_by None c.self.inside.pin) ≡ None → AreCommon old common → AreCommon last common)) _ c.exchanges_are_within-in-None.result
     (λ b h yes. let both = h yes in (by_nets (said old) (said last) _ seen (ap (option_map (λ (x : TouchedComponent _). x.name)) c.in-None.is) both.0, λ none. both.1 (no_pin_in c.self.inside.pin none)))
