@@ -131,7 +131,7 @@ all_of_pin pin design found nets same names net is =
 -- with one more, that the pin names
 pub more_listing_pin : (pin : List ℕ) (design : List Record) (nets more : List (List ℕ)) (named : Option (List ℕ)) → ((net : List ℕ) → is_one_of more net ≡ (is_one_of nets net || is_same net named)) → AreListingPin design pin nets
     → AreListingPin design pin more
-more_listing_pin pin design nets more named are listed net other = listed net (or_parts (is_one_of nets net) (is_same net named) (sym (are net) ∙ other)).0
+more_listing_pin own design nets more named are listed net other = listed net (or_parts (is_one_of nets net) (is_same net named) (sym (are net) ∙ other)).0
 
 pub more_of_pin : (pin : List ℕ) (design : List Record) (nets more : List (List ℕ)) (named : Option (List ℕ)) → ((net : List ℕ) → is_one_of more net ≡ (is_one_of nets net || is_same net named)) → AllOfPin design pin nets
     → IfSome named (λ name. list_any (is_pin_naming pin name) design ≡ true) → AllOfPin design pin more
@@ -180,8 +180,8 @@ found_there test of (x ∷ xs) r so is = one (of x) refl is (found_there test of
 -- where it is found so, some pin of that name names that net
 pub if_named : {X : Type 0} (view : X → List ℕ) (pin : List ℕ) (design : List Record) (r : Record) (found : Option X) → filter (is_named_entry Pins pin) design ≡ r ∷ [] → option_map view found ≡ net_named_by r
     → IfSome found (λ net. list_any (is_pin_naming pin (view net)) design ≡ true)
-if_named view pin design r None there is = tt
-if_named view pin design r (Some net) there is = found_there (is_pin_naming pin (view net)) (is_named_entry Pins pin) design r (names_so r (view net) pin (sym is)) there
+if_named view own design r None there is = tt
+if_named view own design r (Some net) there is = found_there (is_pin_naming own (view net)) (is_named_entry Pins own) design r (names_so r (view net) own (sym is)) there
 
 -- nets that list it by its name, and those that list a pin of all
 pub both_list : (component : List ℕ) (design : List Record) (nets stars : List (List ℕ)) → AllList design component nets

@@ -42,13 +42,21 @@ fn place_of(ids: &[StmtId], id: StmtId) -> Option<usize>
     None
 }
 
+/// The numbers from a place on.
+fn from_place<'i>(ids: &'i [StmtId], place: usize) -> Option<&'i [StmtId]>
+    ensures { IfSome result (λ rest. rest.now ≡ drop place ids.entry.now) }
+{
+    let rest = ids.get(place..)?;
+    Some(rest)
+}
+
 /// Where a number stands among these, if it stands there once.
 fn only_place(ids: &[StmtId], id: StmtId) -> Option<usize>
     ensures { (front rest : List Number) → ids.now ≡ front ++ id ∷ rest → IfSome result (λ place. (front ≡ take place ids.now) × (length front ≡ place)) }
 {
     let place = place_of(ids, id)?;
     let front = ids.get(..place)?;
-    let rest = ids.get(place + 1..)?;
+    let rest = from_place(ids, place + 1)?;
     if is_among(front, id) || is_among(rest, id) {
         return None;
     }
