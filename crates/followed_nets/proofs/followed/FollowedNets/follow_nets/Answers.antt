@@ -64,7 +64,9 @@ exchange-requires g c =
     let all = all_exchanged library c.requires.0 last _ c.args.kept _ _ c.told_nets_are_exchanged.ensures c.one_entry_tells.ensures c.same_lines_sort_alike.ensures c.short_is_symmetric.ensures t f both.0 fits then_told named
     c.touched.inside.component (λ (x : TouchedComponent _). x.name) (λ (x : TouchedComponent _). map star_view x.stars.items) refl (λ own is. ap (λ (x : Option (TouchedComponent _)). stars_of x) is)
     c.nets_are_told.ensures c.pin_lines_follow.ensures c.one_component_exchanged.ensures (map told_view c.in-Some-3.all.gone.items) (map told_view c.in-Some-3.all.come.items) c.exchange_stars.new.self.stars none (rw (c.in-Some-3.is) at c.in_ok-all.ensures.own) in
-    (all.parts.bars, all.parts.out, all.parts.put, all.parts.rest, all.parts.goes, all.parts.comes, rw (c.in_ok-all.ensures.shapes) all.parts.had)
+    let p = all.parts in
+    let had = subst (λ (ss : List NetShape). AreOnPieces (layer_name library.layers) p.bars (p.out ++ p.rest) ss c.args.kept.lines) (sym c.in_ok-all.ensures.shapes) p.had in
+    (p.bars, p.out, p.put, p.rest, p.goes, p.comes, had)
 
 pub returns-clause-lines : goal.returns-clause-lines
 returns-clause-lines g c = λ old exchanges touched followed.
