@@ -47,7 +47,7 @@ use std::marker::Model;
 /// What was measured of a text, and what is noted of its statements once an edit is to be followed.
 pub struct FollowedMeasures<A: Allocator = Global> {
     reports: Reports<A>,
-    /// The numbers of those that any net may be made of.
+    /// The numbers of those that are read whichever net is told.
     common: Option<Vec<StmtId, A>>,
     /// The nets that list a pin of all components, unless these can't be followed.
     heads: Option<StarHeads<A>>,
