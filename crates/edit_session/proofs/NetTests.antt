@@ -2,7 +2,6 @@
 use Rattle.std.proofs.Common.{◌≡◌, ◌≤◌, ◌+◌, ℕ, Bool, true, false, ◌||◌, List, [], ◌∷◌, ◌++◌, append-nil, Option, Some, None, Result, Ok, Err, refl, sym, ap, ◌∙◌, arith}
 use Rattle.std.specs.Prelude.{IfOk, IfSome}
 use Rattle.std.specs.Str.{bytes_eq}
-use Rattle.std.proofs.lemmas.List.Sums.{sum_by-append}
 use Rattle.def_grammar.specs.Records.{Record}
 use Rattle.lef_grammar.specs.Library.{Library}
 use Rattle.connection_rules.specs.NetLines.{barriers}
@@ -14,6 +13,7 @@ use Rattle.followed_nets.specs.Touched.{Touched, star_names}
 use Rattle.edit_rules.specs.Edits.{change_of}
 use Rattle.edit_session.specs.declared.change.Change as session
 use Rattle.edit_session.specs.declared.change.Change.TheVariants.{Design, Text}
+use Rattle.edit_session.proofs.ApartBars.{exchanged_apart}
 use Rattle.edit_session.specs.Tests.{FewShapes, IsSubject, Subject, TouchesOnly, one_component, one_net, one_pin, subject_of}
 
 or_false : (b : Bool) → (b || false) ≡ true → b ≡ true
@@ -44,16 +44,16 @@ found P Q (Err e) law h = tt
 
 pub none_compared : (library : Library) (old new : List Record) (subject : Option Subject) (tests : ℕ) → tests ≡ 0 → FewShapes library old new subject tests
 none_compared library old new subject tests none =
-    let bars = barriers library old (scale old) in
-    let then_bars = barriers library new (scale new) in
+    let changed = exchanged_apart (barriers library old (scale old)) (barriers library new (scale new)) in
     record {
       nets = [];
       apart = tt;
       are_touched = λ name among. absurd (cc);
       few = record {
-        gone = bars;
-        come = then_bars;
-        changed = record { same = record { sums = λ w. omega (arith, sum_by-append w bars then_bars, sum_by-append w then_bars bars) } };
+        gone = changed.0;
+        come = changed.1;
+        changed = record { same = changed.2 };
+        apart = changed.3;
         few = omega (arith, none);
       };
     }
