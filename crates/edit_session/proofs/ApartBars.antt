@@ -53,7 +53,7 @@ abbrev IsTaken : Barrier → List Barrier → Option (List Barrier) → Type 0
 IsTaken b come rest = MatchOption rest (times_barred b come ≡ 0) (λ r. SameThings come (b ∷ r))
 
 taken_behind : (b x : Barrier) (xs : List Barrier) → is_bar b x ≡ false → (rest : Option (List Barrier)) → IsTaken b xs rest → (more : Option (List Barrier)) × IsTaken b (x ∷ xs) more
-taken_behind b x xs is None none = (None, omega (arith, sum_by-cons (λ y. cond (is_bar b y) 1 0) x xs, ap (λ (c : Bool). cond c 1 0) is, none))
+taken_behind b x xs is None none = (None, omega (arith, sum_by-cons (λ y. cond (is_bar b y) 1 0) x xs, ap {B = ℕ} (λ (c : Bool). cond c 1 0) is, none))
 taken_behind b x xs is (Some rest) same = (
   Some (x ∷ rest),
   record {
