@@ -8,6 +8,7 @@ ghost use Rattle.def_grammar.specs.Records.{Record};
 ghost use Rattle.design_model.specs.Views.{rectangle_of};
 ghost use Rattle.measuring_laws.specs.Measuring.{is_of_cells};
 ghost use Rattle.net_laws.specs.NetChanges.{is_one_of};
+ghost use Rattle.net_laws.specs.Within.{pin_in};
 ghost use Rattle.design_text.specs.DesignTexts.{design_of};
 ghost use Rattle.design_text.specs.Exchanges.{AreExchanges, records_in};
 ghost use Rattle.reports.specs.Answers.{ReportsOn};
@@ -46,7 +47,7 @@ use std::marker::Model;
 /// What was measured of a text, and what is noted of its statements once an edit is to be followed.
 pub struct FollowedMeasures<A: Allocator = Global> {
     reports: Reports<A>,
-    /// The numbers of those that any net may be made of.
+    /// The numbers of those that are read whichever net is told.
     common: Option<Vec<StmtId, A>>,
     /// The nets that list a pin of all components, unless these can't be followed.
     heads: Option<StarHeads<A>>,
@@ -105,7 +106,8 @@ fn names_in<A: Allocator + Copy>(
 
 /// What an edit is of: this component, or none.
 fn subject_of(component: Option<&[u8]>) -> EditSubject<'_>
-    ensures { subject_view result ≡ subject_by (option_map (λ w. w.now) component.entry) None }
+    ensures subject { subject_view result ≡ subject_by (option_map (λ w. w.now) component.entry) None }
+    ensures no_pin { pin_in (subject_view result) ≡ None }
 {
     match component {
         Some(name) => EditSubject::Component(name),
