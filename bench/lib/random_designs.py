@@ -338,6 +338,18 @@ class Designs:
         words = [it for it, (weight, _) in kinds.items() for _ in range(weight)]
         return kinds[self.rng.choice(words)][1]()
 
+    def edit_of_pin(self, text, line):
+        """Returns a word of the entry of a pin of the design, and what is put there: mostly another place, net, layer or orientation."""
+        words = [(line[0] + it.start(), line[0] + it.end()) for it in re.finditer(rb"\S+", text[slice(*line)])]
+        a, b = self.rng.choice(words[2:])
+        word = text[a:b].decode()
+        if word.lstrip("-").isdigit():
+            return a, b, str(self.across()).encode()
+        for others in (self.nets, LAYERS, ORIENTS):
+            if word in others:
+                return a, b, self.one(others).encode()
+        return a, b, text[slice(*self.rng.choice(words))]
+
     def new_component(self):
         name = f"x{self.rng.randint(0, 40)}"
         if name not in self.components:
@@ -349,6 +361,9 @@ class Designs:
         kind = self.rng.random()
         lines = [it.span() for it in re.finditer(rb"[^\n]*\n", text)]
         words = [it.span() for it in re.finditer(rb"\S+", text)]
+        pins = [it.span() for it in re.finditer(rb"- p[0-9]+ [^\n]*\n", text)]
+        if kind < 0.1 and pins:
+            return self.edit_of_pin(text, self.rng.choice(pins))
         if kind < 0.25 and lines:
             a, b = self.rng.choice(lines)
             return a, b, self.rng.choice([b"", text[a:b] * 2, b"# gone\n"])

@@ -1,5 +1,5 @@
 -- Worked rows of what tells a net, and of which nets statements touch, by computing.
-use Rattle.std.proofs.Common.{◌≡◌, true, false, List, [], ◌∷◌, Some, None, map, refl, codes}
+use Rattle.std.proofs.Common.{◌≡◌, true, false, List, [], ◌∷◌, map, refl, codes}
 use Rattle.std.specs.List.{filter_map}
 use Rattle.std.specs.Str.{bytes_eq}
 use Rattle.def_grammar.specs.Records.{Record, read_def}
@@ -8,7 +8,7 @@ use Rattle.connection_rules.specs.NetParts.{Net}
 use Rattle.entry_examples.proofs.Computing.{def_lines}
 use Rattle.net_laws.specs.NetExchanges.{nets_where, touches}
 use Rattle.net_laws.specs.NetsTold.{is_common, is_of_net, net_of_record, terminals_in}
-use Rattle.net_laws.specs.Within.{is_within}
+use Rattle.net_laws.specs.Within.{a_component, a_pin, is_within, neither}
 use Rattle.agreement_examples.proofs.PartRows.{records_of, square_library}
 
 -- a statement of each kind that nets have to do with, and others; the net n has an entry in each of its sections
@@ -16,9 +16,9 @@ abbrev design : List Record
 design =
     records_of (read_def (codes "UNITS DISTANCE MICRONS 1 ;\nDIEAREA ( 0 0 ) ( 9 9 ) ;\nVIAS 1 ;\n- v + RECT met1 ( 0 0 ) ( 1 1 ) ;\nEND VIAS\nNONDEFAULTRULES 1 ;\n- w + LAYER met1 WIDTH 3 ;\nEND NONDEFAULTRULES\nCOMPONENTS 3 ;\n- c M ;\n- d M ;\n- PIN2 M ;\nEND COMPONENTS\nPINS 1 ;\n- p + NET n ;\nEND PINS\nBLOCKAGES 1 ;\n- LAYER met1 RECT ( 4 4 ) ( 9 9 ) ;\nEND BLOCKAGES\nSPECIALNETS 1 ;\n- n ( * Z ) + USE POWER ;\nEND SPECIALNETS\nNETS 4 ;\n- m ( d A ) ( d B + SYNTHESIZED ) ( VPIN x ) ;\n- MUSTJOIN ( c A ) ;\n- n ( c A ) ( PIN p ) ;\n- o + SUBNET n ( c A ) ;\nEND NETS\nEND DESIGN\n"))
 
--- UNITS, the via, the rule and the pin; not the die, no component, no blockage, no net, no header and no end
+-- UNITS, the via and the rule; not the die, no pin, no component, no blockage, no net, no header and no end
 of_each_kind : map is_common design
-    ≡ true ∷ false ∷ false ∷ true ∷ false ∷ false ∷ true ∷ false ∷ false ∷ false ∷ false ∷ false ∷ false ∷ false ∷ true ∷ false ∷ false ∷ false ∷ false ∷ false ∷ false ∷ false ∷ false ∷ false ∷ false ∷ false ∷ false ∷ false ∷ false ∷ []
+    ≡ true ∷ false ∷ false ∷ true ∷ false ∷ false ∷ true ∷ false ∷ false ∷ false ∷ false ∷ false ∷ false ∷ false ∷ false ∷ false ∷ false ∷ false ∷ false ∷ false ∷ false ∷ false ∷ false ∷ false ∷ false ∷ false ∷ false ∷ false ∷ false ∷ []
 unfolding def_lines
 of_each_kind = refl
 
@@ -39,9 +39,9 @@ listed : (map (λ (t : Terminal). t.owner) (terminals_in design (codes "n")) ≡
 unfolding def_lines
 listed = (refl, refl, refl)
 
--- by a star all components touch a net, also those that another terminal of it names
+-- by a star all components touch a net, also those that another terminal of it names; so does the pin that it lists
 all_touch : map (touches design (codes "n")) design
-    ≡ false ∷ false ∷ false ∷ false ∷ false ∷ false ∷ false ∷ false ∷ false ∷ true ∷ true ∷ true ∷ false ∷ false ∷ false ∷ false ∷ false ∷ false ∷ false ∷ false ∷ true ∷ false ∷ false ∷ false ∷ false ∷ true ∷ false ∷ false ∷ false ∷ []
+    ≡ false ∷ false ∷ false ∷ false ∷ false ∷ false ∷ false ∷ false ∷ false ∷ true ∷ true ∷ true ∷ false ∷ false ∷ true ∷ false ∷ false ∷ false ∷ false ∷ false ∷ true ∷ false ∷ false ∷ false ∷ false ∷ true ∷ false ∷ false ∷ false ∷ []
 unfolding def_lines
 all_touch = refl
 
@@ -63,13 +63,21 @@ unfolding def_lines
 some_nets = (refl, refl)
 
 -- entries of the net m, the component d, and what no net is made of, as a header, a blockage or an entry of MUSTJOIN
-within_one : map (is_within (codes "m" ∷ []) (Some (codes "d"))) design
+within_one : map (is_within (codes "m" ∷ []) (a_component (codes "d"))) design
     ≡ false ∷ true ∷ true ∷ false ∷ true ∷ true ∷ false ∷ true ∷ true ∷ false ∷ true ∷ false ∷ true ∷ true ∷ false ∷ true ∷ true ∷ true ∷ true ∷ true ∷ false ∷ true ∷ true ∷ true ∷ true ∷ false ∷ false ∷ true ∷ true ∷ []
 unfolding def_lines
 within_one = refl
 
--- of two nets, and of no component
-within_two : map (is_within (codes "o" ∷ codes "n" ∷ []) None) design
+-- of two nets, and of no component and no pin
+within_two : map (is_within (codes "o" ∷ codes "n" ∷ []) neither) design
     ≡ false ∷ true ∷ true ∷ false ∷ true ∷ true ∷ false ∷ true ∷ true ∷ false ∷ false ∷ false ∷ true ∷ true ∷ false ∷ true ∷ true ∷ true ∷ true ∷ true ∷ true ∷ true ∷ true ∷ false ∷ true ∷ true ∷ true ∷ true ∷ true ∷ []
 unfolding def_lines
 within_two = refl
+
+-- entries of the net n, and its pin; not where the pin names another net than those
+within_pin : (map (is_within (codes "n" ∷ []) (a_pin (codes "p"))) design
+    ≡ false ∷ true ∷ true ∷ false ∷ true ∷ true ∷ false ∷ true ∷ true ∷ false ∷ false ∷ false ∷ true ∷ true ∷ true ∷ true ∷ true ∷ true ∷ true ∷ true ∷ true ∷ true ∷ true ∷ false ∷ true ∷ true ∷ false ∷ true ∷ true ∷ [])
+    × (map (is_within (codes "m" ∷ []) (a_pin (codes "p"))) design
+    ≡ false ∷ true ∷ true ∷ false ∷ true ∷ true ∷ false ∷ true ∷ true ∷ false ∷ false ∷ false ∷ true ∷ true ∷ false ∷ true ∷ true ∷ true ∷ true ∷ true ∷ false ∷ true ∷ true ∷ true ∷ true ∷ false ∷ false ∷ true ∷ true ∷ [])
+unfolding def_lines
+within_pin = (refl, refl)

@@ -5,5 +5,6 @@
 //! vias that are named in wires, and what a row refers to. `proofs/PartRows` has the lines on statements and on places of a small design,
 //! and what edits leave of them, and `proofs/PlaceRows` which statements are of what stands round components, and the lines that
 //! components bring which are exchanged. `proofs/ToldRows` has which statements tell a net, and which nets a statement touches;
-//! `proofs/StarRows` what one component is to a net. `proofs/CountRows` has the line on each of some sections.
+//! `proofs/PinRows` which pins of a design are of which nets; `proofs/StarRows` what one component is to a net. `proofs/CountRows` has the
+//! line on each of some sections.
 #![tactic(auto)]

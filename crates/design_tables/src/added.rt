@@ -19,7 +19,27 @@ use def_reader::statement::Statement;
 use design_model::identifier::StmtId;
 use statement_reader::parts::Parts;
 use std::alloc::{AllocError, Allocator};
+use std::rc::Rc;
+use wire_parts::nets::NetEntry;
 use wire_parts::terminals::Terminal;
+
+/// Where the name of an entry stands in its text, for entries of which there are many.
+fn entry_pos(entry: &Entry<'_>) -> usize {
+    match entry {
+        Entry::Component(parts) => parts.name.pos,
+        Entry::Pin(parts) => parts.name.pos,
+        Entry::Net(NetEntry::Net(net)) => net.name.pos,
+        _ => 0,
+    }
+}
+
+/// Where the name of a statement stands, as well.
+fn name_pos(statement: &Statement<'_>) -> usize {
+    match statement {
+        Statement::Entry(entry) => entry_pos(entry),
+        _ => 0,
+    }
+}
 
 impl<A: Allocator + Copy> NameTable<A> {
     /// Puts a mark of a statement under its name, where there is one.
@@ -28,7 +48,7 @@ impl<A: Allocator + Copy> NameTable<A> {
     {
         if let Some(mark) = mark {
             let role = mark.role;
-            self.put(mark.name, Mark { role, id })?;
+            self.put(mark.name, Mark::new(role, id)?)?;
         }
         Ok(())
     }
@@ -53,7 +73,7 @@ impl<A: Allocator + Copy> NameTable<A> {
         ensures { OnOk result (ArePut id (entry_marks (Some (entry_view entry.now))) self.old self.new) }
     {
         let role = Role::Member;
-        self.put_again(entry.section().word(), Mark { role, id })?;
+        self.put_again(entry.section().word(), Mark::new(role, id)?)?;
         match terminals_of(entry) {
             Some(terminals) => self.put_terminals(id, terminals),
             None => Ok(()),
@@ -72,14 +92,19 @@ impl<A: Allocator + Copy> NameTable<A> {
 
     /// Puts the own mark of a statement, and answers whether it has one, under a name that is new: then what a text has once of it
     /// doesn't stand twice.
-    fn put_own(&mut self, id: StmtId, statement: &Statement<'_>) -> Result<bool, AllocError>
+    fn put_own(
+        &mut self,
+        id: StmtId,
+        statement: &Statement<'_>,
+        text: &Rc<Vec<u8, A>, A>,
+    ) -> Result<bool, AllocError>
         ensures put { OnOk result (ArePut id (option_to_list (own_mark (record_view statement.now))) self.old self.new) }
         ensures once { IfOk result (λ is_new. is_new ≡ true → is_twice (key_mark (record_view statement.now)) self.new ≡ false) }
     {
         match own_mark(statement) {
             Some(mark) => {
                 let role = mark.role;
-                self.put_new(mark.name, Mark { role, id })
+                self.put_new(text, name_pos(statement), mark.name, Mark::new(role, id)?)
             }
             None => Ok(false),
         }
@@ -87,11 +112,16 @@ impl<A: Allocator + Copy> NameTable<A> {
 
     /// Puts the marks of a statement under their names, its own last, and answers whether it has one, under a name that is new. A
     /// refused growth may leave some of them put.
-    pub fn add(&mut self, id: StmtId, statement: &Statement<'_>) -> Result<bool, AllocError>
+    pub fn add(
+        &mut self,
+        id: StmtId,
+        statement: &Statement<'_>,
+        text: &Rc<Vec<u8, A>, A>,
+    ) -> Result<bool, AllocError>
         ensures put { OnOk result (ArePut id (entry_marks (entry_of (record_view statement.now)) ++ option_to_list (own_mark (record_view statement.now))) self.old self.new) }
         ensures once { IfOk result (λ is_new. is_new ≡ true → is_twice (key_mark (record_view statement.now)) self.new ≡ false) }
     {
         self.put_others(id, statement)?;
-        self.put_own(id, statement)
+        self.put_own(id, statement, text)
     }
 }

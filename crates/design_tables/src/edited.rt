@@ -56,7 +56,7 @@ impl<A: Allocator + Copy> NameTable<A> {
     {
         self.copy(from, gone, mark.name)?;
         let role = mark.role;
-        self.put(mark.name, Mark { role, id })?;
+        self.put(mark.name, Mark::new(role, id)?)?;
         Ok(())
     }
 

@@ -5,10 +5,12 @@ ghost use Rattle.std.specs.Str.{bytes_eq};
 ghost use Rattle.design_tables.specs.ListingViews.{listing_view};
 ghost use Rattle.design_tables.specs.Listings.{found, has_name, listed, marks_named, with_marks};
 
+use crate::kept_name::KeptName;
 use crate::names::{Listing, NameTable};
 use crate::role::Mark;
-use name_keys::{Name, OwnName};
+use name_keys::Name;
 use std::alloc::{AllocError, Allocator};
+use std::rc::Rc;
 
 impl<A: Allocator + Copy> NameTable<A> {
     /// Puts a mark under the name at a place where it is this one, and answers whether it is.
@@ -34,7 +36,7 @@ impl<A: Allocator + Copy> NameTable<A> {
         ensures { OnOk result ((n : List ℕ) → listed n self.new ≡ with_marks (marks_named n ((name.now, mark) ∷ [])) (listed n self.old)) }
     {
         let place = self.last;
-        if self.put_at(place, name, mark)? {
+        if self.put_at(place, name, mark.again())? {
             return Ok(());
         }
         self.put(name, mark)?;
@@ -49,19 +51,25 @@ impl<A: Allocator + Copy> NameTable<A> {
         let alloc = self.allocator();
         let mut listing = stood;
         listing.push(alloc, mark)?;
-        let name = OwnName::copy_of(alloc, name)?;
+        let name = KeptName::copy_of(alloc, name)?;
         self.names.insert(name, listing)?;
         Ok(())
     }
 
     /// Puts a mark under a name that is mostly new, and answers whether it is. Where it is, it is hashed once, since it isn't looked up
-    /// first, as `put` does.
-    pub fn put_new(&mut self, name: &[u8], mark: Mark) -> Result<bool, AllocError>
+    /// first, as `put` does. It is kept as a part of the text where it stands there at this position.
+    pub fn put_new(
+        &mut self,
+        text: &Rc<Vec<u8, A>, A>,
+        pos: usize,
+        name: &[u8],
+        mark: Mark,
+    ) -> Result<bool, AllocError>
         ensures put { OnOk result ((n : List ℕ) → listed n self.new ≡ with_marks (marks_named n ((name.now, mark) ∷ [])) (listed n self.old)) }
         ensures fresh { IfOk result (λ is_new. is_new ≡ not (has_name name.now self.old)) }
     {
-        let own = OwnName::copy_of(self.allocator(), name)?;
-        match self.names.insert(own, Listing::one(mark))? {
+        let own = KeptName::in_text(text, pos, name)?;
+        match self.names.insert(own, Listing::one(mark.again()))? {
             None => Ok(true),
             Some(stood) => {
                 self.put_back(name, stood, mark)?;

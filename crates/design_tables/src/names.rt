@@ -9,10 +9,11 @@ ghost use Rattle.design_tables.specs.Marks.{same_role};
 ghost use Rattle.design_tables.specs.Listings.{found, has_name, listed, marks_named, unlisted, with_marks};
 ghost use Rattle.design_tables.specs.Prepared.{HasNames};
 
-use crate::mark_list::MarkList;
+use crate::kept_name::KeptName;
+use crate::mark_list::{FewMarks, MarkList};
 use crate::role::{Mark, Role};
 use indexmap::{IndexMap, IndexSet};
-use name_keys::{Name, OwnName};
+use name_keys::Name;
 use std::alloc::{AllocError, Allocator, Global};
 use std::hash::{BuildHasherDefault, FoldHasher, RandomState};
 use std::marker::Model;
@@ -47,7 +48,7 @@ impl<A: Allocator + Copy> Listing<A> {
             }
         } else {
             Listing {
-                marks: MarkList::One(mark),
+                marks: MarkList::Few(FewMarks::one(mark)),
                 entries: 0,
             }
         }
@@ -78,7 +79,7 @@ impl<A: Allocator + Copy> Listing<A> {
     {
         let mut marks = MarkList::Empty;
         for mark in self.marks.as_slice() {
-            if !gone.contains(&mark.id.0) {
+            if !mark.is_of(gone) {
                 marks.push(alloc, *mark)?;
             }
         }
@@ -103,10 +104,20 @@ impl<A: Allocator + Copy> Listing<A> {
 /// Numbers of statements.
 pub(crate) type Ids<A> = IndexSet<usize, BuildHasherDefault<FoldHasher>, A>;
 
+impl Mark {
+    /// Whether it is of a statement with one of these numbers.
+    fn is_of<A: Allocator + Copy>(&self, ids: &Ids<A>) -> bool
+        ensures { result ≡ is_gone ids.now.keys self.now.id }
+    {
+        let id = self.id.get();
+        ids.contains(&id.0)
+    }
+}
+
 /// Names with what stands under them.
 #[derive(Drop)]
 pub(crate) struct NameTable<A: Allocator + Copy = Global> {
-    pub names: IndexMap<OwnName<A>, Listing<A>, RandomState, A>,
+    pub names: IndexMap<KeptName<A>, Listing<A>, RandomState, A>,
     // Where the name stood that `put_again` put a mark under last. Another name may have the place now.
     pub last: usize,
 }
@@ -168,7 +179,7 @@ impl<A: Allocator + Copy> NameTable<A> {
             return Ok(());
         }
         let alloc = self.allocator();
-        let name = OwnName::copy_of(alloc, name)?;
+        let name = KeptName::copy_of(alloc, name)?;
         self.names.insert(name, Listing::new())?;
         Ok(())
     }
@@ -199,7 +210,7 @@ impl<A: Allocator + Copy> NameTable<A> {
             return Ok(());
         }
         let listing = from.left_of(name, gone)?;
-        let name = OwnName::copy_of(self.allocator(), name)?;
+        let name = KeptName::copy_of(self.allocator(), name)?;
         self.names.insert(name, listing)?;
         Ok(())
     }
@@ -228,7 +239,7 @@ impl<A: Allocator + Copy> NameTable<A> {
             }
             None => {}
         }
-        let name = OwnName::copy_of(alloc, name)?;
+        let name = KeptName::copy_of(alloc, name)?;
         self.names.insert(name, Listing::one(mark))?;
         Ok(())
     }

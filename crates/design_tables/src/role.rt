@@ -1,11 +1,13 @@
 //! Marks under names.
 
-ghost use Rattle.std.specs.Prelude.{◌≡◌};
+ghost use Rattle.std.specs.Prelude.{◌≡◌, IfOk};
 ghost use Rattle.design_tables.specs.Marks.{same_role};
 
+use crate::small_id::SmallId;
 use design_model::identifier::StmtId;
 use design_model::mode::Section;
 use lefdef_tokens::is_word;
+use std::alloc::AllocError;
 
 /// How a statement has to do with a name.
 #[derive(Clone, Copy)]
@@ -48,5 +50,25 @@ impl Role {
 #[derive(Clone, Copy)]
 pub struct Mark {
     pub role: Role,
-    pub id: StmtId,
+    pub id: SmallId,
+}
+
+impl Mark {
+    /// A mark. A number that has more than four bytes is refused as memory is.
+    pub(crate) fn new(role: Role, id: StmtId) -> Result<Mark, AllocError>
+        ensures { IfOk result (λ m. m ≡ record { role = role; id = id }) }
+    {
+        let id = SmallId::new(id)?;
+        Ok(Mark { role, id })
+    }
+
+    /// The same mark.
+    pub(crate) fn again(&self) -> Mark
+        ensures { result ≡ self.now }
+    {
+        Mark {
+            role: self.role,
+            id: self.id,
+        }
+    }
 }

@@ -17,6 +17,7 @@ use design_model::mode::Section;
 use std::alloc::{AllocError, Allocator, Global};
 use std::hash::RandomState;
 use std::marker::Model;
+use std::rc::Rc;
 
 /// A statement with its number.
 #[derive(Clone, Copy)]
@@ -50,7 +51,7 @@ impl<'a> Numbers<'a> {
         while let Some((mark, rest)) = self.marks.split_first() {
             self.marks = rest;
             if mark.role.is(self.role) {
-                return Some(mark.id);
+                return Some(mark.id.get());
             }
         }
         None
@@ -97,13 +98,18 @@ impl<A: Allocator + Copy> Tables<A> {
     }
 
     /// Puts one more statement in, under a number, and answers whether what a text has once of it stands more than once then.
-    /// Where memory is refused it may be put in part.
-    pub fn add(&mut self, id: StmtId, statement: &Statement<'_>) -> Result<bool, AllocError>
+    /// Where memory is refused it may be put in part. Its name is kept as a part of the text where it stands there, and else copied.
+    pub fn add(
+        &mut self,
+        id: StmtId,
+        statement: &Statement<'_>,
+        text: &Rc<Vec<u8, A>, A>,
+    ) -> Result<bool, AllocError>
         ensures added { (xs : List (TheStmtId × Record)) → AreTablesOf xs self.old → OnOk result (AreTablesOf (xs ++ (id, record_view statement.now) ∷ []) self.new) }
         ensures repeated { IfOk result (λ repeats. repeats ≡ is_repeated self.new (id, record_view statement.now)) }
         ensures once { (xs : List (TheStmtId × Record)) → AreTablesOf xs self.old → HaveKeysOnce xs → IfOk result (λ repeats. (repeats ≡ false) ↔ HaveKeysOnce (xs ++ (id, record_view statement.now) ∷ [])) }
     {
-        let is_new = self.names.add(id, statement)?;
+        let is_new = self.names.add(id, statement, text)?;
         if is_new {
             return Ok(false);
         }

@@ -1,4 +1,4 @@
-//! The entries of nets that list a component, by the tables.
+//! The entries of nets that list a component, or a pin of the design, by the tables.
 
 ghost use Rattle.std.specs.Prelude.{◌≡◌, ◌++◌, IfOk, IfSome, OnOk, flat_map, map};
 ghost use Rattle.std.specs.List.{list_any};
@@ -8,7 +8,7 @@ ghost use Rattle.def_reader.specs.StatementViews.{record_view};
 ghost use Rattle.text_pieces.specs.Chunks.{AreOnce};
 ghost use Rattle.design_tables.specs.Lookups.{is_number};
 ghost use Rattle.design_text.specs.DesignTexts.{design_of};
-ghost use Rattle.design_text.specs.Listings.{HasListing, ListsOnce, said_under};
+ghost use Rattle.design_text.specs.Listings.{HasListing, HasPinListing, ListsOnce, said_under};
 
 use crate::text::DesignText;
 use def_reader::statement::Statement;
@@ -90,6 +90,25 @@ impl<A: Allocator + Copy> DesignText<A> {
         self.statements_are_known();
         self.design_is_read();
         let Some(ids) = each_once(alloc, self.tables.nets_of(component), most)? else {
+            return Ok(None);
+        };
+        let entries = self.all_found(alloc, &ids)?;
+        Ok(Some(entries))
+    }
+
+    /// The entries of NETS and SPECIALNETS that list the pin of the design of this name, each once, unless there are more than `most`.
+    /// They alone are read.
+    pub fn entries_listing_pin(
+        &self,
+        alloc: A,
+        pin: &[u8],
+        most: usize,
+    ) -> Result<Option<Vec<Statement<'_>, A>>, AllocError>
+        ensures { IfOk result (λ found. IfSome found (λ v. HasPinListing pin.now (design_of self.entry.now) (map record_view v.items))) }
+    {
+        self.statements_are_known();
+        self.design_is_read();
+        let Some(ids) = each_once(alloc, self.tables.nets_of_design_pin(pin), most)? else {
             return Ok(None);
         };
         let entries = self.all_found(alloc, &ids)?;

@@ -20,6 +20,7 @@ use piece_laws::keys::{fresh_is_once, keys_are_apart, keys_decide};
 use statement_reader::laws::records_are_read;
 use std::alloc::{AllocError, Allocator};
 use std::hash::RandomState;
+use std::rc::Rc;
 use text_pieces::bytes::Block;
 use text_pieces::text::TextPieces;
 use text_pieces::told::Told;
@@ -41,16 +42,17 @@ fn names_in(text: &[u8]) -> usize {
 
 /// The tables of the statements that were told, and whether one came again of which a text has one.
 #[derive(Drop)]
-struct Telling<A: Allocator + Copy> {
+struct Telling<'b, A: Allocator + Copy> {
     tables: Tables<A>,
     is_repeated: bool,
+    text: &'b Rc<Vec<u8, A>, A>,
 }
 
-impl<A: Allocator + Copy> Told for Telling<A> {
+impl<'b, A: Allocator + Copy> Told for Telling<'b, A> {
     ghost says = { λ t xs. WereTold t.tables t.is_repeated xs };
 
     fn tell(&mut self, id: StmtId, statement: &Statement<'_>) -> Result<(), AllocError> {
-        let repeats = self.tables.add(id, statement)?;
+        let repeats = self.tables.add(id, statement, self.text)?;
         if repeats {
             self.is_repeated = true;
             return Ok(());
@@ -59,7 +61,7 @@ impl<A: Allocator + Copy> Told for Telling<A> {
     }
 }
 
-impl<A: Allocator + Copy> Telling<A> {
+impl<'b, A: Allocator + Copy> Telling<'b, A> {
     /// Whether what a text has once stands once, and UNITS is there.
     fn is_keyed(&self) -> bool
         ensures { (xs : List (TheStmtId × Record)) → WereTold self.now.tables self.now.is_repeated xs → result ≡ true → AreKeyed xs }
@@ -77,7 +79,7 @@ fn check_keys<A: Allocator + Copy>(
     hash_builder: RandomState,
     text: &[u8],
     pieces: &TextPieces<A>,
-    telling: &Telling<A>,
+    telling: &Telling<'_, A>,
 ) -> Result<(), ReadError>
     requires is { text_in pieces.now ≡ text.now }
     requires told { WereTold telling.now.tables telling.now.is_repeated (numbered_records pieces.now) }
@@ -139,6 +141,7 @@ impl<A: Allocator + Copy> DesignText<A> {
         let mut telling = Telling {
             tables,
             is_repeated: false,
+            text: block.shared(),
         };
         match TextPieces::open_telling(alloc, &block, &mut telling) {
             Ok(pieces) => {

@@ -1,5 +1,5 @@
 -- Nets that an edit touches, and how many pairs of their shapes are compared.
-use Rattle.std.proofs.Common.{◌≡◌, ◌≤◌, ◌+◌, ℕ, Bool, true, false, ◌||◌, List, [], ◌∷◌, ◌++◌, Option, Some, None, Result, Ok, Err, refl, sym, ap, ◌∙◌, arith}
+use Rattle.std.proofs.Common.{◌≡◌, ◌≤◌, ◌+◌, ℕ, Bool, true, false, ◌||◌, List, [], ◌∷◌, ◌++◌, append-nil, Option, Some, None, Result, Ok, Err, refl, sym, ap, ◌∙◌, arith}
 use Rattle.std.specs.Prelude.{IfOk, IfSome}
 use Rattle.std.specs.Str.{bytes_eq}
 use Rattle.def_grammar.specs.Records.{Record}
@@ -7,14 +7,14 @@ use Rattle.lef_grammar.specs.Library.{Library}
 use Rattle.connection_rules.specs.NetLines.{barriers}
 use Rattle.design_rules.specs.Boxes.{scale}
 use Rattle.net_laws.specs.NetChanges.{is_one_of}
-use Rattle.followed_nets.specs.Listed.{AllList, AreApart}
+use Rattle.followed_nets.specs.Listed.{AllList, AllOfPin, AreApart}
 use Rattle.followed_nets.specs.Tests.{FewTests}
 use Rattle.followed_nets.specs.Touched.{Touched, star_names}
 use Rattle.edit_rules.specs.Edits.{change_of}
 use Rattle.edit_session.specs.declared.change.Change as session
 use Rattle.edit_session.specs.declared.change.Change.TheVariants.{Design, Text}
 use Rattle.edit_session.proofs.ApartBars.{exchanged_apart}
-use Rattle.edit_session.specs.Tests.{FewShapes, IsSubject, Subject, TouchesOnly, one_component, one_net, subject_of}
+use Rattle.edit_session.specs.Tests.{FewShapes, IsSubject, Subject, TouchesOnly, one_component, one_net, one_pin, subject_of}
 
 or_false : (b : Bool) → (b || false) ≡ true → b ≡ true
 or_false true e = refl
@@ -29,6 +29,12 @@ one_is_touched design net t told name among =
 -- and those that list a component by one of that
 pub each_is_touched : (design : List Record) (component : List ℕ) (t : Touched) → AllList design component (t.names ++ star_names t.stars) × (t.component ≡ Some component) → TouchesOnly design (Some (one_component component)) t
 each_is_touched design component t told name among = told.0 name among
+
+-- and those that a pin of the design is of by one of that
+pub of_pin_are_touched : (design : List Record) (pin : List ℕ) (t : Touched) → AllOfPin design pin t.names × (t.stars ≡ []) × (t.component ≡ None) → TouchesOnly design (Some (one_pin pin)) t
+of_pin_are_touched design pin t told name among =
+    let all : t.names ++ star_names t.stars ≡ t.names = rw (told.1) (append-nil t.names) in
+    told.0 name (sym (ap (λ ns. is_one_of ns name) all) ∙ among)
 
 -- of what is found, if anything
 pub found : {A E : Type 0} (P Q : A → Type 0) (r : Result (Option A) E) → ((a : A) → P a → Q a) → IfOk r (λ f. IfSome f P) → IfOk r (λ f. IfSome f Q)

@@ -14,16 +14,17 @@ use Rattle.net_laws.specs.NetExchanges.{finds}
 use Rattle.net_laws.specs.NetsTold.{terminals_in}
 use Rattle.shape_index.specs.Near.{are_near}
 use Rattle.staying_laws.specs.PlaceStatements.{boxes_among}
-use Rattle.followed_nets.specs.Listed.{AreApart}
+use Rattle.followed_nets.specs.Listed.{AreApart, is_of_pin}
 use Rattle.followed_nets.specs.Tests.{FewTests}
 use Rattle.followed_nets.specs.Touched.{Touched, star_names}
 use Rattle.edit_session.specs.declared.change.Change as session
 use Rattle.edit_session.specs.declared.change.Change.TheVariants.{Design, Text}
 
--- what an edit is of: a net, or a component
+-- what an edit is of: a net, a component, or a pin of the design, whose text alone is edited
 pub data Subject : Type 0 where
   one_net : List ℕ → Subject
   one_component : List ℕ → Subject
+  one_pin : List ℕ → Subject
 
 abbrev pub subject_of : Change → Option Subject
 subject_of (of_component name change) = Some (one_component name)
@@ -32,11 +33,12 @@ subject_of (of_section (add_component name cell)) = Some (one_component name)
 subject_of (of_section (remove_component name)) = Some (one_component name)
 subject_of (of_section (add_blockage layer x1 y1 x2 y2)) = None
 
--- it touches a net of a design: it is that net, or lists that component
+-- it touches a net of a design: it is that net, or lists that component, or lists that pin or is named by it
 abbrev pub is_touched : List Record → Option Subject → List ℕ → Bool
 is_touched design None name = false
 is_touched design (Some (one_net net)) name = bytes_eq net name
 is_touched design (Some (one_component c)) name = list_any (finds c) (terminals_in design name)
+is_touched design (Some (one_pin p)) name = is_of_pin design p name
 
 -- and each of some nets
 abbrev pub TouchesEach : List Record → Option Subject → List (List ℕ) → Type 0

@@ -87,6 +87,7 @@ fn touched_by_entry<A: Allocator + Copy>(
             nets.touched_by_net(alloc, library, text, net.name.bytes)
         }
         Entry::SpecialNet(net) => nets.touched_by_net(alloc, library, text, net.name.bytes),
+        Entry::Pin(parts) => nets.touched_by_pin(alloc, library, text, parts.name.bytes),
         _ => Ok(Some(TouchedNets::none(alloc))),
     }
 }
@@ -127,14 +128,12 @@ fn touched<A: Allocator + Copy>(
     }
 }
 
-/// Whether an edit isn't one of what any net may be made of, as `UNITS`, vias, rules and pins of the design are.
+/// Whether an edit isn't one of what any net may be made of, as `UNITS`, vias and rules are.
 fn is_followed<A: Allocator + Copy>(text: &DesignText<A>, change: Change<'_, '_>) -> bool {
     match change {
         Change::Design(_) => true,
         Change::Text(position) => match text.statement_at(position) {
-            Some(Statement::Entry(entry)) => {
-                !matches!(entry, Entry::Pin(_) | Entry::Via(_) | Entry::Rule(_))
-            }
+            Some(Statement::Entry(entry)) => { !matches!(entry, Entry::Via(_) | Entry::Rule(_)) }
             Some(Statement::Units(_)) => false,
             _ => true,
         },

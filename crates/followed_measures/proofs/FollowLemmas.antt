@@ -14,6 +14,7 @@ use Rattle.measuring_laws.specs.Measuring.{ToldCellsFollow, ToldMeasuresFollow, 
 use Rattle.net_laws.specs.NetChanges.{AgreeApart, ToldNetsAreExchanged, is_one_of}
 use Rattle.net_laws.specs.NetsTold.{is_common}
 use Rattle.net_laws.specs.StarNets.{AgreeBut}
+use Rattle.net_laws.specs.Within.{a_component, neither, pin_in}
 use Rattle.net_laws.proofs.Selecting.{selected_alike}
 use Rattle.reports.specs.Answers.{Answers, ReportsOn}
 use Rattle.reports.specs.Densities.{box_shape, box_shapes}
@@ -21,6 +22,7 @@ use Rattle.reports.specs.Exchanges.{ComponentExchanged}
 use Rattle.followed_nets.specs.Heads.{Head}
 use Rattle.followed_nets.specs.Listed.{AreApart}
 use Rattle.followed_nets.specs.StarHeads.{AreStarHeads, ArePinShapes, PinShapes, head_names, pin_names}
+use Rattle.followed_nets.specs.Touched.{subject_by}
 use Rattle.followed_nets.specs.Within.{Leaves}
 use Rattle.followed_nets.proofs.StarHeadLemmas.{star_heads_stay}
 use Rattle.followed_measures.specs.Exchanging.{AwaitsStars}
@@ -32,6 +34,11 @@ use Rattle.followed_measures.proofs.ReportLemmas.{reports_then}
 -- no component is exchanged
 none_placed : (a : Answers) → ComponentExchanged None None a a
 none_placed a = record { layers = refl; nets = refl; total_length = refl; cells = refl; place_cells = record { holds = λ columns rows rest held. held } }
+
+-- an edit of a component, or of none, is of no pin
+pub of_no_pin : (component : Option (List ℕ)) → pin_in (subject_by component None) ≡ None
+of_no_pin None = refl
+of_no_pin (Some c) = refl
 
 -- a net of which there is a head is none of those that no head is of
 not_one : (names : List (List ℕ)) (hs : List Head) → AllByRecursion (λ (h : Head). is_one_of names h.name ≡ false) hs → (net : List ℕ) → is_one_of (head_names hs) net ≡ true → is_one_of names net ≡ false
@@ -56,12 +63,12 @@ later [] ys apart = apart
 later (x ∷ xs) ys apart = later xs ys apart.1
 
 -- heads of nets stay where a component is edited
-pub heads_then : (old new : List Record) (component : List ℕ) → Leaves old new [] (Some component) → (hs : List Head) → AreStarHeads old hs → AreStarHeads new hs
+pub heads_then : (old new : List Record) (component : List ℕ) → Leaves old new [] (a_component component) → (hs : List Head) → AreStarHeads old hs → AreStarHeads new hs
 heads_then old new component leaves hs are = star_heads_stay old new hs (λ net there. (leaves.but component net refl refl).entries) leaves.no_stars are
 
 module _ (library : Library) (old new : List Record) (follow : ToldMeasuresFollow) (exchanged : ToldNetsAreExchanged) (cells_follow : ToldCellsFollow) (nets : List ToldNet) where
   -- an edit of nets alone
-  module _ (is_told : IsToldIn library old (record { nets = nets; component = None; bounds = None; stars = [] })) (names : List (List ℕ)) (named : names ≡ told_names nets) (leaves : Leaves old new names None)
+  module _ (is_told : IsToldIn library old (record { nets = nets; component = None; bounds = None; stars = [] })) (names : List (List ℕ)) (named : names ≡ told_names nets) (leaves : Leaves old new names neither)
       (same_cells : filter (is_of_cells None) old ≡ filter (is_of_cells None) new) where
     nets_apart : AgreeApart old new (is_one_of (told_names nets))
     nets_apart =
@@ -88,7 +95,7 @@ module _ (library : Library) (old new : List Record) (follow : ToldMeasuresFollo
     nothing_exchanged none a = subst (λ (ns : List ToldNet). NetsExchanged library old new (told_names ns) a a) (sym none) (exchange_of_none library old new a)
 
   -- an edit of a component
-  module _ (component : List ℕ) (bounds : Option Rectangle) (stars : List PinShapes) (is_told : IsToldIn library old (record { nets = nets; component = Some component; bounds = bounds; stars = stars })) (leaves : Leaves old new [] (Some component))
+  module _ (component : List ℕ) (bounds : Option Rectangle) (stars : List PinShapes) (is_told : IsToldIn library old (record { nets = nets; component = Some component; bounds = bounds; stars = stars })) (leaves : Leaves old new [] (a_component component))
       (same_cells : filter (is_of_cells (Some component)) old ≡ filter (is_of_cells (Some component)) new) where
     agree : (net : List ℕ) → AgreeBut old new net component
     agree net = leaves.but component net refl refl

@@ -13,10 +13,12 @@ use Rattle.design_rules.specs.Boxes.{Boxed, box_of, component_box, scale}
 use Rattle.measuring_laws.specs.Measuring.{own_boxes}
 use Rattle.net_laws.specs.NetsTold.{is_common}
 use Rattle.net_laws.specs.StarNets.{those_named}
-use Rattle.net_laws.specs.Within.{NoOtherLists}
+use Rattle.net_laws.specs.Within.{NoOtherLists, a_component}
 use Rattle.reports.specs.Densities.{box_shape, box_shapes}
 use Rattle.followed_nets.specs.Listed.{AreApart}
+use Rattle.followed_nets.specs.Noted.{tells_any}
 use Rattle.followed_nets.specs.StarHeads.{AreAllListing, ArePinShapes, PinShapes, pin_names}
+use Rattle.followed_nets.proofs.TellLemmas.{commons_in}
 use Rattle.followed_nets.proofs.TellOneLemmas.{theirs}
 use Rattle.followed_nets.proofs.ToldNets.{none_lists}
 use Rattle.followed_measures.specs.Told.{IsNetIn, IsToldIn, ToldNet, told_names}
@@ -43,7 +45,7 @@ module _ (library : Library) (design : List Record) where
       record {
         nets_are = are;
         apart = subst AreApart same all.apart;
-        lists = subst (λ (ns : List (List ℕ)). NoOtherLists design ns (Some component)) same all.lists;
+        lists = subst (λ (ns : List (List ℕ)). NoOtherLists design ns (a_component component)) same all.lists;
         box_is = box_is;
         pins_are = pins;
       }
@@ -75,15 +77,6 @@ module _ (library : Library) (design : List Record) where
       ∙ ap (filter_map (component_box library u)) (theirs component design)
       ∙ ap (λ (v : ℕ). filter_map (component_box library v) (those_named component design)) scaled)
 
--- those that pass a test pass it once more
-again : {A : Type 0} (p : A → Bool) (xs : List A) → filter p (filter p xs) ≡ filter p xs
-again p [] = refl
-again p (x ∷ xs) = step (p x) refl (again p xs)
-  where
-    step : (b : Bool) → p x ≡ b → filter p (filter p xs) ≡ filter p xs → filter p (if b then x ∷ filter p xs else filter p xs) ≡ (if b then x ∷ filter p xs else filter p xs)
-    step true is later = rw is (ap (λ ys. x ∷ ys) later)
-    step false is later = later
-
--- what any net may be made of tells the scale
-pub common_scale : (some design : List Record) → some ≡ filter is_common design → scale some ≡ scale design
-common_scale some design are = same_scale some design (ap (filter is_common) are ∙ again is_common design)
+-- what is read whichever net is told tells the scale
+pub common_scale : (some design : List Record) → some ≡ filter tells_any design → scale some ≡ scale design
+common_scale some design are = same_scale some design (ap (filter is_common) are ∙ commons_in design)

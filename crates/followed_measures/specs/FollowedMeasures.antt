@@ -8,8 +8,8 @@ use Rattle.followed_nets.specs.Heads.{Head}
 use Rattle.followed_nets.specs.Noted.{AreCommon, said}
 use Rattle.followed_nets.specs.StarHeads.{AreStarHeads}
 
--- the answers; once they were asked for, the numbers of the statements that any net may be made of, and heads of the nets that list a pin
--- of all components, unless there are none to be had
+-- the answers; once they were asked for, the numbers of the statements that are read whichever net is told, and heads of the nets that list a
+-- pin of all components, unless there are none to be had
 pub record Measures : Type 0 where
   pub answers : Answers
   pub common : Option (List StmtId)

@@ -16,6 +16,7 @@ use Rattle.net_laws.specs.Within.{NoOtherLists}
 use Rattle.reports.specs.Densities.{box_shape, box_shapes}
 use Rattle.followed_nets.specs.Listed.{AreApart}
 use Rattle.followed_nets.specs.StarHeads.{ArePinShapes, PinShapes, pin_names}
+use Rattle.followed_nets.specs.Touched.{subject_by}
 
 -- a net: its name, the length of its wires, its shapes, and the box round these
 pub record ToldNet : Type 0 where
@@ -51,6 +52,6 @@ ArePinsOf library design (Some component) stars = ArePinShapes library design co
 pub record IsToldIn (library : Library) (design : List Record) (t : Told) : Type 0 where
   pub nets_are : AllByRecursion (IsNetIn library design) t.nets
   pub apart : AreApart (told_names t.nets ++ pin_names t.stars)
-  pub lists : NoOtherLists design (told_names t.nets ++ pin_names t.stars) t.component
+  pub lists : NoOtherLists design (told_names t.nets ++ pin_names t.stars) (subject_by t.component None)
   pub box_is : box_shapes t.bounds ≡ map box_shape (own_boxes library design t.component)
   pub pins_are : ArePinsOf library design t.component t.stars

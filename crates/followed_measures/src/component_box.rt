@@ -21,8 +21,8 @@ use place_checks::last_macros::LastMacros;
 use place_checks::scale::scale_of;
 use std::alloc::{AllocError, Allocator};
 
-/// The box of the component of a name in a text, where it takes part. Its entry alone is read, and the statements that any net may be made
-/// of, which have these numbers and tell the scale.
+/// The box of the component of a name in a text, where it takes part. Its entry alone is read, and the statements that are read whichever
+/// net is told, which have these numbers and tell the scale.
 pub(crate) fn box_in<'t, A: Allocator + Copy>(
     alloc: A,
     library: &'t Library<'_, A>,

@@ -8,12 +8,15 @@ ghost use Rattle.def_grammar.specs.Records.{Record};
 ghost use Rattle.design_model.specs.Views.{rectangle_of};
 ghost use Rattle.measuring_laws.specs.Measuring.{is_of_cells};
 ghost use Rattle.net_laws.specs.NetChanges.{is_one_of};
+ghost use Rattle.net_laws.specs.Within.{pin_in};
 ghost use Rattle.design_text.specs.DesignTexts.{design_of};
 ghost use Rattle.design_text.specs.Exchanges.{AreExchanges, records_in};
 ghost use Rattle.reports.specs.Answers.{ReportsOn};
 ghost use Rattle.followed_nets.specs.Noted.{AreCommon, said};
 ghost use Rattle.followed_nets.specs.StarHeads.{AreStarHeads};
 ghost use Rattle.followed_nets.specs.StarHeadViews.{pins_view};
+ghost use Rattle.followed_nets.specs.SubjectViews.{subject_view};
+ghost use Rattle.followed_nets.specs.Touched.{subject_by};
 ghost use Rattle.followed_nets.specs.Within.{Leaves};
 ghost use Rattle.followed_measures.specs.FollowedMeasures.{HasMeasures};
 ghost use Rattle.followed_measures.specs.Told.{IsToldIn, told_names};
@@ -30,7 +33,7 @@ use design_model::identifier::StmtId;
 use design_names::names::names_of;
 use design_text::made::Made;
 use design_text::text::DesignText;
-use followed_nets::{StarHeads, common_numbers, exchanges_are_within};
+use followed_nets::{EditSubject, StarHeads, common_numbers, exchanges_are_within};
 use line_laws::scales::scales_are_good;
 use measure_laws::lengths::lengths_fit;
 use measure_laws::ranges::lines_fit;
@@ -44,7 +47,7 @@ use std::marker::Model;
 /// What was measured of a text, and what is noted of its statements once an edit is to be followed.
 pub struct FollowedMeasures<A: Allocator = Global> {
     reports: Reports<A>,
-    /// The numbers of those that any net may be made of.
+    /// The numbers of those that are read whichever net is told.
     common: Option<Vec<StmtId, A>>,
     /// The nets that list a pin of all components, unless these can't be followed.
     heads: Option<StarHeads<A>>,
@@ -101,6 +104,17 @@ fn names_in<A: Allocator + Copy>(
     Ok(names)
 }
 
+/// What an edit is of: this component, or none.
+fn subject_of(component: Option<&[u8]>) -> EditSubject<'_>
+    ensures subject { subject_view result ≡ subject_by (option_map (λ w. w.now) component.entry) None }
+    ensures no_pin { pin_in (subject_view result) ≡ None }
+{
+    match component {
+        Some(name) => EditSubject::Component(name),
+        None => EditSubject::Neither,
+    }
+}
+
 /// What an edit of these nets, or of this component, leaves: nothing else of what nets are made of was exchanged, and nothing else of
 /// what cells hold beside nets.
 fn leaves_others<A: Allocator + Copy>(
@@ -112,10 +126,10 @@ fn leaves_others<A: Allocator + Copy>(
 ) -> Result<bool, AllocError>
     requires { (old : List (Number × Record)) × AreExchanges text.now.pieces.table.slots old made.now.exchanges (records_in text.now) }
     ensures { (old : List (Number × Record)) (common : List Number) → AreExchanges text.now.pieces.table.slots old made.now.exchanges (records_in text.now) → AreCommon old common
-        → IfOk result (λ b. b ≡ true → Leaves (said old) (said (records_in text.now)) nets.now (option_map (λ w. w.now) component.entry) × AreCommon (records_in text.now) common
+        → IfOk result (λ b. b ≡ true → Leaves (said old) (said (records_in text.now)) nets.now (subject_by (option_map (λ w. w.now) component.entry) None) × AreCommon (records_in text.now) common
         × (filter (is_of_cells (option_map (λ w. w.now) component.entry)) (said old) ≡ filter (is_of_cells (option_map (λ w. w.now) component.entry)) (said (records_in text.now)))) }
 {
-    if !exchanges_are_within(alloc, text, made, nets, component)? {
+    if !exchanges_are_within(alloc, text, made, nets, subject_of(component))? {
         return Ok(false);
     }
     exchanges_leave_cells(alloc, text, made, component)

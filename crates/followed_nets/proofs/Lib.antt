@@ -16,6 +16,7 @@ mod NearPairs
 mod NetWalls
 mod NotBoth
 mod NoteLemmas
+mod NumberLemmas
 mod OneEntry
 mod OthersLeft
 mod PartedNets
@@ -27,7 +28,7 @@ mod SameParts
 mod ShortLines
 pub mod StarHeadLemmas
 mod StarsLeft
-mod TellLemmas
+pub mod TellLemmas
 pub mod TellOneLemmas
 mod ToldLemmas
 pub mod ToldNets

@@ -1,4 +1,4 @@
--- A net's entry with the components that it lists, behind the statements that any net may be made of, tells the net.
+-- A net's entry with the components that it lists, behind the statements that are read whichever net is told, tells the net.
 use Rattle.std.proofs.Common.{◌≡◌, ◌∙◌, ℕ, Bool, true, false, ◌||◌, List, [], ◌∷◌, ◌++◌, filter, flat_map, Option, Some, None, refl, sym, ap, ap₂, append-nil, append_assoc, option_to_list, if◌then◌else◌}
 use Rattle.std.specs.List.{AllByRecursion, filter_map, list_any}
 use Rattle.std.specs.Option.{option_map}
@@ -13,22 +13,26 @@ use Rattle.def_grammar.specs.Records.{Record, component_of, end_section, entry, 
 use Rattle.def_grammar.specs.Terminals.{Terminal, is_of_all}
 use Rattle.entry_rules.specs.Unknown.{component_named}
 use Rattle.net_laws.specs.NetsTold.{FindsAlike, is_common, is_of_net, net_of_record, terminals_in, terminals_of}
-use Rattle.net_laws.specs.OneNet.{TellNet}
+use Rattle.net_laws.specs.OneNet.{AllPinsTell, TellNet, is_of_pins}
+use Rattle.followed_nets.specs.Noted.{tells_any}
 use Rattle.followed_nets.specs.Owners.{HasOwners, as_record, owners_in}
 
 abbrev name_of : Component → List ℕ
 name_of c = c.name
 
--- what a test lets through passes it again
+-- a test lets through what another one lets through that says less
+module _ {A : Type 0} (wide test : A → Bool) (so : (a : A) → test a ≡ true → wide a ≡ true) where
+  within_both : (b c : Bool) (a : A) (left all : List A) → wide a ≡ b → test a ≡ c → filter test left ≡ all → filter test (if b then a ∷ left else left) ≡ (if c then a ∷ all else all)
+  within_both true true a left all w t later = rw t (ap (λ (l : List A). a ∷ l) later)
+  within_both true false a left all w t later = rw t later
+  within_both false true a left all w t later = let both = sym w ∙ so a t in absurd (cc)
+  within_both false false a left all w t later = later
+
+  pub filtered_within : (xs : List A) → filter test (filter wide xs) ≡ filter test xs
+  filtered_within [] = refl
+  filtered_within (a ∷ xs) = within_both (wide a) (test a) a (filter wide xs) (filter test xs) refl refl (filtered_within xs)
+
 module _ {A : Type 0} (test : A → Bool) where
-  kept_again : (b : Bool) (a : A) (left : List A) → test a ≡ b → filter test left ≡ left → filter test (if b then a ∷ left else left) ≡ (if b then a ∷ left else left)
-  kept_again true a left is later = rw is (ap (λ (l : List A). a ∷ l) later)
-  kept_again false a left is later = later
-
-  pub filtered_again : (xs : List A) → filter test (filter test xs) ≡ filter test xs
-  filtered_again [] = refl
-  filtered_again (a ∷ xs) = kept_again (test a) a (filter test xs) refl (filtered_again xs)
-
   first_passes : (b : Bool) (x a : A) (left : List A) → test x ≡ b → (if b then x ∷ left else left) ≡ a ∷ [] → (left ≡ a ∷ [] → test a ≡ true) → test a ≡ true
   first_passes true x a left h is later = let same : x ≡ a = cc in ap test (sym same) ∙ h
   first_passes false x a left h is later = later is
@@ -56,8 +60,25 @@ module _ {A B : Type 0} (test : A → Bool) (select : A → Option B) (nothing :
   none_selected [] = refl
   none_selected (a ∷ xs) = none_more (test a) a (filter test xs) refl (none_selected xs)
 
--- a common statement is no entry of a net, and no component
-pub no_net_entry : (name : List ℕ) (r : Record) → is_common r ≡ true → is_of_net name r ≡ false
+-- what any net may be made of is read whichever net is told, and so is a pin of the design
+or_true : (b : Bool) → (b || true) ≡ true
+or_true true = refl
+or_true false = refl
+
+pub common_tells : (r : Record) → is_common r ≡ true → tells_any r ≡ true
+common_tells r is = ap (λ (b : Bool). b || is_of_pins r) is
+
+pub pin_tells : (r : Record) → is_of_pins r ≡ true → tells_any r ≡ true
+pin_tells r is = ap (λ (b : Bool). is_common r || b) is ∙ or_true (is_common r)
+
+pub commons_in : (design : List Record) → filter is_common (filter tells_any design) ≡ filter is_common design
+commons_in design = filtered_within tells_any is_common common_tells design
+
+pub pins_in : (design : List Record) → filter is_of_pins (filter tells_any design) ≡ filter is_of_pins design
+pins_in design = filtered_within tells_any is_of_pins pin_tells design
+
+-- such a statement is no entry of a net, and no component
+pub no_net_entry : (name : List ℕ) (r : Record) → tells_any r ≡ true → is_of_net name r ≡ false
 no_net_entry name (top t) h = refl
 no_net_entry name (in_properties p) h = refl
 no_net_entry name (end_section s) h = refl
@@ -72,7 +93,7 @@ no_net_entry name (entry (records.via x)) h = refl
 no_net_entry name (entry (records.rule x)) h = refl
 no_net_entry name (entry (records.skipped s x)) h = refl
 
-pub no_net : (r : Record) → is_common r ≡ true → net_of_record r ≡ None
+pub no_net : (r : Record) → tells_any r ≡ true → net_of_record r ≡ None
 no_net (top t) h = refl
 no_net (in_properties p) h = refl
 no_net (end_section s) h = refl
@@ -87,7 +108,7 @@ no_net (entry (records.via x)) h = refl
 no_net (entry (records.rule x)) h = refl
 no_net (entry (records.skipped s x)) h = refl
 
-pub no_component : (r : Record) → is_common r ≡ true → component_of r ≡ None
+pub no_component : (r : Record) → tells_any r ≡ true → component_of r ≡ None
 no_component (top t) h = refl
 no_component (in_properties p) h = refl
 no_component (end_section s) h = refl
@@ -105,6 +126,7 @@ no_component (entry (records.skipped s x)) h = refl
 -- an entry of a net is nothing else, and has the net's name
 pub record IsEntryOf (name : List ℕ) (r : Record) : Type 0 where
   pub not_common : is_common r ≡ false
+  pub no_pin : is_of_pins r ≡ false
   pub no_component : component_of r ≡ None
   pub net_is : net_of_record r ≡ Some name
 
@@ -118,8 +140,8 @@ is_entry_of name (entry (records.region x)) h = absurd (cc)
 is_entry_of name (entry (records.group x)) h = absurd (cc)
 is_entry_of name (entry (records.blockage x)) h = absurd (cc)
 is_entry_of name (entry (records.net (must_join x))) h = absurd (cc)
-is_entry_of name (entry (records.net (is_net n))) h = record { not_common = refl; no_component = refl; net_is = ap (λ (own : List ℕ). Some own) ((bytes_eq-Decides n.name name).0 h) }
-is_entry_of name (entry (records.special_net n)) h = record { not_common = refl; no_component = refl; net_is = ap (λ (own : List ℕ). Some own) ((bytes_eq-Decides n.name name).0 h) }
+is_entry_of name (entry (records.net (is_net n))) h = record { not_common = refl; no_pin = refl; no_component = refl; net_is = ap (λ (own : List ℕ). Some own) ((bytes_eq-Decides n.name name).0 h) }
+is_entry_of name (entry (records.special_net n)) h = record { not_common = refl; no_pin = refl; no_component = refl; net_is = ap (λ (own : List ℕ). Some own) ((bytes_eq-Decides n.name name).0 h) }
 is_entry_of name (entry (records.via x)) h = absurd (cc)
 is_entry_of name (entry (records.rule x)) h = absurd (cc)
 is_entry_of name (entry (records.skipped s x)) h = absurd (cc)
@@ -223,13 +245,13 @@ module _ (design : List Record) where
         let there : list_any (is_owner t.owner) all ≡ true = ap (list_any (is_owner t.owner)) is ∙ any_there t.owner front ts t ((bytes_eq-Decides t.owner t.owner).1 refl) in
         (record { named = alike t there; all = not_of_all t both.0 }, all_alike (front ++ t ∷ []) ts (is ∙ sym (append_assoc front (t ∷ []) ts)) both.1)
 
--- The components that the entry of a net lists, and the entry, behind the common statements of a design, tell the net.
-module _ (design : List Record) (name : List ℕ) (e : Record) (only : filter (is_of_net name) design ≡ e ∷ []) (none : list_any is_of_all (terminals_of e) ≡ false) where
+-- The components that the entry of a net lists, and the entry, behind these statements of a design, tell the net.
+module _ (law : AllPinsTell) (design : List Record) (name : List ℕ) (e : Record) (only : filter (is_of_net name) design ≡ e ∷ []) (none : list_any is_of_all (terminals_of e) ≡ false) where
   own : IsEntryOf name e
   own = is_entry_of name e (passes (is_of_net name) design e only)
 
   abbrev commons : List Record
-  commons = filter is_common design
+  commons = filter tells_any design
 
   abbrev owners : List Record
   owners = owners_in design (terminals_of e)
@@ -248,13 +270,19 @@ module _ (design : List Record) (name : List ℕ) (e : Record) (only : filter (i
   common : filter is_common these ≡ filter is_common design
   common =
       those is_common (λ c. refl)
-      ∙ ap₂ (λ (a b : List Record). a ++ b) (filtered_again is_common design) (ap (λ (b : Bool). if b then e ∷ [] else []) own.not_common)
-      ∙ append-nil commons
+      ∙ ap₂ (λ (a b : List Record). a ++ b) (commons_in design) (ap (λ (b : Bool). if b then e ∷ [] else []) own.not_common)
+      ∙ append-nil (filter is_common design)
+
+  same_pins : filter is_of_pins these ≡ filter is_of_pins design
+  same_pins =
+      those is_of_pins (λ c. refl)
+      ∙ ap₂ (λ (a b : List Record). a ++ b) (pins_in design) (ap (λ (b : Bool). if b then e ∷ [] else []) own.no_pin)
+      ∙ append-nil (filter is_of_pins design)
 
   entries : filter (is_of_net name) these ≡ filter (is_of_net name) design
   entries =
       those (is_of_net name) (λ c. refl)
-      ∙ ap₂ (λ (a b : List Record). a ++ b) (none_of_others is_common (is_of_net name) (no_net_entry name) design)
+      ∙ ap₂ (λ (a b : List Record). a ++ b) (none_of_others tells_any (is_of_net name) (no_net_entry name) design)
       (ap (λ (b : Bool). if b then e ∷ [] else []) (passes (is_of_net name) design e only))
       ∙ sym only
 
@@ -263,14 +291,14 @@ module _ (design : List Record) (name : List ℕ) (e : Record) (only : filter (i
       filter_map-append component_of (commons ++ owners) (e ∷ [])
       ∙ ap₂ (λ (a b : List Component). a ++ b) (filter_map-append component_of commons owners) (ap (λ (c : Option Component). filter_map (λ (o : Option Component). o) (c ∷ [])) own.no_component)
       ∙ append-nil (filter_map component_of commons ++ filter_map component_of owners)
-      ∙ ap₂ (λ (a b : List Component). a ++ b) (none_selected is_common component_of no_component design) (owners_are design (terminals_of e))
+      ∙ ap₂ (λ (a b : List Component). a ++ b) (none_selected tells_any component_of no_component design) (owners_are design (terminals_of e))
 
   only_name : filter_map net_of_record these ≡ name ∷ []
   only_name =
       filter_map-append net_of_record (commons ++ owners) (e ∷ [])
       ∙ ap₂ (λ (a b : List (List ℕ)). a ++ b)
       (filter_map-append net_of_record commons owners
-      ∙ ap₂ (λ (a b : List (List ℕ)). a ++ b) (none_selected is_common net_of_record no_net design) (owners_no_nets design (terminals_of e)))
+      ∙ ap₂ (λ (a b : List (List ℕ)). a ++ b) (none_selected tells_any net_of_record no_net design) (owners_no_nets design (terminals_of e)))
       (ap (λ (n : Option (List ℕ)). filter_map (λ (o : Option (List ℕ)). o) (n ∷ [])) own.net_is)
 
   listed : terminals_in these name ≡ terminals_of e
@@ -278,14 +306,14 @@ module _ (design : List Record) (name : List ℕ) (e : Record) (only : filter (i
 
   these_are : TellNet these design name
   these_are = record {
-    agree = record { common = common; entries = entries; components = rw listed (all_alike design these (terminals_of e) components_are [] (terminals_of e) refl none) };
+    agree = record { common = common; entries = entries; pins = law these design name (ap (flat_map terminals_of) entries) same_pins; components = rw listed (all_alike design these (terminals_of e) components_are [] (terminals_of e) refl none) };
     only = only_name;
   }
 
 -- so they do once they were put one behind the other
-pub these_tell : (design : List Record) (name : List ℕ) (e : Record) (commons with_owners some : List Record) → filter (is_of_net name) design ≡ e ∷ [] → commons ≡ filter is_common design
+pub these_tell : AllPinsTell → (design : List Record) (name : List ℕ) (e : Record) (commons with_owners some : List Record) → filter (is_of_net name) design ≡ e ∷ [] → commons ≡ filter tells_any design
     → HasOwners design (terminals_of e) commons with_owners → some ≡ with_owners ++ e ∷ [] → TellNet some design name
-these_tell design name e commons with_owners some only commons_are has some_is =
-    let is : some ≡ (filter is_common design ++ owners_in design (terminals_of e)) ++ e ∷ [] =
+these_tell law design name e commons with_owners some only commons_are has some_is =
+    let is : some ≡ (filter tells_any design ++ owners_in design (terminals_of e)) ++ e ∷ [] =
     some_is ∙ ap (λ (l : List Record). l ++ e ∷ []) (has.new_is ∙ ap (λ (l : List Record). l ++ owners_in design (terminals_of e)) commons_are) in
-    rw is (these_are design name e only has.named)
+    rw is (these_are law design name e only has.named)

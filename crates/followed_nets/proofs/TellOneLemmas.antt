@@ -1,4 +1,4 @@
--- An entry of a net with a component, behind the statements that any net may be made of, tells what that component is to the net.
+-- An entry of a net with a component, behind the statements that are read whichever net is told, tells what that component is to the net.
 use Rattle.std.proofs.Common.{◌≡◌, ◌∙◌, ℕ, Bool, true, false, ◌&&◌, List, [], ◌∷◌, ◌++◌, filter, flat_map, Option, Some, None, refl, sym, ap, ap₂, append-nil, if◌then◌else◌}
 use Rattle.std.specs.List.{filter_map}
 use Rattle.std.specs.Str.{bytes_eq}
@@ -10,9 +10,11 @@ use Rattle.def_grammar.specs.Nets.{is_net, must_join}
 use Rattle.def_grammar.specs.Records as records
 use Rattle.def_grammar.specs.Records.{Record, component_of, end_section, entry, in_properties, top}
 use Rattle.net_laws.specs.NetsTold.{is_common, is_of_net, net_of_record, terminals_in, terminals_of}
+use Rattle.net_laws.specs.OneNet.{AllPinsTell, is_of_pins}
 use Rattle.net_laws.specs.StarNets.{TellOne, those_named}
+use Rattle.followed_nets.specs.Noted.{tells_any}
 use Rattle.followed_nets.proofs.OneEntry.{is_in}
-use Rattle.followed_nets.proofs.TellLemmas.{IsEntryOf, filtered_again, is_entry_of, no_component, no_net, no_net_entry, none_of_others, none_selected}
+use Rattle.followed_nets.proofs.TellLemmas.{IsEntryOf, commons_in, is_entry_of, no_component, no_net, no_net_entry, none_of_others, none_selected, pins_in}
 
 module _ (name : List ℕ) where
   abbrev owns : Record → Bool
@@ -71,6 +73,22 @@ module _ (name : List ℕ) where
   not_common (entry (records.rule x)) h = absurd (cc)
   not_common (entry (records.skipped s x)) h = refl
 
+  no_pin : (r : Record) → owns r ≡ true → is_of_pins r ≡ false
+  unfolding Rattle.design_model.specs.EnumWords.section_word
+  no_pin (top t) h = refl
+  no_pin (in_properties p) h = refl
+  no_pin (end_section s) h = refl
+  no_pin (entry (records.component x)) h = refl
+  no_pin (entry (records.pin x)) h = absurd (cc)
+  no_pin (entry (records.region x)) h = refl
+  no_pin (entry (records.group x)) h = refl
+  no_pin (entry (records.blockage x)) h = refl
+  no_pin (entry (records.net x)) h = refl
+  no_pin (entry (records.special_net x)) h = refl
+  no_pin (entry (records.via x)) h = refl
+  no_pin (entry (records.rule x)) h = refl
+  no_pin (entry (records.skipped s x)) h = refl
+
   no_entry : (net : List ℕ) (r : Record) → owns r ≡ true → is_of_net net r ≡ false
   unfolding Rattle.design_model.specs.EnumWords.section_word
   no_entry net (top t) h = refl
@@ -105,12 +123,12 @@ module _ (name : List ℕ) where
   no_name (entry (records.rule x)) h = refl
   no_name (entry (records.skipped s x)) h = refl
 
-module _ (design : List Record) (net component : List ℕ) (e : Record) (of_net : is_of_net net e ≡ true) (lists : terminals_of e ≡ terminals_in design net) where
+module _ (law : AllPinsTell) (design : List Record) (net component : List ℕ) (e : Record) (of_net : is_of_net net e ≡ true) (lists : terminals_of e ≡ terminals_in design net) where
   own : IsEntryOf net e
   own = is_entry_of net e of_net
 
   abbrev commons : List Record
-  commons = filter is_common design
+  commons = filter tells_any design
 
   abbrev ours : List Record
   ours = filter (owns component) design
@@ -125,39 +143,51 @@ module _ (design : List Record) (net component : List ℕ) (e : Record) (of_net 
   selected : {B : Type 0} (select : Record → Option B) → filter_map select these ≡ (filter_map select commons ++ filter_map select ours) ++ filter_map select (e ∷ [])
   selected {B = B} select = filter_map-append select (commons ++ ours) (e ∷ []) ∙ ap (λ (l : List B). l ++ filter_map select (e ∷ [])) (filter_map-append select commons ours)
 
+  same_terminals : terminals_in these net ≡ terminals_in design net
+  same_terminals =
+      ap (flat_map terminals_of) (
+      those (is_of_net net)
+      ∙ ap₂ (λ (a b : List Record). a ++ b)
+      (ap₂ (λ (a b : List Record). a ++ b) (none_of_others tells_any (is_of_net net) (no_net_entry net) design) (none_of_others (owns component) (is_of_net net) (no_entry component net) design))
+      (ap (λ (b : Bool). if b then e ∷ [] else []) of_net))
+      ∙ append-nil (terminals_of e)
+      ∙ lists
+
+  same_pins : filter is_of_pins these ≡ filter is_of_pins design
+  same_pins =
+      those is_of_pins
+      ∙ ap₂ (λ (a b : List Record). a ++ b)
+      (ap₂ (λ (a b : List Record). a ++ b) (pins_in design) (none_of_others (owns component) is_of_pins (no_pin component) design) ∙ append-nil (filter is_of_pins design))
+      (ap (λ (b : Bool). if b then e ∷ [] else []) own.no_pin)
+      ∙ append-nil (filter is_of_pins design)
+
   these_are : TellOne these design net component
   these_are = record {
     common =
         those is_common
         ∙ ap₂ (λ (a b : List Record). a ++ b)
-        (ap₂ (λ (a b : List Record). a ++ b) (filtered_again is_common design) (none_of_others (owns component) is_common (not_common component) design) ∙ append-nil commons)
+        (ap₂ (λ (a b : List Record). a ++ b) (commons_in design) (none_of_others (owns component) is_common (not_common component) design) ∙ append-nil (filter is_common design))
         (ap (λ (b : Bool). if b then e ∷ [] else []) own.not_common)
-        ∙ append-nil commons;
-    terminals =
-        ap (flat_map terminals_of) (
-        those (is_of_net net)
-        ∙ ap₂ (λ (a b : List Record). a ++ b)
-        (ap₂ (λ (a b : List Record). a ++ b) (none_of_others is_common (is_of_net net) (no_net_entry net) design) (none_of_others (owns component) (is_of_net net) (no_entry component net) design))
-        (ap (λ (b : Bool). if b then e ∷ [] else []) of_net))
-        ∙ append-nil (terminals_of e)
-        ∙ lists;
+        ∙ append-nil (filter is_common design);
+    terminals = same_terminals;
+    pins = law these design net same_terminals same_pins;
     components =
         selected component_of
         ∙ ap₂ (λ (a b : List Component). a ++ b)
-        (ap₂ (λ (a b : List Component). a ++ b) (none_selected is_common component_of no_component design) (theirs component design))
+        (ap₂ (λ (a b : List Component). a ++ b) (none_selected tells_any component_of no_component design) (theirs component design))
         (ap (λ (c : Option Component). filter_map (λ (o : Option Component). o) (c ∷ [])) own.no_component)
         ∙ append-nil (those_named component design);
     only =
         selected net_of_record
         ∙ ap₂ (λ (a b : List (List ℕ)). a ++ b)
-        (ap₂ (λ (a b : List (List ℕ)). a ++ b) (none_selected is_common net_of_record no_net design) (none_selected (owns component) net_of_record (no_name component) design))
+        (ap₂ (λ (a b : List (List ℕ)). a ++ b) (none_selected tells_any net_of_record no_net design) (none_selected (owns component) net_of_record (no_name component) design))
         (ap (λ (n : Option (List ℕ)). filter_map (λ (o : Option (List ℕ)). o) (n ∷ [])) own.net_is);
   }
 
 -- so they do once they were put one behind the other
-pub these_tell_one : (design : List Record) (net component : List ℕ) (e : Record) (commons with_own some : List Record) → is_of_net net e ≡ true → terminals_of e ≡ terminals_in design net → commons ≡ filter is_common design
+pub these_tell_one : AllPinsTell → (design : List Record) (net component : List ℕ) (e : Record) (commons with_own some : List Record) → is_of_net net e ≡ true → terminals_of e ≡ terminals_in design net → commons ≡ filter tells_any design
     → with_own ≡ commons ++ filter (is_in Components component) design → some ≡ with_own ++ e ∷ [] → TellOne some design net component
-these_tell_one design net component e commons with_own some of_net lists commons_are own_is some_is =
-    let is : some ≡ (filter is_common design ++ filter (is_in Components component) design) ++ e ∷ [] =
+these_tell_one law design net component e commons with_own some of_net lists commons_are own_is some_is =
+    let is : some ≡ (filter tells_any design ++ filter (is_in Components component) design) ++ e ∷ [] =
     some_is ∙ ap (λ (l : List Record). l ++ e ∷ []) (own_is ∙ ap (λ (l : List Record). l ++ filter (is_in Components component) design) commons_are) in
-    rw is (these_are design net component e of_net lists)
+    rw is (these_are law design net component e of_net lists)

@@ -1,5 +1,5 @@
 -- What is told of nets, one after the other; and which nets list a component.
-use Rattle.std.proofs.Common.{◌≡◌, ◌∙◌, ◌<◌, ◌+◌, ◌||◌, ◌&&◌, ℕ, Bool, true, false, not, List, [], ◌∷◌, ◌++◌, drop, get_or, length, map, append_assoc, Some, None, refl, sym, ap, ap₂, subst}
+use Rattle.std.proofs.Common.{◌≡◌, ◌∙◌, ◌<◌, ◌+◌, ◌||◌, ◌&&◌, ℕ, Bool, true, false, not, List, [], ◌∷◌, ◌++◌, drop, get_or, length, map, append-nil, append_assoc, Some, None, refl, sym, ap, ap₂, subst}
 use Rattle.std.specs.List.{AllByRecursion, list_any}
 use Rattle.std.specs.Str.{bytes_eq}
 use Rattle.std.proofs.lemmas.List.{drop_more, map-append}
@@ -15,9 +15,9 @@ use Rattle.net_laws.specs.NetChanges.{is_one_of}
 use Rattle.net_laws.specs.NetExchanges.{finds}
 use Rattle.net_laws.specs.NetsTold.{terminals_in}
 use Rattle.net_laws.specs.StarNets.{pins_by_one}
-use Rattle.net_laws.specs.Within.{NoOtherLists, finds_it}
+use Rattle.net_laws.specs.Within.{NoOtherLists, a_component, a_pin, finds_it, neither}
 use Rattle.followed_nets.specs.Exchanging.{AreToldIn, name_of}
-use Rattle.followed_nets.specs.Listed.{AreListing, is_pin_of}
+use Rattle.followed_nets.specs.Listed.{AreListing, AreListingPin, is_pin_of}
 use Rattle.followed_nets.specs.Stars.{AreStarNames, names_of}
 use Rattle.followed_nets.specs.Told.{IsToldIn, Told}
 use Rattle.followed_nets.specs.Touched.{ArePinsBy, AreTouched, StarPins, star_names}
@@ -93,7 +93,7 @@ module _ (name : List ℕ) (no_pin : is_of_design (record { owner = name; pin = 
       ap₂ (λ (a b : Bool). a || b) (same_test t (bytes_eq t.owner name) both.0 refl) (same_tests ts both.1)
 
   pub no_other_lists : (design : List Record) (nets stars listing : List (List ℕ)) → AreStarNames design stars → AreListing design name listing
-      → ((net : List ℕ) → is_one_of listing net ≡ true → is_one_of (nets ++ stars) net ≡ true) → NoOtherLists design (nets ++ stars) (Some name)
+      → ((net : List ℕ) → is_one_of listing net ≡ true → is_one_of (nets ++ stars) net ≡ true) → NoOtherLists design (nets ++ stars) (a_component name)
   no_other_lists design nets stars listing names listed cover net out =
       let apart = none_of_both (is_one_of nets net) (is_one_of stars net) (sym (list_any-append (λ n. bytes_eq n net) nets stars) ∙ out) in
       same_tests (terminals_in design net) (names.all net apart.1)
@@ -103,17 +103,21 @@ module _ (name : List ℕ) (no_pin : is_of_design (record { owner = name; pin = 
       differ true h g = cc
       differ false h g = cc
 
+-- nets that list a pin of the design are all
+pub no_other_lists_pin : (design : List Record) (pin : List ℕ) (nets : List (List ℕ)) → AreListingPin design pin nets → NoOtherLists design (nets ++ []) (a_pin pin)
+no_other_lists_pin design pin nets listed net out = listed net (ap (λ (ns : List (List ℕ)). is_one_of ns net) (sym (append-nil nets)) ∙ out)
+
 -- no component is listed by no net
-pub none_lists : (design : List Record) (nets : List (List ℕ)) → NoOtherLists design nets None
+pub none_lists : (design : List Record) (nets : List (List ℕ)) → NoOtherLists design nets neither
 none_lists design nets net out = none (terminals_in design net)
   where
-    none : (ts : List Terminal) → list_any (finds_it None) ts ≡ false
+    none : (ts : List Terminal) → list_any (finds_it neither) ts ≡ false
     none [] = refl
     none (t ∷ ts) = none ts
 
 -- an edit that changes no net touches none
-pub none_touched : (library : Library) (design : List Record) (names : List (List ℕ)) (before : List Told) → names ≡ [] → before ≡ [] → AreTouched library design (record { names = names; component = None; before = before; stars = [] })
+pub none_touched : (library : Library) (design : List Record) (names : List (List ℕ)) (before : List Told) → names ≡ [] → before ≡ [] → AreTouched library design (record { names = names; component = None; pin = None; before = before; stars = [] })
 none_touched library design names before n b =
-    subst (λ (ns : List (List ℕ)). AreTouched library design (record { names = ns; component = None; before = before; stars = [] })) (sym n)
-    (subst (λ (bs : List Told). AreTouched library design (record { names = []; component = None; before = bs; stars = [] })) (sym b)
+    subst (λ (ns : List (List ℕ)). AreTouched library design (record { names = ns; component = None; pin = None; before = before; stars = [] })) (sym n)
+    (subst (λ (bs : List Told). AreTouched library design (record { names = []; component = None; pin = None; before = bs; stars = [] })) (sym b)
     (record { apart = tt; lists = none_lists design []; told = tt; named = refl; pins = refl }))

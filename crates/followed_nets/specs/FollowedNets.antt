@@ -15,7 +15,7 @@ use Rattle.followed_nets.specs.Heads.{Head, IsHead}
 use Rattle.followed_nets.specs.Noted.{AreCommon, said}
 use Rattle.followed_nets.specs.Stars.{AreStars}
 
--- the shapes of nets by the nets' names, the numbers of the statements that any net may be made of, the rectangles where routing is
+-- the shapes of nets by the nets' names, the numbers of the statements that are read whichever net is told, the rectangles where routing is
 -- blocked, the nets that list a pin of all components, unless these aren't kept, and heads of nets
 pub record Nets : Type 0 where
   pub shapes : List NetShape

@@ -11,6 +11,7 @@ pub mod StarExchanges
 pub mod StarHeadViews
 pub mod StarHeads
 pub mod Stars
+pub mod SubjectViews
 pub mod Tests
 pub mod Told
 pub mod ToldViews

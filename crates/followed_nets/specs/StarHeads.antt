@@ -1,5 +1,5 @@
 -- Heads of the nets of a design that list a pin of all components, and what such nets have of one component.
-use Rattle.std.specs.Prelude.{◌≡◌, ℕ, List, [], ◌∷◌, ◌++◌, Some, filter, map}
+use Rattle.std.specs.Prelude.{◌≡◌, ℕ, List, [], ◌∷◌, ◌++◌, filter, map}
 use Rattle.std.specs.List.{AllByRecursion}
 use Rattle.def_grammar.specs.Records.{Record}
 use Rattle.design_rules.specs.Boxes.{scale}
@@ -8,7 +8,7 @@ use Rattle.lef_grammar.specs.Measures.{Shape}
 use Rattle.kept_nets.specs.Parts.{shapes_in}
 use Rattle.net_laws.specs.NetsTold.{is_of_net}
 use Rattle.net_laws.specs.StarNets.{pins_by_one}
-use Rattle.net_laws.specs.Within.{NoOtherLists}
+use Rattle.net_laws.specs.Within.{NoOtherLists, a_component}
 use Rattle.followed_nets.specs.Heads.{Head, IsHead}
 use Rattle.followed_nets.specs.Listed.{AreApart}
 use Rattle.followed_nets.specs.Stars.{AreStarNames}
@@ -48,4 +48,4 @@ ArePinShapes library design component ps = AllByRecursion (IsPinsBy library desi
 -- some nets, and those that list a pin of all components, are all that list a component, and none of them twice
 pub record AreAllListing (design : List Record) (component : List ℕ) (nets stars : List (List ℕ)) : Type 0 where
   pub apart : AreApart (nets ++ stars)
-  pub lists : NoOtherLists design (nets ++ stars) (Some component)
+  pub lists : NoOtherLists design (nets ++ stars) (a_component component)

@@ -11,7 +11,7 @@ use Rattle.design_rules.specs.Boxes.{scale}
 use Rattle.following_laws.specs.DesignLaws.{lines_on_nets}
 use Rattle.kept_lines.specs.Kept.{Kept}
 use Rattle.net_laws.specs.StarNets.{pins_by_one}
-use Rattle.net_laws.specs.Within.{NoOtherLists}
+use Rattle.net_laws.specs.Within.{Listed, NoOtherLists, a_component, a_pin, neither}
 use Rattle.followed_nets.specs.Exchanging.{AreToldIn, name_of}
 use Rattle.followed_nets.specs.FollowedNets.{HasNetsBarred, Nets}
 use Rattle.followed_nets.specs.Listed.{AreApart}
@@ -23,13 +23,20 @@ pub record StarPins : Type 0 where
   pub name : List ℕ
   pub pins : List Part
 
--- the names of nets; the component that the edit is of, if it is of one; what is told of each of the nets; and what that component is to
--- the nets that list a pin of all
+-- the names of nets; the component that the edit is of, if it is of one, and else the pin of the design; what is told of each of the nets;
+-- and what that component is to the nets that list a pin of all
 pub record Touched : Type 0 where
   pub names : List (List ℕ)
   pub component : Option (List ℕ)
+  pub pin : Option (List ℕ)
   pub before : List Told
   pub stars : List StarPins
+
+-- what an edit is of, by the component and the pin that it may be of
+abbrev pub subject_by : Option (List ℕ) → Option (List ℕ) → Listed
+subject_by (Some component) pin = a_component component
+subject_by None (Some pin) = a_pin pin
+subject_by None None = neither
 
 abbrev pub star_names : List StarPins → List (List ℕ)
 star_names stars = map (λ (s : StarPins). s.name) stars
@@ -41,10 +48,10 @@ abbrev pub ArePinsOf : Library → List Record → Option (List ℕ) → List St
 ArePinsOf library design None stars = stars ≡ []
 ArePinsOf library design (Some component) stars = ArePinsBy library design component stars
 
--- no name stands twice, no other net lists the component, and what is told is of these nets of a design
+-- no name stands twice, no other net lists the component or the pin, and what is told is of these nets of a design
 pub record AreTouched (library : Library) (design : List Record) (t : Touched) : Type 0 where
   pub apart : AreApart (t.names ++ star_names t.stars)
-  pub lists : NoOtherLists design (t.names ++ star_names t.stars) t.component
+  pub lists : NoOtherLists design (t.names ++ star_names t.stars) (subject_by t.component t.pin)
   pub told : AreToldIn library (barriers library design (scale design)) design t.before
   pub named : map name_of t.before ≡ t.names
   pub pins : ArePinsOf library design t.component t.stars

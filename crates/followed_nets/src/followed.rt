@@ -18,26 +18,28 @@ ghost use Rattle.net_touches.specs.Barriers.{barrier_view};
 ghost use Rattle.followed_nets.specs.Blocked.{AllTell, barred_lines};
 ghost use Rattle.followed_nets.specs.FollowedNets.{HasNets};
 ghost use Rattle.followed_nets.specs.Heads.{IsHead};
-ghost use Rattle.followed_nets.specs.Listed.{AllList, AreApart};
+ghost use Rattle.followed_nets.specs.Listed.{AllList, AllOfPin, AreApart};
 ghost use Rattle.followed_nets.specs.Noted.{AreCommon, said};
 ghost use Rattle.followed_nets.specs.Pieces.{AreOnPieces, ArePieces, Piece};
 ghost use Rattle.followed_nets.specs.StarExchanges.{AwaitsOwn, HaveComponent};
 ghost use Rattle.followed_nets.specs.Stars.{IsStar, names_of};
+ghost use Rattle.followed_nets.specs.SubjectViews.{subject_view};
 ghost use Rattle.followed_nets.specs.Tests.{FewBarred, FewTests, near_barred, near_pairs, near_told};
 ghost use Rattle.followed_nets.specs.ToldViews.{star_view, stars_of, told_view};
-ghost use Rattle.followed_nets.specs.Touched.{AreBarred, AreFollowed, ArePinsOf, AreTouched, star_names};
+ghost use Rattle.followed_nets.specs.Touched.{AreBarred, AreFollowed, ArePinsOf, AreTouched, star_names, subject_by};
 ghost use Rattle.followed_nets.specs.Within.{Fits, LeavesOthers};
 
 use crate::blocked::{BarredLines, ChangedBars, changed_bars, lines_near, nets_near};
 use crate::exchanging::{FollowedOnNets, exchange_nets};
 use crate::exchanging_bars::{exchange_bars, exchange_lines};
 use crate::heads::{Head, are_of_others, heads_if};
-use crate::listed::{add_name, nets_listing};
+use crate::listed::{add_name, nets_listing, nets_of_pin};
 use crate::noted::{common_numbers, drawn_nets, star_names};
+use crate::numbers::numbers_after;
 use crate::star_exchange::{ExchangedStars, ToldExchange, exchange_stars, with_more};
 use crate::taking_bars::without_both;
 use crate::touched::{TouchedComponent, TouchedNets, are_named, told_nets, told_stars};
-use crate::within::{exchanges_are_within, is_one_of};
+use crate::within::{EditSubject, exchanges_are_within, is_one_of};
 use cell_library::library::Library;
 use design_model::identifier::StmtId;
 use design_text::made::Made;
@@ -58,8 +60,7 @@ use net_touches::{Barrier, layers_have_their_names};
 use std::alloc::{AllocError, Allocator, Global};
 use std::marker::Model;
 
-/// The shapes of the nets of a text under the nets' names, which statements are of what any net may be made of, and where routing is
-/// blocked.
+/// The shapes of the nets of a text under the nets' names, which statements are read whichever net is told, and where routing is blocked.
 #[derive(Drop)]
 pub struct FollowedNets<A: Allocator = Global> {
     shapes: NamedShapes<A>,
@@ -85,19 +86,35 @@ impl<A: Allocator> Model for FollowedNets<A> {
 }
 
 impl<A: Allocator + Copy> TouchedNets<A> {
+    /// What the edit is of where it is of no component.
+    fn pin_or_neither(&self) -> EditSubject<'_>
+        ensures { subject_view result ≡ subject_by None self.entry.now.pin }
+    {
+        match &self.pin {
+            Some(name) => EditSubject::Pin(name.bytes()),
+            None => EditSubject::Neither,
+        }
+    }
+
     /// Whether an edit that was made changed no other nets.
     fn are_all(&self, alloc: A, text: &DesignText<A>, made: &Made<A>) -> Result<bool, AllocError>
         requires { (old : List (Number × Record)) × AreExchanges text.now.pieces.table.slots old made.now.exchanges (records_in text.now) }
         ensures { (old : List (Number × Record)) (common : List Number) → AreExchanges text.now.pieces.table.slots old made.now.exchanges (records_in text.now)
-            → NoOtherLists (said old) (self.now.names ++ star_names self.now.stars) self.now.component → AreCommon old common
-            → IfOk result (λ b. b ≡ true → LeavesOthers (said old) (said (records_in text.now)) self.now × AreCommon (records_in text.now) common) }
+            → NoOtherLists (said old) (self.now.names ++ star_names self.now.stars) (subject_by self.now.component self.now.pin)
+            → IfOk result (λ b. b ≡ true → LeavesOthers (said old) (said (records_in text.now)) self.now × (self.now.pin ≡ None → AreCommon old common → AreCommon (records_in text.now) common)) }
     {
         match &self.component {
             Some(own) => {
                 let none = Vec::new(alloc);
-                exchanges_are_within(alloc, text, made, &none, Some(own.name.bytes()))
+                exchanges_are_within(
+                    alloc,
+                    text,
+                    made,
+                    &none,
+                    EditSubject::Component(own.name.bytes()),
+                )
             }
-            None => exchanges_are_within(alloc, text, made, &self.names, None),
+            None => exchanges_are_within(alloc, text, made, &self.names, self.pin_or_neither()),
         }
     }
 }
@@ -169,7 +186,7 @@ impl<A: Allocator + Copy> FollowedNets<A> {
         })
     }
 
-    /// These nets of a text, which an edit of this component is about to change.
+    /// These nets of a text, which an edit of this component, or else of this pin of the design, is about to change.
     fn touched(
         &self,
         alloc: A,
@@ -177,11 +194,12 @@ impl<A: Allocator + Copy> FollowedNets<A> {
         text: &DesignText<A>,
         names: Vec<OwnName<A>, A>,
         component: Option<TouchedComponent<A>>,
+        pin: Option<OwnName<A>>,
     ) -> Result<Option<TouchedNets<A>>, AllocError>
         requires common { AreCommon (records_in text.now) self.now.common }
         requires bars { SameThings self.now.bars (barriers library.now (design_of text.now) (scale (design_of text.now))) }
         requires apart { AreApart (names.items ++ star_names (stars_of component)) }
-        requires lists { NoOtherLists (design_of text.now) (names.items ++ star_names (stars_of component)) (option_map (λ c. c.name) component) }
+        requires lists { NoOtherLists (design_of text.now) (names.items ++ star_names (stars_of component)) (subject_by (option_map (λ c. c.name) component) pin) }
         requires pins { ArePinsOf library.now (design_of text.now) (option_map (λ c. c.name) component) (stars_of component) }
         ensures touched { IfOk result (λ found. IfSome found (AreTouched library.now (design_of text.now))) }
         ensures names { IfOk result (λ found. IfSome found (λ t. t.names ≡ names.items)) }
@@ -196,6 +214,7 @@ impl<A: Allocator + Copy> FollowedNets<A> {
             names,
             before,
             component,
+            pin,
         }))
     }
 
@@ -214,7 +233,7 @@ impl<A: Allocator + Copy> FollowedNets<A> {
         text.statements_are_kept();
         let mut names = Vec::new(alloc);
         names.push(OwnName::copy_of(alloc, net)?)?;
-        self.touched(alloc, library, text, names, None)
+        self.touched(alloc, library, text, names, None, None)
     }
 
     /// The nets that an edit of a component is about to change, as they are in a text: those that list a pin of it, and what it is to
@@ -254,7 +273,29 @@ impl<A: Allocator + Copy> FollowedNets<A> {
             text,
             names,
             Some(TouchedComponent { name, stars }),
+            None,
         )
+    }
+
+    /// The nets that an edit of a pin of the design is about to change, as they are in a text: those that list it, and the one that it
+    /// names.
+    pub fn touched_by_pin(
+        &self,
+        alloc: A,
+        library: &Library<'_, A>,
+        text: &DesignText<A>,
+        pin: &[u8],
+    ) -> Result<Option<TouchedNets<A>>, AllocError>
+        requires { HasNets library.now (records_in text.now) self.now }
+        ensures touched { IfOk result (λ found. IfSome found (AreTouched library.now (design_of text.now))) }
+        ensures names { IfOk result (λ found. IfSome found (λ t. AllOfPin (design_of text.now) pin.now t.names × (t.stars ≡ []) × (t.component ≡ None))) }
+    {
+        text.statements_are_kept();
+        let Some(names) = nets_of_pin(alloc, text, pin)? else {
+            return Ok(None);
+        };
+        let pin = OwnName::copy_of(alloc, pin)?;
+        self.touched(alloc, library, text, names, None, Some(pin))
     }
 
     /// Whether the nets that are kept with their parts are those that an edit of a component touched, and others than those that an
@@ -359,6 +400,24 @@ impl<A: Allocator + Copy> FollowedNets<A> {
         Ok(found)
     }
 
+    /// The numbers of the statements that are read whichever net is told, after an edit: they stay, unless it is one of a pin of the design.
+    fn common_after(
+        &self,
+        alloc: A,
+        text: &DesignText<A>,
+        made: &Made<A>,
+        touched: &TouchedNets<A>,
+    ) -> Result<Option<Vec<StmtId, A>>, AllocError>
+        requires { (old : List (Number × Record)) × AreExchanges text.now.pieces.table.slots old made.now.exchanges (records_in text.now) }
+        ensures { (old : List (Number × Record)) → AreExchanges text.now.pieces.table.slots old made.now.exchanges (records_in text.now) → AreCommon old self.now.common
+            → (touched.now.pin ≡ None → AreCommon (records_in text.now) self.now.common) → IfOk result (λ found. IfSome found (λ v. AreCommon (records_in text.now) v.items)) }
+    {
+        match &touched.pin {
+            Some(_) => numbers_after(alloc, text, made, &self.common),
+            None => Ok(Some(Vec::from_slice(alloc, &self.common)?)),
+        }
+    }
+
     /// The lines on the nets of a text after an edit, with the rectangles where routing was blocked before it, from the lines then.
     fn follow_nets(
         &mut self,
@@ -390,10 +449,15 @@ impl<A: Allocator + Copy> FollowedNets<A> {
         if !self.fits(&touched) {
             return Ok(None);
         }
+        let Some(common) = self.common_after(alloc, text, made, &touched)? else {
+            return Ok(None);
+        };
+        self.common = common;
         let TouchedNets {
             names,
             before,
             component,
+            pin: _,
         } = touched;
         let common = &self.common;
         let bars = &self.bars;

@@ -1,13 +1,16 @@
 //! The lines on the nets of a text, which follow its edits.
 //!
-//! Begin with `FollowedNets::of`, which notes the nets of a text. Before an edit, `touched_by_net` and `touched_by_component` tell which nets
-//! it is about to change; after it, `follow` gives the lines from those before, where it changed no others, and how many pairs of shapes
+//! Begin with `FollowedNets::of`, which notes the nets of a text. Before an edit, `touched_by_net`, `touched_by_component` and
+//! `touched_by_pin` tell which nets it is about to change; after it, `follow` gives the lines from those before, where it changed no others, and how many pairs of shapes
 //! were compared for them (`specs/Tests`). What is noted follows then, too, and else isn't to be used any more.
 //!
 //! A net is told by few statements of the text (`told`), and exchanged as a whole. A net that lists a pin of all components is kept with
 //! its parts, and an edit of a component exchanges its pins of that component (`star_pins`, `star_exchange`); of its entry only the name and
 //! the terminals are read then, which are kept without the wiring (`heads`). Both are pieces of
 //! `specs/Pieces`: first all that go are taken out, then all that come are put in (`exchanging`).
+//!
+//! Pins of the design are read for each net that is told, with what any net may be made of, by numbers that are noted; after an edit of one
+//! the numbers are exchanged, too (`numbers`).
 //!
 //! Where routing is blocked tells no net: an edit that changes it goes and comes by the rectangles of the statements that it exchanges, and
 //! the nets that have shapes there are told for their lines with these (`blocked`, `exchanging_bars`).
@@ -25,6 +28,7 @@ mod followed;
 mod heads;
 mod listed;
 mod noted;
+mod numbers;
 mod star_exchange;
 mod star_heads;
 mod star_pins;
@@ -40,4 +44,4 @@ pub use followed::FollowedNets;
 pub use noted::common_numbers;
 pub use star_heads::{StarHeads, ToldPins};
 pub use touched::TouchedNets;
-pub use within::exchanges_are_within;
+pub use within::{EditSubject, exchanges_are_within};

@@ -1,6 +1,6 @@
 //! What is noted of the nets of a text.
 
-ghost use Rattle.std.specs.Prelude.{◌≡◌, ◌++◌, ◌∷◌, filter, IfOk, IfSome, List, map};
+ghost use Rattle.std.specs.Prelude.{◌≡◌, ◌++◌, ◌∷◌, IfOk, IfSome, List, map};
 ghost use Rattle.std.specs.List.{AllByRecursion};
 ghost use Rattle.def_reader.specs.StatementViews.{record_view};
 ghost use Rattle.design_rules.specs.Boxes.{scale};
@@ -10,10 +10,9 @@ ghost use Rattle.connection_rules.specs.NetParts.{Net, all_nets};
 ghost use Rattle.line_laws.specs.Lines.{SameThings};
 ghost use Rattle.net_touches.specs.Barriers.{barrier_view};
 ghost use Rattle.named_shapes.specs.Named.{shapes_by_name};
-ghost use Rattle.net_laws.specs.NetsTold.{is_common};
 ghost use Rattle.design_tables.specs.TableViews.{numbered_view};
 ghost use Rattle.design_text.specs.DesignTexts.{design_of};
-ghost use Rattle.followed_nets.specs.Noted.{said};
+ghost use Rattle.followed_nets.specs.Noted.{numbers_telling, said, tells_any};
 ghost use Rattle.followed_nets.specs.Stars.{AreStarNames, AreStars, IsStar, names_of};
 
 use crate::listed::add_net;
@@ -49,9 +48,9 @@ pub(crate) struct DrawnNets<A: Allocator> {
     pub(crate) stars: Option<Vec<KeptNet<A>, A>>,
 }
 
-/// Whether a statement is of what any net may be made of.
-fn is_common(statement: &Statement<'_>) -> bool
-    ensures { result ≡ is_common (record_view statement.now) }
+/// Whether a statement is read whichever net is told: of what any net may be made of, or a pin of the design.
+fn tells_any(statement: &Statement<'_>) -> bool
+    ensures { result ≡ tells_any (record_view statement.now) }
 {
     match statement {
         Statement::Units(_) => true,
@@ -63,16 +62,16 @@ fn is_common(statement: &Statement<'_>) -> bool
     }
 }
 
-/// The numbers of those of these statements that are of what any net may be made of, in their order.
+/// The numbers of those of these statements that are read whichever net is told, in their order.
 pub fn common_numbers<A: Allocator + Copy>(
     alloc: A,
     statements: &[Numbered<'_>],
 ) -> Result<Vec<StmtId, A>, AllocError>
-    ensures { IfOk result (λ v. v.items ≡ map (λ x. x.0) (filter (λ x. is_common x.1) (map numbered_view statements.now))) }
+    ensures { IfOk result (λ v. v.items ≡ numbers_telling (map numbered_view statements.now)) }
 {
     let mut numbers = Vec::new(alloc);
     for numbered in statements {
-        if is_common(&numbered.statement) {
+        if tells_any(&numbered.statement) {
             numbers.push(numbered.id)?;
         }
     }

@@ -27,7 +27,7 @@ use design_text::text::DesignText;
 use design_wires::wires::DesignWires;
 use kept_nets::{KeptPart, pins_of};
 use line_laws::scales::scales_are_good;
-use net_laws::one_component_is_told;
+use net_laws::{all_pins_tell, one_component_is_told};
 use net_lists::NetList;
 use std::alloc::{AllocError, Allocator};
 
@@ -45,7 +45,7 @@ fn push_own<'t, A: Allocator + Copy>(
     Ok(())
 }
 
-/// The statements that tell what a component is to the net of a head: those that any net may be made of, which have these numbers, the
+/// The statements that tell what a component is to the net of a head: those that are read whichever net is told, which have these numbers, the
 /// component, and the entry that the head is read as.
 fn statements_of_one<'t, A: Allocator + Copy>(
     alloc: A,
@@ -58,6 +58,7 @@ fn statements_of_one<'t, A: Allocator + Copy>(
     requires head { IsHead (design_of text.now) (head_view head.now) }
     ensures { IfOk result (λ found. IfSome found (λ v. TellOne (map record_view v.items) (design_of text.entry.now) (head_view head.entry.now).name component.now)) }
 {
+    all_pins_tell();
     text.statements_are_kept();
     let Some(entry) = head.read() else {
         return Ok(None);

@@ -21,6 +21,7 @@ use design_model::identifier::StmtId;
 use design_model::mode::Section;
 use design_text::laws::named_once;
 use design_text::text::DesignText;
+use net_laws::all_pins_tell;
 use statement_reader::parts::Parts;
 use std::alloc::{AllocError, Allocator};
 use wire_parts::nets::NetEntry;
@@ -120,7 +121,7 @@ fn push_listed<'t, A: Allocator + Copy>(
     }
 }
 
-/// The statements that tell a net of a text: those that any net may be made of, which have these numbers, the components that its
+/// The statements that tell a net of a text: those that are read whichever net is told, which have these numbers, the components that its
 /// entry lists, and the entry. There are none where the net has no entry, or one in each section, or lists a pin of all components.
 pub fn told_statements<'t, A: Allocator + Copy>(
     alloc: A,
@@ -131,6 +132,7 @@ pub fn told_statements<'t, A: Allocator + Copy>(
     requires { AreCommon (records_in text.now) common.now }
     ensures { IfOk result (λ found. IfSome found (λ v. TellNet (map record_view v.items) (design_of text.entry.now) net.now)) }
 {
+    all_pins_tell();
     text.statements_are_kept();
     let Some(entry) = only_entry(text, net) else {
         return Ok(None);

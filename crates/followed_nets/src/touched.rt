@@ -42,12 +42,13 @@ pub(crate) struct TouchedComponent<A: Allocator = Global> {
     pub(crate) stars: Vec<ToldStar<A>, A>,
 }
 
-/// The nets that an edit is about to change, as they are before it.
+/// The nets that an edit is about to change, as they are before it, and the component that it is of, or the pin of the design.
 #[derive(Drop)]
 pub struct TouchedNets<A: Allocator = Global> {
     pub(crate) names: Vec<OwnName<A>, A>,
     pub(crate) before: Vec<ToldNet<A>, A>,
     pub(crate) component: Option<TouchedComponent<A>>,
+    pub(crate) pin: Option<OwnName<A>>,
 }
 
 impl<A: Allocator> Model for TouchedNets<A> {
@@ -58,7 +59,7 @@ impl<A: Allocator> Model for TouchedNets<A> {
 
     ghost Value = { Touched };
 
-    ghost view = { λ t. record { names = t.names.items; component = option_map (λ c. c.name) t.component; before = map told_view t.before.items; stars = stars_of t.component } };
+    ghost view = { λ t. record { names = t.names.items; component = option_map (λ c. c.name) t.component; pin = t.pin; before = map told_view t.before.items; stars = stars_of t.component } };
 }
 
 impl<A: Allocator + Copy> TouchedNets<A> {
@@ -71,6 +72,7 @@ impl<A: Allocator + Copy> TouchedNets<A> {
             names: Vec::new(alloc),
             before: Vec::new(alloc),
             component: None,
+            pin: None,
         }
     }
 }

@@ -21,7 +21,7 @@ pub record AreAsLong (library : Library) (a b : List Record) (u : ℕ) (name : L
   pub length : length_of library a u name ≡ length_of library b u name
   pub is_net : is_net library a u name ≡ is_net library b u name
 
--- So it is where these agree on its entries, and on what any net may be made of.
+-- So it is where these agree on its entries, and on what any net may be made of; no pin makes a net longer.
 abbrev pub LengthsAreTold : Type 0
 LengthsAreTold = (library : Library) (a b : List Record) (u : ℕ) (name : List ℕ) → filter is_common a ≡ filter is_common b → filter (is_of_net name) a ≡ filter (is_of_net name) b
     → AreAsLong library a b u name

@@ -7,7 +7,7 @@ ghost use Rattle.measuring_laws.specs.Measuring.{LengthsAreTold, OthersLeaveCell
 
 use net_laws::{nets_are_told, one_net_is_told, told_nets_are_exchanged};
 
-/// A net is as long in designs that agree on its entries, and on what any net may be made of.
+/// A net is as long in designs that agree on its entries, and on what any net may be made of, whatever pins they have.
 pub fn lengths_are_told()
     ensures { LengthsAreTold }
 {}

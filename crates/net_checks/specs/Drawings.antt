@@ -7,16 +7,19 @@ use Rattle.design_rules.specs.Boxes.{scale}
 use Rattle.cell_library.specs.LayerViews.{layer_name}
 use Rattle.connection_rules.specs.NetLines.{Barrier, barriers, class_lines, routeblock_of, shapes_of_net, short_of}
 use Rattle.connection_rules.specs.NetParts.{Net, all_nets}
+use Rattle.design_nets.specs.NetGroups.{net_lengths}
 
--- nets, rectangles where routing is blocked, and the names of layers by their places
+-- nets and the lengths of their wires, rectangles where routing is blocked, and the names of layers by their places
 pub record Drawing : Type 0 where
   pub nets : List Net
+  pub lengths : List ℕ
   pub barriers : List Barrier
   pub layers : List (List ℕ)
 
 -- nets of a design, and some rectangles
 pub record IsBarredDrawing (library : Library) (design : List Record) (bars : List Barrier) (d : Drawing) : Type 0 where
   pub nets : d.nets ≡ all_nets library design (scale design)
+  pub lengths : d.lengths ≡ net_lengths library design (scale design)
   pub barriers : d.barriers ≡ bars
   pub layers : d.layers ≡ map layer_name library.layers
 

@@ -14,7 +14,7 @@ use crate::barriers::barriers_of;
 use crate::layer_names::layer_names;
 use cell_library::library::Library;
 use design_names::names::Names;
-use design_nets::nets_of;
+use design_nets::{NetsWithLengths, nets_with_lengths};
 use design_wires::wires::DesignWires;
 use line_laws::same::same_lines_append;
 use net_classes::put_class_lines;
@@ -24,11 +24,12 @@ use report_lines::Lines;
 use std::alloc::{AllocError, Allocator, Global};
 use std::marker::Model;
 
-/// What the lines on the nets of a design speak of: its nets with their shapes, where routing is blocked, and the names of layers. It
-/// borrows from the texts alone, so what it was made from may be given back before its lines are made.
+/// What the lines on the nets of a design speak of: its nets with their shapes, where routing is blocked, and the names of layers; and how
+/// long its wires are. It borrows from the texts alone, so what it was made from may be given back before its lines are made.
 #[derive(Drop)]
 pub struct NetDrawing<'l, 't, A: Allocator = Global> {
     nets: NetList<'t, A>,
+    lengths: Vec<u64, A>,
     barriers: Vec<Barrier, A>,
     layers: Vec<&'l [u8], A>,
 }
@@ -40,7 +41,7 @@ impl<'l, 't, A: Allocator> Model for NetDrawing<'l, 't, A> {
 
     ghost Value = { Drawing };
 
-    ghost view = { λ d. record { nets = d.nets; barriers = map barrier_view d.barriers.items; layers = map (λ w. w.now) d.layers.items } };
+    ghost view = { λ d. record { nets = d.nets; lengths = d.lengths.items; barriers = map barrier_view d.barriers.items; layers = map (λ w. w.now) d.layers.items } };
 }
 
 impl<'l, 't, A: Allocator + Copy> NetDrawing<'l, 't, A> {
@@ -55,11 +56,12 @@ impl<'l, 't, A: Allocator + Copy> NetDrawing<'l, 't, A> {
         ensures { IfOk result (IsDrawingOf library.now names.now) }
     {
         let wires = DesignWires::new(alloc, library, names)?;
-        let nets = nets_of(alloc, library, names, &wires)?;
+        let NetsWithLengths { nets, lengths } = nets_with_lengths(alloc, library, names, &wires)?;
         let barriers = barriers_of(alloc, library, names.records())?;
         let layers = layer_names(alloc, library)?;
         Ok(NetDrawing {
             nets,
+            lengths,
             barriers,
             layers,
         })
@@ -77,11 +79,12 @@ impl<'l, 't, A: Allocator + Copy> NetDrawing<'l, 't, A> {
         ensures { IfOk result (IsBarredDrawing library.now names.now (map barrier_view barriers.now)) }
     {
         let wires = DesignWires::new(alloc, library, names)?;
-        let nets = nets_of(alloc, library, names, &wires)?;
+        let NetsWithLengths { nets, lengths } = nets_with_lengths(alloc, library, names, &wires)?;
         let barriers = Vec::from_slice(alloc, barriers)?;
         let layers = layer_names(alloc, library)?;
         Ok(NetDrawing {
             nets,
+            lengths,
             barriers,
             layers,
         })
@@ -92,6 +95,13 @@ impl<'l, 't, A: Allocator + Copy> NetDrawing<'l, 't, A> {
         ensures { result.now ≡ self.now.nets }
     {
         &self.nets
+    }
+
+    /// How long the wires of each net are along their centres, in database units: 2^64 - 1 where they are longer.
+    pub fn lengths(&self) -> &[u64]
+        ensures { result.now ≡ self.now.lengths }
+    {
+        &self.lengths
     }
 
     /// Puts the lines on shapes of two nets that touch, on wires where routing is blocked, and on what hangs together in each net

@@ -2,6 +2,7 @@ mod Blocked
 mod ComponentPins
 mod NetChanges
 mod NetNames
+mod NetPins
 mod NoNets
 mod OneEntry
 mod OneExchanged

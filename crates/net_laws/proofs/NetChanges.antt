@@ -39,6 +39,7 @@ module _ (a b c : List Record) where
   agree_on net g h = record {
     common = g.common ∙ h.common;
     entries = g.entries ∙ h.entries;
+    pins = g.pins ∙ h.pins;
     components =
         find_on (flat_map terminals_of (filter (is_of_net net) a)) g.components
         (subst (λ (es : List Record). AllByRecursion (FindsAlike b c) (flat_map terminals_of es)) (sym g.entries) h.components);

@@ -1,4 +1,4 @@
--- A net of one entry is told by that, by all components, and by what any net may be made of.
+-- A net of one entry is told by that, by all components, by all pins of the design, and by what any net may be made of.
 use Rattle.std.proofs.Common.{◌≡◌, ◌∙◌, ℕ, Bool, true, false, ◌||◌, List, [], ◌∷◌, filter, Option, Some, None, refl, sym, ap, if◌then◌else◌}
 use Rattle.std.specs.List.{AllByRecursion, cons_option, filter_map}
 use Rattle.std.proofs.lemmas.Slice.Eq.{bytes_eq-Decides}
@@ -8,14 +8,15 @@ use Rattle.def_grammar.specs.Nets.{is_net, must_join}
 use Rattle.def_grammar.specs.Records as records
 use Rattle.def_grammar.specs.Records.{Record, component_of, end_section, entry, in_properties, top}
 use Rattle.def_grammar.specs.Terminals.{Terminal}
-use Rattle.net_laws.specs.NetsTold.{FindsAlike, is_common, is_of_net, net_of_record, terminals_in}
+use Rattle.net_laws.specs.NetsTold.{FindsAlike, is_common, is_of_net, is_pin_of_net, net_of_record, terminals_in}
 use Rattle.net_laws.specs.StarNets.{OneEntryTells}
-use Rattle.net_laws.proofs.Selecting.{selected_of_those}
-use Rattle.net_laws.proofs.StarNets.{within}
+use Rattle.net_laws.proofs.NetPins.{pins_within}
+use Rattle.net_laws.proofs.Selecting.{selected_of_those, within}
 
 module _ (net : List ℕ) where
   tells_all : Record → Bool
   tells_all (entry (records.component c)) = true
+  tells_all (entry (records.pin p)) = true
   tells_all r = is_common r || is_of_net net r
 
   or_true : (b : Bool) → (b || true) ≡ true
@@ -53,6 +54,11 @@ module _ (net : List ℕ) where
   net_told (entry (records.via x)) h = refl
   net_told (entry (records.rule x)) h = refl
   net_told (entry (records.skipped s x)) h = absurd (cc)
+
+  pin_told : (ts : List Terminal) (r : Record) → is_pin_of_net net ts r ≡ true → tells_all r ≡ true
+  unfolding tells_all
+  pin_told ts (entry (records.pin p)) h = refl
+  pin_told ts _ h = absurd (cc)
 
   no_component : (r : Record) → tells_all r ≡ false → component_of r ≡ None
   unfolding tells_all
@@ -138,6 +144,7 @@ one_entry_tells design net e one =
         agree = record {
           common = within is_common (tells_all net) (common_told net) design;
           entries = within (is_of_net net) (tells_all net) (net_told net) design;
+          pins = pins_within net (tells_all net) design (net_told net) (pin_told net (terminals_in design net));
           components = found_alike net some design components (terminals_in some net);
         };
         only = its_names net design ∙ ap (filter_map net_of_record) one ∙ ap (λ (n : Option (List ℕ)). cons_option n []) (named_so net e (first_passes net design e [] one));

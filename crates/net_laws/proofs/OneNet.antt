@@ -2,7 +2,6 @@
 use Rattle.std.proofs.Common.{◌≡◌, ◌∙◌, ℕ, false, List, [], ◌∷◌, filter, map, None, refl, ap}
 use Rattle.form_meanings.specs.Words.{first}
 use Rattle.form_meanings.specs.Firsts.{with_all}
-use Rattle.def_grammar.specs.Records as records
 use Rattle.def_grammar.specs.Records.{Record, end_section, entry, in_properties, top, units_of}
 use Rattle.def_grammar.specs.Top.{end_design, extension, floor, header, kept, properties, units}
 use Rattle.lef_grammar.specs.Library.{Library}

@@ -60,3 +60,15 @@ module _ {A : Type 0} (test : A → Bool) where
   pub exchanged_alike : (front out put behind : List A) → list_any test out ≡ false → list_any test put ≡ false
       → filter test (front ++ (out ++ behind)) ≡ filter test (front ++ (put ++ behind))
   exchanged_alike front out put behind g h = passes_around front out behind g ∙ sym (passes_around front put behind h)
+
+-- what passes one test, and another with it, passes it among those that pass the other
+module _ {A : Type 0} where
+  pub within : (p t : A → Bool) → ((a : A) → p a ≡ true → t a ≡ true) → (all : List A) → filter p (filter t all) ≡ filter p all
+  within p t follows [] = refl
+  within p t follows (a ∷ all) = one (p a) (t a) refl refl (filter t all) (within p t follows all)
+    where
+      one : (b c : Bool) → p a ≡ b → t a ≡ c → (left : List A) → filter p left ≡ filter p all → filter p (if c then a ∷ left else left) ≡ (if b then a ∷ filter p all else filter p all)
+      one true true h g left later = ap (λ (b : Bool). if b then a ∷ filter p left else filter p left) h ∙ ap (λ (l : List A). a ∷ l) later
+      one false true h g left later = ap (λ (b : Bool). if b then a ∷ filter p left else filter p left) h ∙ later
+      one true false h g left later = absurd (let no = follows a h in cc)
+      one false false h g left later = later

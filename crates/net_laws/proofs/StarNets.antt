@@ -20,13 +20,15 @@ use Rattle.design_rules.specs.Boxes.{scale}
 use Rattle.line_laws.specs.Lines.{SameThings}
 use Rattle.connection_rules.specs.NetParts.{Part, Wired, all_wired, drawn, drawn_part, drawn_parts, has_shapes, is_named, net_named, pin_part}
 use Rattle.connection_rules.specs.Terminals.{NetPin, PinsByName, design_pin, design_pins, each_once, names_net, pins_by_name, pins_of}
-use Rattle.net_laws.specs.NetsTold.{FindsAlike, is_common, is_of_net, terminals_in}
+use Rattle.net_laws.specs.NetsTold.{FindsAlike, is_common, is_of_net, is_pin_of_net, pins_of_net, terminals_in}
 use Rattle.net_laws.specs.OneNet.{TellNet}
 use Rattle.net_laws.specs.StarNets.{OneComponentExchanged, OneComponentIsTold, pins_by_one, pins_in, tells_of, those_named}
 use Rattle.net_laws.proofs.ComponentPins.{is_own, is_paired, its, named, not_own, others, others_of_all, others_of_named, own, own_of_all, own_of_named, paired_of_all, paired_of_one, pin_in, pin_of, unpaired}
+use Rattle.net_laws.proofs.NetPins.{FindsPin, pins_within, same_naming_pins, terminals_find}
 use Rattle.net_laws.proofs.OneNet.{same_scale, told}
 use Rattle.net_laws.proofs.PinsOnce.{counted, counted_parts, parted}
-use Rattle.net_laws.proofs.ToldNets.{named_wired_same, same_design, same_naming, terminals_are}
+use Rattle.net_laws.proofs.Selecting.{within}
+use Rattle.net_laws.proofs.ToldNets.{by_kind, named_wired_same, same_design, same_naming, terminals_are}
 
 -- lists of which elements are left out twice
 module _ {A : Type 0} where
@@ -57,26 +59,12 @@ module _ {A : Type 0} where
       one false true h g xs ys later = ap (λ (b : Bool). if b then a ∷ filter p xs else filter p xs) h ∙ later
       one false false h g xs ys later = later
 
-  pub within : (p t : A → Bool) → ((a : A) → p a ≡ true → t a ≡ true) → (all : List A) → filter p (filter t all) ≡ filter p all
-  within p t follows [] = refl
-  within p t follows (a ∷ all) = one (p a) (t a) refl refl (filter t all) (within p t follows all)
-    where
-      one : (b c : Bool) → p a ≡ b → t a ≡ c → (left : List A) → filter p left ≡ filter p all → filter p (if c then a ∷ left else left) ≡ (if b then a ∷ filter p all else filter p all)
-      one true true h g left later = ap (λ (b : Bool). if b then a ∷ filter p left else filter p left) h ∙ ap (λ (l : List A). a ∷ l) later
-      one false true h g left later = ap (λ (b : Bool). if b then a ∷ filter p left else filter p left) h ∙ later
-      one true false h g left later = absurd (let no = follows a h in cc)
-      one false false h g left later = later
-
   flat_alike : {B : Type 0} (test : B → Bool) (f g : A → List B) → ((a : A) → filter test (f a) ≡ filter test (g a)) → (all : List A) → filter test (flat_map f all) ≡ filter test (flat_map g all)
   flat_alike test f g same [] = refl
   flat_alike {B = B} test f g same (a ∷ all) =
       filter-append test (f a) (flat_map f all)
       ∙ ap₂ (λ (xs ys : List B). xs ++ ys) (same a) (flat_alike test f g same all)
       ∙ sym (filter-append test (g a) (flat_map g all))
-
-  flat_same : {B : Type 0} (f g : A → List B) → ((a : A) → f a ≡ g a) → (all : List A) → flat_map f all ≡ flat_map g all
-  flat_same f g same [] = refl
-  flat_same {B = B} f g same (a ∷ all) = ap₂ (λ (xs ys : List B). xs ++ ys) (same a) (flat_same f g same all)
 
   none_flat : {B : Type 0} (test : B → Bool) (f : A → List B) → ((a : A) → filter test (f a) ≡ []) → (all : List A) → filter test (flat_map f all) ≡ []
   none_flat test f none [] = refl
@@ -255,6 +243,10 @@ module _ (net name : List ℕ) where
   net_tells (entry (records.rule x)) h = absurd (cc)
   net_tells (entry (records.skipped s x)) h = absurd (cc)
 
+  pin_tells : (ts : List Terminal) (r : Record) → is_pin_of_net net ts r ≡ true → tells_of net name r ≡ true
+  pin_tells ts (entry (records.pin p)) h = refl
+  pin_tells ts _ h = absurd (cc)
+
   skipped_or_not : (b : Bool) (r : Record) (left : List Record) → component_of r ≡ None → filter_map component_of (if b then r ∷ left else left) ≡ filter_map component_of left
   skipped_or_not true r left none = ap (λ (c : Option Component). cons_option c (filter_map component_of left)) none
   skipped_or_not false r left none = refl
@@ -322,34 +314,50 @@ module _ (library : Library) (a : List Record) (u : ℕ) (net name : List ℕ) w
   others_with cs = map pin_part (filter (λ (p : NetPin). p.counts) (rest_pins library a u net name (terminals (wired a)) cs))
 
   -- the pins of a design that agrees on what its entries list
-  module _ (x : List Record) (cs : List Component) (common : filter is_common x ≡ filter is_common a) (lists : terminals (wired x) ≡ terminals (wired a)) (components : filter_map component_of x ≡ cs) where
-    same_terminal : (t : Terminal) → pins_of (pins_by_name library x u) t ≡ pins_of (among library a u net name (terminals (wired a)) cs) t
-    same_terminal t =
-        kinds_alike (λ (l : List NetPin). l) (is_virtual t) (is_of_all t) (is_of_design t)
+  module _ (x : List Record) (cs : List Component) (common : filter is_common x ≡ filter is_common a) (lists : terminals (wired x) ≡ terminals (wired a)) (pins : pins_of_net x net ≡ pins_of_net a net)
+      (components : filter_map component_of x ≡ cs) where
+    abbrev pins_here : PinsByName
+    pins_here = pins_by_name library x u
+
+    abbrev pins_there : PinsByName
+    pins_there = among library a u net name (terminals (wired a)) cs
+
+    same_terminal : (t : Terminal) → FindsPin library u x a t → pins_of pins_here t ≡ pins_of pins_there t
+    same_terminal t found =
+        by_kind (is_virtual t) (is_of_all t) (is_of_design t)
         (filter_map (pin_in library u name t.pin) (filter_map component_of x)) (filter_map (pin_in library u name t.pin) cs)
-        ((pins_by_name library x u).of_design t.pin) ((pins_by_name library a u).of_design t.pin)
+        (pins_here.of_design t.pin) (pins_there.of_design t.pin)
         (pin_of library u name (named library u name (filter_map component_of x) t.owner) t.pin) (pin_of library u name (named library u name cs t.owner) t.pin)
-        (ap (filter_map (pin_in library u name t.pin)) components)
-        (same_design library x a u common t.pin)
+        (λ star. ap (filter_map (pin_in library u name t.pin)) components)
+        (same_design library x a u common t found)
         (ap (λ (ds : List Component). pin_of library u name (named library u name ds t.owner) t.pin) components)
 
-    same_listed : flat_map (pins_of (pins_by_name library x u)) (terminals (wired x)) ++ (pins_by_name library x u).naming net ≡ pins_with cs
+    same_pins_of : (ts : List Terminal) → AllByRecursion (FindsPin library u x a) ts → flat_map (pins_of pins_here) ts ≡ flat_map (pins_of pins_there) ts
+    same_pins_of [] found = refl
+    same_pins_of (t ∷ ts) found = ap₂ (λ (ps qs : List NetPin). ps ++ qs) (same_terminal t found.0) (same_pins_of ts found.1)
+
+    same_terminals : terminals_in x net ≡ terminals_in a net
+    same_terminals = sym (terminals_are library x u net) ∙ lists ∙ terminals_are library a u net
+
+    they_find : AllByRecursion (FindsPin library u x a) (terminals (wired x))
+    they_find = subst (AllByRecursion (FindsPin library u x a)) (sym (terminals_are library x u net)) (terminals_find library u x a net same_terminals pins)
+
+    same_listed : flat_map (pins_of pins_here) (terminals (wired x)) ++ pins_here.naming net ≡ pins_with cs
     same_listed =
         ap₂ (λ (xs ys : List NetPin). xs ++ ys)
-        (flat_same (pins_of (pins_by_name library x u)) (pins_of (among library a u net name (terminals (wired a)) cs)) same_terminal (terminals (wired x))
-        ∙ ap (flat_map (pins_of (among library a u net name (terminals (wired a)) cs))) lists)
-        (same_naming library x a u common net)
+        (same_pins_of (terminals (wired x)) they_find ∙ ap (flat_map (pins_of pins_there)) lists)
+        (same_naming library x a u common net (same_naming_pins library u x a net same_terminals pins))
 
     pins_based : pins_in (net_named library x u net).parts ≡ counting (pins_with cs)
     pins_based = ap (λ (ps : List NetPin). pins_in (parts_by ps (wired x))) same_listed ∙ pins_are (pins_with cs) (wired x)
 
   module _ (x : List Record) (cs : List Component) (common : filter is_common x ≡ filter is_common a) (entries : filter (is_of_net net) x ≡ filter (is_of_net net) a)
-      (components : filter_map component_of x ≡ cs) where
+      (pins : pins_of_net x net ≡ pins_of_net a net) (components : filter_map component_of x ≡ cs) where
     same_wired : wired x ≡ wired a
     same_wired = named_wired_same library x a u common net entries
 
     based : (net_named library x u net).parts ≡ parts_by (pins_with cs) (wired a)
-    based = ap₂ parts_by (same_listed x cs common (ap terminals same_wired) components) same_wired
+    based = ap₂ parts_by (same_listed x cs common (ap terminals same_wired) pins components) same_wired
 
     power_based : (net_named library x u net).is_power ≡ list_any (λ (w : Wired). w.is_power) (wired a)
     power_based = ap (list_any (λ (w : Wired). w.is_power)) same_wired
@@ -377,22 +385,25 @@ module _ (library : Library) (a : List Record) (u : ℕ) (net name : List ℕ) w
   }
 
   -- a design that agrees so has these parts
-  module _ (x : List Record) (common : filter is_common x ≡ filter is_common a) (entries : filter (is_of_net net) x ≡ filter (is_of_net net) a) where
+  module _ (x : List Record) (common : filter is_common x ≡ filter is_common a) (entries : filter (is_of_net net) x ≡ filter (is_of_net net) a) (pins : pins_of_net x net ≡ pins_of_net a net) where
     told_common : filter is_common (filter (tells_of net name) x) ≡ filter is_common a
     told_common = within is_common (tells_of net name) (common_tells net name) x ∙ common
 
     told_entries : filter (is_of_net net) (filter (tells_of net name) x) ≡ filter (is_of_net net) a
     told_entries = within (is_of_net net) (tells_of net name) (net_tells net name) x ∙ entries
 
+    told_pins : pins_of_net (filter (tells_of net name) x) net ≡ pins_of_net a net
+    told_pins = pins_within net (tells_of net name) x (net_tells net name) (pin_tells net name (terminals_in x net)) ∙ pins
+
     by_one : pins_by_one library x u net name ≡ counting (pins_with (those (filter_map component_of x)))
     by_one =
-        ap pins_in (based (filter (tells_of net name) x) (those (filter_map component_of x)) told_common told_entries (components_told net name x))
+        ap pins_in (based (filter (tells_of net name) x) (those (filter_map component_of x)) told_common told_entries told_pins (components_told net name x))
         ∙ pins_are (pins_with (those (filter_map component_of x))) (wired a)
 
     parted_beside : SameThings (net_named library x u net).parts (pins_by_one library x u net name ++ staying (filter_map component_of x))
     parted_beside = record {
       sums = λ w.
-          ap (sum_by w) (based x (filter_map component_of x) common entries refl)
+          ap (sum_by w) (based x (filter_map component_of x) common entries pins refl)
           ∙ (beside (filter_map component_of x)).sums w
           ∙ ap (λ (ps : List Part). sum_by w (ps ++ staying (filter_map component_of x))) (sym by_one);
     }
@@ -410,16 +421,16 @@ one_component_exchanged library a b u net name agree =
     record {
       stay = staying library a u net name cs;
       exchange = record {
-        old_is = parted_beside library a u net name a refl refl;
-        new_is = subst (λ (l : List Part). SameThings (net_named library b u net).parts (pins_by_one library b u net name ++ l)) same (parted_beside library a u net name b (sym agree.common) (sym agree.entries));
+        old_is = parted_beside library a u net name a refl refl refl;
+        new_is = subst (λ (l : List Part). SameThings (net_named library b u net).parts (pins_by_one library b u net name ++ l)) same (parted_beside library a u net name b (sym agree.common) (sym agree.entries) (sym agree.pins));
       };
-      same_power = sym (power_based library a u net name b ds (sym agree.common) (sym agree.entries) refl);
+      same_power = sym (power_based library a u net name b ds (sym agree.common) (sym agree.entries) (sym agree.pins) refl);
     }
 
 -- few statements that tell of the component tell its pins
 pub one_component_is_told : OneComponentIsTold
 one_component_is_told library some design net name tell =
-    let alone : TellNet some some net = record { agree = record { common = refl; entries = refl; components = found_alike some (terminals_in some net) }; only = tell.only } in
+    let alone : TellNet some some net = record { agree = record { common = refl; entries = refl; pins = refl; components = found_alike some (terminals_in some net) }; only = tell.only } in
     let is = told library some some net alone in
     let scales = same_scale library some design tell.common in
     record {
@@ -427,8 +438,8 @@ one_component_is_told library some design net name tell =
       told = net_named library some (scale some) net;
       nets = is.nets;
       pins =
-          pins_based library design (scale some) net name some (those_named name design) tell.common (terminals_are library some (scale some) net ∙ (tell.terminals ∙ sym (terminals_are library design (scale some) net))) tell.components
-          ∙ sym (by_one library design (scale some) net name design refl refl)
+          pins_based library design (scale some) net name some (those_named name design) tell.common (terminals_are library some (scale some) net ∙ (tell.terminals ∙ sym (terminals_are library design (scale some) net))) tell.pins tell.components
+          ∙ sym (by_one library design (scale some) net name design refl refl refl)
           ∙ ap (λ (u : ℕ). pins_by_one library design u net name) scales;
     }
   where

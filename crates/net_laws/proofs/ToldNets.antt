@@ -34,8 +34,9 @@ use Rattle.net_rules.specs.Widths.{layer_width, or_width, rule_of_wire, width_by
 use Rattle.net_rules.specs.WirePieces.{net_wire_rules, path_pieces, special_wire_rules}
 use Rattle.connection_rules.specs.NetParts.{Wired, all_wired, is_named, is_power_use, net_named, use_of_clause, use_of_special, wired_of}
 use Rattle.connection_rules.specs.PinShapes.{checked_named, clause_shapes, port_shapes, ports_of}
-use Rattle.connection_rules.specs.Terminals.{NetPin, PinsByName, design_pin, design_pins, is_some_shape, names_net, pin_of, pin_of_component, pins_by_name, pins_of}
+use Rattle.connection_rules.specs.Terminals.{NetPin, PinsByName, design_pin, design_pins, is_some_shape, names_net, pin_of_component, pins_by_name, pins_of}
 use Rattle.net_laws.specs.NetsTold.{AgreeOnNet, FindsAlike, NetsAreTold, is_common, is_of_net, terminals_in, terminals_of}
+use Rattle.net_laws.proofs.NetPins.{FindsPin, same_naming_pins, same_terminals, terminals_find}
 use Rattle.net_laws.proofs.Selecting.{selected_alike}
 
 no_via : (r : Record) → is_common r ≡ false → (entry_of r >>= via_of_entry) ≡ None
@@ -69,21 +70,6 @@ no_rule (in_properties p) h = refl
 no_rule (end_section s) h = refl
 
 module _ (library : Library) (design : List Record) (u : ℕ) where
-  no_pin : (r : Record) → is_common r ≡ false → pin_of library design u r ≡ None
-  no_pin (top t) h = refl
-  no_pin (entry (records.component x)) h = refl
-  no_pin (entry (records.pin x)) h = absurd (cc)
-  no_pin (entry (records.region x)) h = refl
-  no_pin (entry (records.group x)) h = refl
-  no_pin (entry (records.blockage x)) h = refl
-  no_pin (entry (records.net x)) h = refl
-  no_pin (entry (records.special_net x)) h = refl
-  no_pin (entry (records.via x)) h = refl
-  no_pin (entry (records.rule x)) h = refl
-  no_pin (entry (records.skipped s x)) h = refl
-  no_pin (in_properties p) h = refl
-  no_pin (end_section s) h = refl
-
   abbrev wired_in : Record → Option Wired
   wired_in r = entry_of r >>= wired_of library design u
 
@@ -185,11 +171,11 @@ pin_by library shapes p = record {
 }
 
 -- what a terminal stands for, by its kind
-by_kind : (v a d : Bool) (x x' y y' z z' : List NetPin) → (a ≡ true → x ≡ x') → y ≡ y' → z ≡ z'
+pub by_kind : (v a d : Bool) (x x' y y' z z' : List NetPin) → (a ≡ true → x ≡ x') → (d ≡ true → y ≡ y') → z ≡ z'
     → (if v then [] else (if a then x else (if d then y else z))) ≡ (if v then [] else (if a then x' else (if d then y' else z')))
 by_kind true a d x x' y y' z z' f g h = refl
 by_kind false true d x x' y y' z z' f g h = f refl
-by_kind false false true x x' y y' z z' f g h = g
+by_kind false false true x x' y y' z z' f g h = g refl
 by_kind false false false x x' y y' z z' f g h = h
 
 -- two designs agree on what any net may be made of
@@ -199,9 +185,6 @@ module _ (library : Library) (a b : List Record) (u : ℕ) (common : filter is_c
 
   same_rules : def_rules a ≡ def_rules b
   same_rules = selected_alike is_common (λ (r : Record). entry_of r >>= rule_of_entry) no_rule a b common
-
-  same_pins : design_pins library a u ≡ design_pins library b u
-  same_pins = selected_alike is_common (pin_of library a u) (no_pin library a u) a b common
 
   same_shapes : via_shapes library a u ≡ via_shapes library b u
   same_shapes = ap (λ (vias : List DefVia). shapes_by library u vias) same_vias
@@ -238,12 +221,14 @@ module _ (library : Library) (a b : List Record) (u : ℕ) (common : filter is_c
   all_wired_same [] = refl
   all_wired_same (r ∷ all) = ap₂ (λ (w : Option Wired) (ws : List Wired). cons_option w ws) (same_in r) (all_wired_same all)
 
-  pub same_design : (pin : List ℕ) → (pins_by_name library a u).of_design pin ≡ (pins_by_name library b u).of_design pin
-  same_design pin =
-      ap₂ (λ (f : Pin → NetPin) (pins : List Pin). option_to_list (option_map f (find_named (λ (p : Pin). p.name) pins pin))) same_pin same_pins
+  -- a terminal of the design, where it finds the same pin
+  pub same_design : (t : Terminal) → FindsPin library u a b t → is_of_design t ≡ true → (pins_by_name library a u).of_design t.pin ≡ (pins_by_name library b u).of_design t.pin
+  same_design t found is = ap₂ (λ (f : Pin → NetPin) (p : Option Pin). option_to_list (option_map f p)) same_pin (found is)
 
-  pub same_naming : (net : List ℕ) → (pins_by_name library a u).naming net ≡ (pins_by_name library b u).naming net
-  same_naming net = ap₂ (λ (f : Pin → NetPin) (pins : List Pin). map f (filter (names_net library a u net) pins)) same_pin same_pins
+  -- the pins that name a net, where they are the same
+  pub same_naming : (net : List ℕ) → filter (names_net library a u net) (design_pins library a u) ≡ filter (names_net library b u net) (design_pins library b u)
+      → (pins_by_name library a u).naming net ≡ (pins_by_name library b u).naming net
+  same_naming net pins = ap₂ (λ (f : Pin → NetPin) (ps : List Pin). map f ps) same_pin pins
 
   -- entries of one name
   pub named_wired_same : (name : List ℕ) → filter (is_of_net name) a ≡ filter (is_of_net name) b
@@ -266,18 +251,21 @@ module _ (library : Library) (a b : List Record) (u : ℕ) (name : List ℕ) (ag
   abbrev pins_b : PinsByName
   pins_b = pins_by_name library b u
 
-  same_terminal : (t : Terminal) → FindsAlike a b t → pins_of pins_a t ≡ pins_of pins_b t
-  same_terminal t found =
+  same_terminal : (t : Terminal) → FindsAlike a b t → FindsPin library u a b t → pins_of pins_a t ≡ pins_of pins_b t
+  same_terminal t found pin =
       by_kind (is_virtual t) (is_of_all t) (is_of_design t) (pins_a.of_all t.pin) (pins_b.of_all t.pin) (pins_a.of_design t.pin) (pins_b.of_design t.pin)
       (pins_a.of_component t.owner t.pin)
       (pins_b.of_component t.owner t.pin)
       (λ star. ap (filter_map (pin_of_component library u t.pin)) (found.all star))
-      (same_design library a b u agree.common t.pin)
+      (same_design library a b u agree.common t pin)
       (ap (λ c. option_to_list (c >>= pin_of_component library u t.pin)) found.named)
 
-  same_terminals : (ts : List Terminal) → AllByRecursion (FindsAlike a b) ts → flat_map (pins_of pins_a) ts ≡ flat_map (pins_of pins_b) ts
-  same_terminals [] found = refl
-  same_terminals (t ∷ ts) found = ap₂ (λ (ps qs : List NetPin). ps ++ qs) (same_terminal t found.0) (same_terminals ts found.1)
+  same_pins_of : (ts : List Terminal) → AllByRecursion (FindsAlike a b) ts → AllByRecursion (FindsPin library u a b) ts → flat_map (pins_of pins_a) ts ≡ flat_map (pins_of pins_b) ts
+  same_pins_of [] found pins = refl
+  same_pins_of (t ∷ ts) found pins = ap₂ (λ (ps qs : List NetPin). ps ++ qs) (same_terminal t found.0 pins.0) (same_pins_of ts found.1 pins.1)
+
+  listed_alike : terminals_in a name ≡ terminals_in b name
+  listed_alike = same_terminals a b name agree.entries
 
   abbrev wired : List Record → List Wired
   wired all = filter (is_named library all u name) (all_wired library all u)
@@ -294,11 +282,11 @@ module _ (library : Library) (a b : List Record) (u : ℕ) (name : List ℕ) (ag
   same_listed : flat_map (pins_of pins_a) (listed (wired a)) ≡ flat_map (pins_of pins_b) (listed (wired b))
   same_listed =
       ap (flat_map (pins_of pins_a)) listed_are
-      ∙ same_terminals (terminals_in a name) agree.components
+      ∙ same_pins_of (terminals_in a name) agree.components (terminals_find library u a b name listed_alike agree.pins)
       ∙ ap (flat_map (pins_of pins_b)) (sym listed_are ∙ ap listed same_entries)
 
   pub same_net : net_named library a u name ≡ net_named library b u name
-  same_net = rw (same_listed, same_naming library a b u agree.common name, same_entries) refl
+  same_net = rw (same_listed, same_naming library a b u agree.common name (same_naming_pins library u a b name listed_alike agree.pins), same_entries) refl
 
 pub nets_are_told : NetsAreTold
 nets_are_told library a b u name agree = same_net library a b u name agree

@@ -11,7 +11,8 @@ use Rattle.def_grammar.specs.Records as records
 use Rattle.def_grammar.specs.Records.{Record, component_of, end_section, entry, in_properties, top}
 use Rattle.def_grammar.specs.Terminals.{Terminal, is_of_all}
 use Rattle.net_laws.specs.NetExchanges.{TouchOnly, finds, touches}
-use Rattle.net_laws.specs.NetsTold.{AgreeOnNet, FindsAlike, is_common, is_of_net, net_of_record, terminals_in}
+use Rattle.net_laws.specs.NetsTold.{AgreeOnNet, FindsAlike, is_common, is_of_net, is_pin_of_net, net_of_record, terminals_in}
+use Rattle.net_laws.proofs.NetPins.{pins_exchanged}
 use Rattle.net_laws.proofs.Selecting.{exchanged_alike, none_of_both}
 
 -- a component among some statements that a terminal finds, or one of some terminals
@@ -23,7 +24,7 @@ abbrev listed_by : List Terminal → Record → Bool
 listed_by ts (entry (records.component c)) = list_any (finds c.name) ts
 listed_by ts _ = false
 
--- of what isn't touched, nothing is of the net, and no component is listed
+-- of what isn't touched, nothing is an entry of the net, no component is listed, and no pin is of the net
 untouched : (design : List Record) (net : List ℕ) (r : Record) → touches design net r ≡ false → (is_of_net net r ≡ false) × (listed_by (terminals_in design net) r ≡ false)
 untouched design net (top t) h = (refl, refl)
 untouched design net (entry (records.component x)) h = (refl, h)
@@ -38,6 +39,12 @@ untouched design net (entry (records.rule x)) h = (refl, refl)
 untouched design net (entry (records.skipped s x)) h = (refl, refl)
 untouched design net (in_properties p) h = (refl, refl)
 untouched design net (end_section s) h = (refl, refl)
+
+no_pin : (design : List Record) (net : List ℕ) (r : Record) → touches design net r ≡ false → (is_of_net net r ≡ false) × (is_pin_of_net net (terminals_in design net) r ≡ false)
+no_pin design net (entry (records.pin x)) h = (refl, h)
+no_pin design net (entry (records.net x)) h = (h, refl)
+no_pin design net (entry (records.special_net x)) h = (h, refl)
+no_pin design net _ h = (refl, refl)
 
 neither : (b c : Bool) → b ≡ false → c ≡ false → (b || c) ≡ false
 neither true c h g = absurd (cc)
@@ -181,9 +188,13 @@ module _ (front out put rest : List Record) where
     agree net fails =
         let outs = fail_both (touches old net) (is_of_net net) (listed_by (terminals_in old net)) (untouched old net) out (goes.passes net fails) in
         let puts = fail_both (touches old net) (is_of_net net) (listed_by (terminals_in old net)) (untouched old net) put (comes.passes net fails) in
+        let pins_out = fail_both (touches old net) (is_of_net net) (is_pin_of_net net (terminals_in old net)) (no_pin old net) out (goes.passes net fails) in
+        let pins_put = fail_both (touches old net) (is_of_net net) (is_pin_of_net net (terminals_in old net)) (no_pin old net) put (comes.passes net fails) in
+        let entries = exchanged_alike (is_of_net net) front out put rest outs.0 puts.0 in
         record {
           common = exchanged_alike is_common front out put rest goes.none_common comes.none_common;
-          entries = exchanged_alike (is_of_net net) front out put rest outs.0 puts.0;
+          entries = entries;
+          pins = pins_exchanged front out put rest net entries pins_out.1 pins_put.1;
           components = all_find_alike (terminals_in old net) outs.1 puts.1;
         }
 

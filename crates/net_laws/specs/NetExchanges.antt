@@ -12,7 +12,7 @@ use Rattle.connection_rules.specs.NetParts.{Net, all_nets, net_named, net_names}
 use Rattle.design_rules.specs.Boxes.{scale}
 use Rattle.edit_rules.specs.SectionEdits.{entries_in}
 use Rattle.following_laws.specs.Following.{Exchange}
-use Rattle.net_laws.specs.NetsTold.{is_common, is_of_net, terminals_in}
+use Rattle.net_laws.specs.NetsTold.{is_common, is_named_or_listed, is_of_net, terminals_in}
 
 -- the nets of a design whose names pass a test
 abbrev pub nets_where : Library → List Record → ℕ → (List ℕ → Bool) → List Net
@@ -22,9 +22,10 @@ nets_where library design u test = map (net_named library design u) (filter test
 abbrev pub finds : List ℕ → Terminal → Bool
 finds name t = is_of_all t || bytes_eq t.owner name
 
--- a statement touches a net of a design: it is an entry of the net, or a component that the net lists
+-- a statement touches a net of a design: it is an entry of the net, a component that the net lists, or a pin that it lists or that names it
 abbrev pub touches : List Record → List ℕ → Record → Bool
 touches design net (entry (records.component c)) = list_any (finds c.name) (terminals_in design net)
+touches design net (entry (records.pin p)) = is_named_or_listed net (terminals_in design net) p
 touches design net r = is_of_net net r
 
 -- none of some statements is common to all nets, and a test passes each net of a design that one of them touches

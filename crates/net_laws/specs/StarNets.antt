@@ -1,5 +1,5 @@
 -- A net of which one component is exchanged, as one that lists a pin of all components.
-use Rattle.std.specs.Prelude.{◌≡◌, ℕ, Bool, not, ◌||◌, List, [], ◌∷◌, ◌++◌, filter, Some}
+use Rattle.std.specs.Prelude.{◌≡◌, ℕ, Bool, true, not, ◌||◌, List, [], ◌∷◌, ◌++◌, filter}
 use Rattle.std.specs.List.{filter_map}
 use Rattle.std.specs.Str.{bytes_eq}
 use Rattle.def_grammar.specs.Components.{Component}
@@ -9,13 +9,15 @@ use Rattle.lef_grammar.specs.Library.{Library}
 use Rattle.connection_rules.specs.NetParts.{Net, Part, all_nets, net_named}
 use Rattle.design_rules.specs.Boxes.{scale}
 use Rattle.following_laws.specs.Following.{Exchange}
-use Rattle.net_laws.specs.NetsTold.{is_common, is_of_net, net_of_record, terminals_in}
+use Rattle.net_laws.specs.NetsTold.{is_common, is_of_net, net_of_record, pins_of_net, terminals_in}
 use Rattle.net_laws.specs.OneNet.{TellNet}
-use Rattle.net_laws.specs.Within.{AreWithin}
+use Rattle.net_laws.specs.Within.{AreWithin, a_component}
 
--- a statement tells what a component is to a net: it is the component, an entry of the net, or of what any net may be made of
+-- a statement tells what a component is to a net: it is the component, an entry of the net, a pin of the design, or of what any net may be
+-- made of
 abbrev pub tells_of : List ℕ → List ℕ → Record → Bool
 tells_of net component (entry (records.component c)) = bytes_eq c.name component
+tells_of net component (entry (records.pin p)) = true
 tells_of net component r = is_common r || is_of_net net r
 
 -- the pins of parts
@@ -37,6 +39,7 @@ all_but name design = filter (λ (c : Component). not (bytes_eq c.name name)) (f
 pub record AgreeBut (a b : List Record) (net component : List ℕ) : Type 0 where
   pub common : filter is_common a ≡ filter is_common b
   pub entries : filter (is_of_net net) a ≡ filter (is_of_net net) b
+  pub pins : pins_of_net a net ≡ pins_of_net b net
   pub components : all_but component a ≡ all_but component b
 
 -- Then of the net's parts those pins are exchanged, and the others stay.
@@ -50,7 +53,7 @@ OneComponentExchanged = (library : Library) (a b : List Record) (u : ℕ) (net c
 
 -- Designs agree so where statements of that component are exchanged, and others of which no net is made,
 abbrev pub OneExchangedAgree : Type 0
-OneExchangedAgree = (front out put behind : List Record) (component : List ℕ) → AreWithin [] (Some component) out → AreWithin [] (Some component) put
+OneExchangedAgree = (front out put behind : List Record) (component : List ℕ) → AreWithin [] (a_component component) out → AreWithin [] (a_component component) put
     → (net : List ℕ) → AgreeBut (front ++ (out ++ behind)) (front ++ (put ++ behind)) net component
 
 -- also after several such exchanges.
@@ -61,6 +64,7 @@ AgreeOnAndOn = (a b c : List Record) (net component : List ℕ) → AgreeBut a b
 pub record TellOne (some design : List Record) (net component : List ℕ) : Type 0 where
   pub common : filter is_common some ≡ filter is_common design
   pub terminals : terminals_in some net ≡ terminals_in design net
+  pub pins : pins_of_net some net ≡ pins_of_net design net
   pub components : filter_map component_of some ≡ those_named component design
   pub only : filter_map net_of_record some ≡ net ∷ []
 

@@ -1,17 +1,18 @@
 //! Laws of what the nets of a design hang on, and which of them an edit leaves.
 //!
-//! Each law is an empty function that ensures it; call it to use it. A net is told by its entries, by the components that these list,
-//! and by UNITS, vias, nondefault rules and pins of the design (`specs/NetsTold`). So where statements are exchanged for others, only
-//! those nets change of which one of these is an entry, or which list a component among them (`specs/NetExchanges`). One net is told by
-//! few statements (`specs/OneNet`), and where designs agree on all nets but some which are so told, these alone are exchanged
-//! (`specs/NetChanges`). Where routing is blocked tells no net, and has laws of its own (`specs/Blocked`).
+//! Each law is an empty function that ensures it; call it to use it. A net is told by its entries, by the components that these list, by
+//! the pins of the design that these list or that name the net, and by UNITS, vias and nondefault rules (`specs/NetsTold`). So where
+//! statements are exchanged for others, only those nets change of which one of these is an entry, which list a component or a pin among
+//! them, or which a pin among them names (`specs/NetExchanges`). One net is told by few statements (`specs/OneNet`), and where designs
+//! agree on all nets but some which are so told, these alone are exchanged (`specs/NetChanges`). Where routing is blocked tells no net, and
+//! has laws of its own (`specs/Blocked`).
 #![tactic(auto)]
 
 ghost use Rattle.net_laws.specs.Blocked.{BarredLinesFollow, BarsAreExchanged};
 ghost use Rattle.net_laws.specs.NetsTold.{NetsAreTold};
 ghost use Rattle.net_laws.specs.NetExchanges.{NetsAreExchanged, NoNetsNoLines};
 ghost use Rattle.net_laws.specs.NetChanges.{ApartOnAndOn, ToldNetsAreExchanged, TouchedApart};
-ghost use Rattle.net_laws.specs.OneNet.{OneNetIsTold};
+ghost use Rattle.net_laws.specs.OneNet.{AllPinsTell, OneNetIsTold, OwnPinsTell};
 ghost use Rattle.net_laws.specs.PinLines.{PinLinesFollow};
 ghost use Rattle.net_laws.specs.StarNets.{AgreeOnAndOn, OneComponentExchanged, OneComponentIsTold, OneEntryTells, OneExchangedAgree};
 ghost use Rattle.net_laws.specs.Within.{WithinApart};
@@ -36,6 +37,16 @@ pub fn one_net_is_told()
     ensures { OneNetIsTold }
 {}
 
+/// Statements that have all pins of a design have those of each net,
+pub fn all_pins_tell()
+    ensures { AllPinsTell }
+{}
+
+/// and so have those whose pins are the net's alone.
+pub fn own_pins_tell()
+    ensures { OwnPinsTell }
+{}
+
 /// Designs agree apart from the nets that statements touch which are exchanged,
 pub fn touched_apart()
     ensures { TouchedApart }
@@ -46,7 +57,7 @@ pub fn apart_on_and_on()
     ensures { ApartOnAndOn }
 {}
 
-/// An exchange of entries of some nets, and of a component that no other net lists, leaves the other nets.
+/// An exchange of entries of some nets, and of a component or a pin of the design that no other net lists, leaves the other nets.
 pub fn within_apart()
     ensures { WithinApart }
 {}

@@ -39,6 +39,13 @@ impl<A: Allocator + Copy> Block<A> {
         self.bytes.as_slice()
     }
 
+    /// The bytes, for others that keep parts of them.
+    pub fn shared(&self) -> &Rc<Vec<u8, A>, A>
+        ensures { result.now.value.items ≡ self.now }
+    {
+        &self.bytes
+    }
+
     /// All bytes, as those of a piece. More than a text may have are refused as memory is.
     pub(crate) fn whole(&self) -> Result<PieceBytes<A>, AllocError>
         ensures { IfOk result (λ b. b ≡ self.now) }

@@ -9,7 +9,7 @@ ghost use Rattle.text_pieces.specs.Storing.{StaysKept, news_of};
 ghost use Rattle.text_pieces.specs.Tables.{AreChunks, AreHome, IsTable, table_of, weight};
 
 use crate::chunks::{Change, Chunk};
-use crate::storing::store_all;
+use crate::storing::{small, store_all};
 use crate::table::PieceTable;
 use design_model::identifier::StmtId;
 use rereading::pieces::NewPiece;
@@ -71,8 +71,9 @@ pub(crate) fn place_new<A: Allocator + Copy>(
     ensures chunks { (table_of table.new).chunks ≡ (table_of table.old).chunks }
     ensures stays { StaysKept (table_of table.old).slots (table_of table.new).slots }
 {
+    let number = small(chunk)?;
     let mut head = Vec::from_slice(alloc, &table.chunks[chunk].ids[..index])?;
-    store_all(&mut table.pieces, &mut head, new, chunk)?;
+    store_all(&mut table.pieces, &mut head, new, number)?;
     let ids = Vec::from_slice(alloc, &head[index..])?;
     let changes = new_lists(alloc, table, chunk, index, out, head)?;
     Ok((changes, ids))

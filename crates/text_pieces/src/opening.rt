@@ -64,7 +64,7 @@ pub(crate) fn read_chunk<A: Allocator + Copy, T: Told>(
     block: &Block<A>,
     from: usize,
     first: Mode,
-    number: usize,
+    number: u32,
     pieces: &mut Slab<Piece<A>, A>,
     told: &mut T,
 ) -> Result<Part<A>, ReadError>

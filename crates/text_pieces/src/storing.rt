@@ -1,6 +1,6 @@
 //! Pieces that are put under numbers.
 
-ghost use Rattle.std.specs.Prelude.{IfOk, map, option_map};
+ghost use Rattle.std.specs.Prelude.{◌≡◌, IfOk, map, option_map};
 ghost use Rattle.text_pieces.specs.Storing.{StaysKept, StoresAll, StoresBehind, news_of};
 ghost use Rattle.text_pieces.specs.Tables.{kept};
 
@@ -10,6 +10,16 @@ use design_model::identifier::StmtId;
 use rereading::pieces::NewPiece;
 use slab::Slab;
 use std::alloc::{AllocError, Allocator};
+
+/// A number of a chunk in four bytes. One that has more is refused as memory is.
+pub(crate) fn small(chunk: usize) -> Result<u32, AllocError>
+    ensures { IfOk result (λ n. n ≡ chunk) }
+{
+    if chunk > u32::MAX as usize {
+        return Err(AllocError);
+    }
+    Ok(chunk as u32)
+}
 
 /// Keeps a piece, and puts its number, which is answered, behind others.
 pub(crate) fn keep<A: Allocator + Copy>(
@@ -32,7 +42,7 @@ pub(crate) fn store_all<A: Allocator + Copy>(
     pieces: &mut Slab<Piece<A>, A>,
     ids: &mut Vec<StmtId, A>,
     new: Vec<NewPiece<A>, A>,
-    chunk: usize,
+    chunk: u32,
 ) -> Result<(), AllocError>
     ensures kept { IfOk result (λ _. StoresAll (map (option_map kept) pieces.old.slots) (map (option_map kept) pieces.new.slots) (news_of chunk new.items) chunk ids.old.items ids.new.items) }
     ensures stays { StaysKept (map (option_map kept) pieces.old.slots) (map (option_map kept) pieces.new.slots) }

@@ -20,7 +20,7 @@ use std::alloc::{AllocError, Allocator, Global};
 pub(crate) struct Piece<A: Allocator = Global> {
     pub(crate) bytes: PieceBytes<A>,
     pub(crate) mode: Mode,
-    pub(crate) chunk: usize,
+    pub(crate) chunk: u32,
 }
 
 /// A place of a chunk, and where the piece there begins.
@@ -44,7 +44,7 @@ impl<A: Allocator> PieceTable<A> {
         requires { IsTable (table_of self.now) }
         ensures { MatchOption result (IsAbsent id (ids_of (table_of self.now))) (λ x. StandsAt (table_of self.now) id x.0 x.1) }
     {
-        let chunk = self.pieces.get(id.0)?.chunk;
+        let chunk = self.pieces.get(id.0)?.chunk as usize;
         let place = place_in(&self.chunks.get(chunk)?.ids, id)?;
         Some((chunk, place))
     }

@@ -25,6 +25,7 @@ use crate::chunks::exchange;
 use crate::lists::place_new;
 use crate::opening::{read_chunk, room_for};
 use crate::prepared::{PrepareError, PreparedText, TextCut};
+use crate::storing::small;
 use crate::stretch::{Stretch, append_part, first_mode, spliced, tail_after, touched};
 use crate::table::PieceTable;
 use crate::told::{Told, Untold};
@@ -91,7 +92,8 @@ fn read_all<A: Allocator + Copy, T: Told>(
     let mut mode = Mode::Top;
     let mut pos = 0;
     'chunks: loop {
-        match read_chunk(alloc, block, pos, mode, chunks.len(), &mut pieces, told) {
+        let number = small(chunks.len())?;
+        match read_chunk(alloc, block, pos, mode, number, &mut pieces, told) {
             Ok(part) => {
                 mode = part.mode;
                 pos = part.pos;

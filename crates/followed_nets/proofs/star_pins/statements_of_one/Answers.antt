@@ -1,11 +1,11 @@
 use Rattle.std.proofs.Common.{◌∙◌, [], ◌∷◌, filter, map, ap}
 use Rattle.std.proofs.lemmas.List.{map-append}
 use Rattle.def_reader.specs.StatementViews.{record_view}
-use Rattle.net_laws.specs.NetsTold.{is_common}
 use Rattle.text_pieces.specs.KeptRecords.{record_of}
 use Rattle.text_pieces.specs.Tables.{ids_of, kept_at}
 use Rattle.design_text.specs.DesignTexts.{design_of}
 use Rattle.design_text.specs.Exchanges.{records_in}
+use Rattle.followed_nets.specs.Noted.{tells_any}
 use Rattle.followed_nets.specs.ToldViews.{head_view}
 use Rattle.followed_nets.proofs.HeadLemmas.{head_says}
 use Rattle.followed_nets.proofs.KeptStatements.{their_pieces, their_records}
@@ -16,7 +16,7 @@ pub kept-requires : goal.kept-requires
 kept-requires g c =
     let text = c.args.text.now in
     let kept = c.statements_are_kept.ensures.kept in
-    rw (c.requires.common) (their_pieces text.pieces.table.slots is_common (records_in text) (ids_of text.pieces.table) kept.says kept.pieces)
+    rw (c.requires.common) (their_pieces text.pieces.table.slots tells_any (records_in text) (ids_of text.pieces.table) kept.says kept.pieces)
 
 pub returns : goal.returns
 returns g c =
@@ -28,7 +28,7 @@ returns g c =
     let commons_are =
     c.in_ok-statements.ensures
     ∙ ap (map (λ id. record_of (kept_at slots id))) c.requires.common
-    ∙ their_records slots is_common (records_in text) (ids_of text.pieces.table) kept.says
-    ∙ ap (filter is_common) c.statements_are_kept.ensures.said in
-    these_tell_one (design_of text) head.name c.args.component.now (record_view c.in-Some.entry) _ _ _ says.0 says.1 commons_are c.in_ok-push_own.ensures
+    ∙ their_records slots tells_any (records_in text) (ids_of text.pieces.table) kept.says
+    ∙ ap (filter tells_any) c.statements_are_kept.ensures.said in
+    these_tell_one c.all_pins_tell.ensures (design_of text) head.name c.args.component.now (record_view c.in-Some.entry) _ _ _ says.0 says.1 commons_are c.in_ok-push_own.ensures
     (ap (map record_view) c.in_ok-push.ensures.items ∙ map-append record_view _ (c.in-Some.entry ∷ []))

@@ -16,6 +16,6 @@ returns-in-Some g c =
     let word = section_word (section_of e) in
     on_ok c.put_terminals.result
     (λ later. put_both c.args.id ((word, roles.Member) ∷ []) (flat_map terminal_marks (terminals_of e)) c.args.self.now c.put_again.new.self c.put_terminals.new.self
-    (word_put c.args.id roles.Member c.word.result.now word c.args.self.now c.put_again.new.self (c.word.ensures ∙ ap section_word c.section.ensures) c.in_ok-put_again.ensures)
+    (word_put c.args.id roles.Member c.word.result.now word c.args.self.now c.put_again.new.self (c.word.ensures ∙ ap section_word c.section.ensures) (rw c.in_ok-new.ensures at c.in_ok-put_again.ensures))
     (rw c.in-Some.ensures later))
     c.put_terminals.ensures

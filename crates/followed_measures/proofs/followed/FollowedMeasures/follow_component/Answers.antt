@@ -5,6 +5,7 @@ use Rattle.design_model.specs.Views.{rectangle_of}
 use Rattle.def_grammar.specs.Records.{Record}
 use Rattle.reports.specs.Densities.{box_shape, box_shapes}
 use Rattle.measuring_laws.specs.Measuring.{is_of_cells, own_boxes}
+use Rattle.net_laws.specs.Within.{a_component}
 use Rattle.design_text.specs.Exchanges.{records_in}
 use Rattle.followed_nets.specs.Noted.{said}
 use Rattle.followed_nets.specs.StarHeads.{AreStarHeads, ArePinShapes}
@@ -32,7 +33,7 @@ pins_by-requires-clause-heads g c =
     let last = records_in c.args.text.now in
     let left = c.in_ok-leaves_others.ensures old c.in-Some-Some.common.items c.requires.1 common yes in
     let name = c.bytes-name.result.now in
-    let leaves = subst (λ (ns : List (List ℕ)). Leaves (said old) (said last) ns (Some name)) (c.deref.ensures.value ∙ c.new-none.ensures.items) left.0 in
+    let leaves = subst (λ (ns : List (List ℕ)). Leaves (said old) (said last) ns (a_component name)) (c.deref.ensures.value ∙ c.new-none.ensures.items) left.0 in
     subst (λ (d : List Record). AreStarHeads d c.in-Some-Some.heads) c.statements_are_kept.ensures.said (heads_then (said old) (said last) name leaves c.in-Some-Some.heads heads)
 
 pub box_in-requires : goal.box_in-requires
@@ -78,8 +79,8 @@ returns g c = λ old made told measures yes_so.
     let common = rw (c.in-Some-Some.is-0) at had.common_are in
     let heads = rw (c.in-Some-Some.is-1) at had.heads_are in
     let left = c.in_ok-leaves_others.ensures old c.in-Some-Some.common.items made common yes in
-    let bare = subst (λ (ns : List (List ℕ)). Leaves (said old) (said last) ns (Some c.bytes-name.result.now)) (c.deref.ensures.value ∙ c.new-none.ensures.items) left.0 in
-    let leaves = subst (λ (n : List ℕ). Leaves (said old) (said last) [] (Some n)) c.bytes-name.ensures bare in
+    let bare = subst (λ (ns : List (List ℕ)). Leaves (said old) (said last) ns (a_component c.bytes-name.result.now)) (c.deref.ensures.value ∙ c.new-none.ensures.items) left.0 in
+    let leaves = subst (λ (n : List ℕ). Leaves (said old) (said last) [] (a_component n)) c.bytes-name.ensures bare in
     let cells = subst (λ (n : List ℕ). filter (is_of_cells (Some n)) (said old) ≡ filter (is_of_cells (Some n)) (said last)) c.bytes-name.ensures left.2 in
     let same = sym c.statements_are_kept.ensures.said in
     let pins = rw (c.in-Some.is) at c.in_ok-after.ensures.shapes in

@@ -21,85 +21,89 @@ use Rattle.followed_nets.proofs.followed.FollowedNets.follow_nets.Goals as goal
 pub told_nets-requires : goal.told_nets-requires
 told_nets-requires g c =
     let yes : c.in_ok-are_all.field-0 ≡ true = search rules in
-    let f = rw (← c.self.view_is) at c.requires.3 in
     let t = rw (← c.touched.view_is) at c.requires.2 in
     let alone = rw (← c.touched.view_is) at c.in_ok-are_all.ensures in
-    c.deref.ensures.value ∙ (alone c.requires.0 c.self.inside.common.items c.requires.1 t.lists f.nets.common_are yes).1
+    c.deref.ensures.value ∙ (rw (c.in-Some.is) at ((rw (← c.touched.view_is) at c.in_ok-common.ensures) c.requires.0 c.requires.1 c.requires.3.nets.common_are (λ none. (alone c.requires.0 c.args.self.now.common c.requires.1 t.lists yes).1 none c.requires.3.nets.common_are)))
 
 pub exchange_stars-requires-clause-common : goal.exchange_stars-requires-clause-common
 exchange_stars-requires-clause-common g c =
     let yes : c.in_ok-are_all.field-0 ≡ true = search rules in
     let t = rw (← c.touched.view_is) at c.requires.2 in
     let alone = rw (← c.touched.view_is) at c.in_ok-are_all.ensures in
-    (alone c.requires.0 c.args.self.now.common c.requires.1 t.lists c.requires.3.nets.common_are yes).1
+    rw (c.in-Some.is) at ((rw (← c.touched.view_is) at c.in_ok-common.ensures) c.requires.0 c.requires.1 c.requires.3.nets.common_are (λ none. (alone c.requires.0 c.args.self.now.common c.requires.1 t.lists yes).1 none c.requires.3.nets.common_are))
 
 pub exchange_stars-requires-clause-heads : goal.exchange_stars-requires-clause-heads
 exchange_stars-requires-clause-heads g c =
     let yes : c.in_ok-are_all.field-0 ≡ true = search rules in
     let t = rw (← c.touched.view_is) at c.requires.2 in
     let alone = rw (← c.touched.view_is) at c.in_ok-are_all.ensures in
-    let fits = rw (← c.touched.view_is) at (c.fits.ensures (search (rules, c.if-not-fits.false))) in
+    let fits = rw (← c.touched.view_is, ← c.self.view_is) at (c.fits.ensures (search (rules, c.if-not-fits.false))) in
+    let f = rw (← c.self.view_is) at c.requires.3 in
     let last = records_in c.args.text.now in
-    let both = alone c.requires.0 c.args.self.now.common c.requires.1 t.lists c.requires.3.nets.common_are yes in
-    heads_stay c.args.library.now (said c.requires.0) (said last) _ both.0 t.pins c.args.self.now.heads fits.heads c.requires.3.nets.heads_are
+    let both = alone c.requires.0 c.args.self.now.common c.requires.1 t.lists yes in
+    heads_stay c.args.library.now (said c.requires.0) (said last) _ both.0 t.pins _ fits.heads f.nets.heads_are
 
 pub exchange-requires : goal.exchange-requires
 exchange-requires g c =
     let yes : c.in_ok-are_all.field-0 ≡ true = search rules in
     let t = rw (← c.touched.view_is) at c.requires.2 in
     let alone = rw (← c.touched.view_is) at c.in_ok-are_all.ensures in
-    let fits = rw (← c.touched.view_is) at (c.fits.ensures (search (rules, c.if-not-fits.false))) in
+    let fits = rw (← c.touched.view_is, ← c.self.view_is) at (c.fits.ensures (search (rules, c.if-not-fits.false))) in
+    let f = rw (← c.self.view_is) at c.requires.3 in
     let library = c.args.library.now in
     let last = records_in c.args.text.now in
-    let both = alone c.requires.0 c.args.self.now.common c.requires.1 t.lists c.requires.3.nets.common_are yes in
-    let told = rw (c.in-Some.is) at c.in_ok-after.ensures.told in
-    let named = rw (c.in-Some.is) at c.in_ok-after.ensures.named ∙ c.deref-3.ensures.value in
+    let both = alone c.requires.0 c.args.self.now.common c.requires.1 t.lists yes in
+    let told = rw (c.in-Some-2.is) at c.in_ok-after.ensures.told in
+    let named = rw (c.in-Some-2.is) at c.in_ok-after.ensures.named ∙ c.deref-3.ensures.value in
     let then_bars = barriers library (said c.requires.0) (scale (said c.requires.0)) in
-    let bars_are : SameThings (map barrier_view c.deref-2.result.now) then_bars = rw (c.deref-2.ensures.value) (rw (← c.self.view_is) at c.requires.3.nets.bars_are) in
+    let bars_are : SameThings (map barrier_view c.deref-2.result.now) then_bars = rw (c.deref-2.ensures.value) f.nets.bars_are in
     let then_told =
-    told_alike library (map barrier_view c.deref-2.result.now) then_bars bars_are (said last) (map told_view c.in-Some.after.items)
-    (subst (λ (d : List Record). AreToldIn library (map barrier_view c.deref-2.result.now) d (map told_view c.in-Some.after.items)) (sym c.statements_are_kept.ensures.said) told) in
-    let none = if_none_so c.touched.inside.component (λ h. (h.0, ap (λ (e : ToldExchange _). map told_view e.gone.items) h.1, ap (λ (e : ToldExchange _). map told_view e.come.items) h.1)) (rw (c.in-Some-2.is) at c.in_ok-all.ensures.none) in
-    let all = all_exchanged library c.requires.0 last c.args.self.now c.args.kept _ _ c.told_nets_are_exchanged.ensures c.one_entry_tells.ensures c.same_lines_sort_alike.ensures c.short_is_symmetric.ensures t c.requires.3 both.0 fits then_told named
+    told_alike library (map barrier_view c.deref-2.result.now) then_bars bars_are (said last) (map told_view c.in-Some-2.after.items)
+    (subst (λ (d : List Record). AreToldIn library (map barrier_view c.deref-2.result.now) d (map told_view c.in-Some-2.after.items)) (sym c.statements_are_kept.ensures.said) told) in
+    let none = if_none_so c.touched.inside.component (λ h. (h.0, ap (λ (e : ToldExchange _). map told_view e.gone.items) h.1, ap (λ (e : ToldExchange _). map told_view e.come.items) h.1)) (rw (c.in-Some-3.is) at c.in_ok-all.ensures.none) in
+    let all = all_exchanged library c.requires.0 last _ c.args.kept _ _ c.told_nets_are_exchanged.ensures c.one_entry_tells.ensures c.same_lines_sort_alike.ensures c.short_is_symmetric.ensures t f both.0 fits then_told named
     c.touched.inside.component (λ (x : TouchedComponent _). x.name) (λ (x : TouchedComponent _). map star_view x.stars.items) refl (λ own is. ap (λ (x : Option (TouchedComponent _)). stars_of x) is)
-    c.nets_are_told.ensures c.pin_lines_follow.ensures c.one_component_exchanged.ensures (map told_view c.in-Some-2.all.gone.items) (map told_view c.in-Some-2.all.come.items) c.exchange_stars.new.self.stars none (rw (c.in-Some-2.is) at c.in_ok-all.ensures.own) in
-    (all.parts.bars, all.parts.out, all.parts.put, all.parts.rest, all.parts.goes, all.parts.comes, rw (c.in_ok-all.ensures.shapes) all.parts.had)
+    c.nets_are_told.ensures c.pin_lines_follow.ensures c.one_component_exchanged.ensures (map told_view c.in-Some-3.all.gone.items) (map told_view c.in-Some-3.all.come.items) c.exchange_stars.new.self.stars none (rw (c.in-Some-3.is) at c.in_ok-all.ensures.own) in
+    let p = all.parts in
+    let had = subst (λ (ss : List NetShape). AreOnPieces (layer_name library.layers) p.bars (p.out ++ p.rest) ss c.args.kept.lines) (sym c.in_ok-all.ensures.shapes) p.had in
+    (p.bars, p.out, p.put, p.rest, p.goes, p.comes, had)
 
 pub returns-clause-lines : goal.returns-clause-lines
 returns-clause-lines g c = λ old exchanges touched followed.
     let yes : c.in_ok-are_all.field-0 ≡ true = search rules in
     let t = rw (← c.touched.view_is) at touched in
     let alone = rw (← c.touched.view_is) at c.in_ok-are_all.ensures in
-    let fits = rw (← c.touched.view_is) at (c.fits.ensures (search (rules, c.if-not-fits.false))) in
+    let fits = rw (← c.touched.view_is, ← c.self.view_is) at (c.fits.ensures (search (rules, c.if-not-fits.false))) in
+    let f = rw (← c.self.view_is) at followed in
     let library = c.args.library.now in
     let last = records_in c.args.text.now in
-    let both = alone old c.args.self.now.common exchanges t.lists followed.nets.common_are yes in
-    let told = rw (c.in-Some.is) at c.in_ok-after.ensures.told in
-    let named = rw (c.in-Some.is) at c.in_ok-after.ensures.named ∙ c.deref-3.ensures.value in
+    let both = alone old c.args.self.now.common exchanges t.lists yes in
+    let told = rw (c.in-Some-2.is) at c.in_ok-after.ensures.told in
+    let named = rw (c.in-Some-2.is) at c.in_ok-after.ensures.named ∙ c.deref-3.ensures.value in
     let then_bars = barriers library (said old) (scale (said old)) in
-    let bars_are : SameThings (map barrier_view c.deref-2.result.now) then_bars = rw (c.deref-2.ensures.value) (rw (← c.self.view_is) at followed.nets.bars_are) in
+    let bars_are : SameThings (map barrier_view c.deref-2.result.now) then_bars = rw (c.deref-2.ensures.value) f.nets.bars_are in
     let then_told =
-    told_alike library (map barrier_view c.deref-2.result.now) then_bars bars_are (said last) (map told_view c.in-Some.after.items)
-    (subst (λ (d : List Record). AreToldIn library (map barrier_view c.deref-2.result.now) d (map told_view c.in-Some.after.items)) (sym c.statements_are_kept.ensures.said) told) in
-    let none = if_none_so c.touched.inside.component (λ h. (h.0, ap (λ (e : ToldExchange _). map told_view e.gone.items) h.1, ap (λ (e : ToldExchange _). map told_view e.come.items) h.1)) (rw (c.in-Some-2.is) at c.in_ok-all.ensures.none) in
-    let all = all_exchanged library old last c.args.self.now c.args.kept _ _ c.told_nets_are_exchanged.ensures c.one_entry_tells.ensures c.same_lines_sort_alike.ensures c.short_is_symmetric.ensures t followed both.0 fits then_told named
+    told_alike library (map barrier_view c.deref-2.result.now) then_bars bars_are (said last) (map told_view c.in-Some-2.after.items)
+    (subst (λ (d : List Record). AreToldIn library (map barrier_view c.deref-2.result.now) d (map told_view c.in-Some-2.after.items)) (sym c.statements_are_kept.ensures.said) told) in
+    let none = if_none_so c.touched.inside.component (λ h. (h.0, ap (λ (e : ToldExchange _). map told_view e.gone.items) h.1, ap (λ (e : ToldExchange _). map told_view e.come.items) h.1)) (rw (c.in-Some-3.is) at c.in_ok-all.ensures.none) in
+    let all = all_exchanged library old last _ c.args.kept _ _ c.told_nets_are_exchanged.ensures c.one_entry_tells.ensures c.same_lines_sort_alike.ensures c.short_is_symmetric.ensures t f both.0 fits then_told named
     c.touched.inside.component (λ (x : TouchedComponent _). x.name) (λ (x : TouchedComponent _). map star_view x.stars.items) refl (λ own is. ap (λ (x : Option (TouchedComponent _)). stars_of x) is)
-    c.nets_are_told.ensures c.pin_lines_follow.ensures c.one_component_exchanged.ensures (map told_view c.in-Some-2.all.gone.items) (map told_view c.in-Some-2.all.come.items) c.exchange_stars.new.self.stars none (rw (c.in-Some-2.is) at c.in_ok-all.ensures.own) in
+    c.nets_are_told.ensures c.pin_lines_follow.ensures c.one_component_exchanged.ensures (map told_view c.in-Some-3.all.gone.items) (map told_view c.in-Some-3.all.come.items) c.exchange_stars.new.self.stars none (rw (c.in-Some-3.is) at c.in_ok-all.ensures.own) in
     let p = all.parts in
     let had = subst (λ (ss : List NetShape). AreOnPieces (layer_name library.layers) p.bars (p.out ++ p.rest) ss c.args.kept.lines) (sym c.in_ok-all.ensures.shapes) p.had in
-    let on = subst (λ (found : Option (FollowedOnNets _)). IfSome found (λ f. AreOnPieces (layer_name library.layers) p.bars (p.put ++ p.rest) c.exchange.new.self.shapes f.lines.lines)) c.in-Some-3.is
+    let on = subst (λ (found : Option (FollowedOnNets _)). IfSome found (λ f. AreOnPieces (layer_name library.layers) p.bars (p.put ++ p.rest) c.exchange.new.self.shapes f.lines.lines)) c.in-Some-4.is
     (c.in_ok-followed.ensures.lines p.bars p.out p.put p.rest p.goes p.comes had) in
     record {
       nets = record {
-        shapes_are = p.then_shapes c.exchange.new.self.shapes c.in-Some-3.followed.lines.lines on;
-        common_are = rw (c.in_ok-followed.ensures.common, c.in_ok-all.ensures.common) both.1;
-        bars_are = rw (c.in_ok-followed.ensures.bars, c.in_ok-all.ensures.bars) followed.nets.bars_are;
+        shapes_are = p.then_shapes c.exchange.new.self.shapes c.in-Some-4.followed.lines.lines on;
+        common_are = rw (c.in_ok-followed.ensures.common, c.in_ok-all.ensures.common) (rw (c.in-Some.is) at ((rw (← c.touched.view_is) at c.in_ok-common.ensures) old exchanges followed.nets.common_are (λ none. both.1 none followed.nets.common_are)));
+        bars_are = rw (c.in_ok-followed.ensures.bars, c.in_ok-all.ensures.bars) f.nets.bars_are;
         stars_are = rw (c.in_ok-followed.ensures.stars) all.then_stars;
         heads_are =
             rw (c.in_ok-followed.ensures.heads, c.in_ok-all.ensures.heads)
-            (heads_stay library (said old) (said last) _ both.0 t.pins c.args.self.now.heads fits.heads followed.nets.heads_are);
+            (heads_stay library (said old) (said last) _ both.0 t.pins _ fits.heads f.nets.heads_are);
       };
-      lines = p.then_lines c.exchange.new.self.shapes c.in-Some-3.followed.lines.lines on;
+      lines = p.then_lines c.exchange.new.self.shapes c.in-Some-4.followed.lines.lines on;
     }
 
 -- (over variables, as these sums are large terms)
@@ -111,26 +115,27 @@ returns-clause-tests g c = λ old exchanges touched followed.
     let yes : c.in_ok-are_all.field-0 ≡ true = search rules in
     let t = rw (← c.touched.view_is) at touched in
     let alone = rw (← c.touched.view_is) at c.in_ok-are_all.ensures in
-    let fits = rw (← c.touched.view_is) at (c.fits.ensures (search (rules, c.if-not-fits.false))) in
+    let fits = rw (← c.touched.view_is, ← c.self.view_is) at (c.fits.ensures (search (rules, c.if-not-fits.false))) in
+    let f = rw (← c.self.view_is) at followed in
     let library = c.args.library.now in
     let last = records_in c.args.text.now in
-    let both = alone old c.args.self.now.common exchanges t.lists followed.nets.common_are yes in
-    let told = rw (c.in-Some.is) at c.in_ok-after.ensures.told in
-    let named = rw (c.in-Some.is) at c.in_ok-after.ensures.named ∙ c.deref-3.ensures.value in
+    let both = alone old c.args.self.now.common exchanges t.lists yes in
+    let told = rw (c.in-Some-2.is) at c.in_ok-after.ensures.told in
+    let named = rw (c.in-Some-2.is) at c.in_ok-after.ensures.named ∙ c.deref-3.ensures.value in
     let then_bars = barriers library (said old) (scale (said old)) in
-    let bars_are : SameThings (map barrier_view c.deref-2.result.now) then_bars = rw (c.deref-2.ensures.value) (rw (← c.self.view_is) at followed.nets.bars_are) in
+    let bars_are : SameThings (map barrier_view c.deref-2.result.now) then_bars = rw (c.deref-2.ensures.value) f.nets.bars_are in
     let then_told =
-    told_alike library (map barrier_view c.deref-2.result.now) then_bars bars_are (said last) (map told_view c.in-Some.after.items)
-    (subst (λ (d : List Record). AreToldIn library (map barrier_view c.deref-2.result.now) d (map told_view c.in-Some.after.items)) (sym c.statements_are_kept.ensures.said) told) in
-    let none = if_none_so c.touched.inside.component (λ h. (h.0, ap (λ (e : ToldExchange _). map told_view e.gone.items) h.1, ap (λ (e : ToldExchange _). map told_view e.come.items) h.1)) (rw (c.in-Some-2.is) at c.in_ok-all.ensures.none) in
-    let all = all_exchanged library old last c.args.self.now c.args.kept _ _ c.told_nets_are_exchanged.ensures c.one_entry_tells.ensures c.same_lines_sort_alike.ensures c.short_is_symmetric.ensures t followed both.0 fits then_told named
+    told_alike library (map barrier_view c.deref-2.result.now) then_bars bars_are (said last) (map told_view c.in-Some-2.after.items)
+    (subst (λ (d : List Record). AreToldIn library (map barrier_view c.deref-2.result.now) d (map told_view c.in-Some-2.after.items)) (sym c.statements_are_kept.ensures.said) told) in
+    let none = if_none_so c.touched.inside.component (λ h. (h.0, ap (λ (e : ToldExchange _). map told_view e.gone.items) h.1, ap (λ (e : ToldExchange _). map told_view e.come.items) h.1)) (rw (c.in-Some-3.is) at c.in_ok-all.ensures.none) in
+    let all = all_exchanged library old last _ c.args.kept _ _ c.told_nets_are_exchanged.ensures c.one_entry_tells.ensures c.same_lines_sort_alike.ensures c.short_is_symmetric.ensures t f both.0 fits then_told named
     c.touched.inside.component (λ (x : TouchedComponent _). x.name) (λ (x : TouchedComponent _). map star_view x.stars.items) refl (λ own is. ap (λ (x : Option (TouchedComponent _)). stars_of x) is)
-    c.nets_are_told.ensures c.pin_lines_follow.ensures c.one_component_exchanged.ensures (map told_view c.in-Some-2.all.gone.items) (map told_view c.in-Some-2.all.come.items) c.exchange_stars.new.self.stars none (rw (c.in-Some-2.is) at c.in_ok-all.ensures.own) in
+    c.nets_are_told.ensures c.pin_lines_follow.ensures c.one_component_exchanged.ensures (map told_view c.in-Some-3.all.gone.items) (map told_view c.in-Some-3.all.come.items) c.exchange_stars.new.self.stars none (rw (c.in-Some-3.is) at c.in_ok-all.ensures.own) in
     let p = all.parts in
     let had = subst (λ (ss : List NetShape). AreOnPieces (layer_name library.layers) p.bars (p.out ++ p.rest) ss c.args.kept.lines) (sym c.in_ok-all.ensures.shapes) p.had in
-    let on = subst (λ (found : Option (FollowedOnNets _)). IfSome found (λ f. AreOnPieces (layer_name library.layers) p.bars (p.put ++ p.rest) c.exchange.new.self.shapes f.lines.lines)) c.in-Some-3.is
+    let on = subst (λ (found : Option (FollowedOnNets _)). IfSome found (λ f. AreOnPieces (layer_name library.layers) p.bars (p.put ++ p.rest) c.exchange.new.self.shapes f.lines.lines)) c.in-Some-4.is
     (c.in_ok-followed.ensures.lines p.bars p.out p.put p.rest p.goes p.comes had) in
-    let tests = rw (c.in-Some-3.is, c.in_ok-all.ensures.shapes) at c.in_ok-followed.ensures.tests in
+    let tests = rw (c.in-Some-4.is, c.in_ok-all.ensures.shapes) at c.in_ok-followed.ensures.tests in
     let few = p.few in
-    let then_few = p.then_few c.exchange.new.self.shapes (p.then_shapes c.exchange.new.self.shapes c.in-Some-3.followed.lines.lines on) in
+    let then_few = p.then_few c.exchange.new.self.shapes (p.then_shapes c.exchange.new.self.shapes c.in-Some-4.followed.lines.lines on) in
     rw (← c.touched.view_is) (bounded _ _ _ _ _ tests few then_few)
