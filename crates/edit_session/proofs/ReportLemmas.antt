@@ -11,10 +11,10 @@ use Rattle.line_laws.specs.Lines.{SameLines, times}
 use Rattle.line_laws.proofs.PairSums.{times-append}
 use Rattle.def_grammar.specs.Records.{Record, read_def}
 use Rattle.lef_grammar.specs.Library.{Library}
-use Rattle.net_checks.specs.Drawings.{Drawing, IsDrawingOf}
 use Rattle.report_rules.specs.Diagnostics.{diagnostics}
 use Rattle.edit_session.specs.Sessions.{AreDiagnostics}
-use Rattle.edit_session.specs.Known.{AreKept, IsDrawingOfText}
+use Rattle.edit_session.specs.Known.{AreDrawn, AreDrawnOf, AreKept}
+use Rattle.edit_session.specs.declared.drawn_nets.DrawnNets.{DrawnNets}
 
 abbrev Lines : Type 0
 Lines = List (List ℕ)
@@ -50,11 +50,11 @@ parts_in_order law alike a b c s p n all h1 h2 h3 parts = alike (a ++ (b ++ c)) 
 pub of_this : (T : List Record → Type 0) (text : List ℕ) (design other : List Record) → read_def text ≡ Ok design → read_def text ≡ Ok other → T design → T other
 of_this T text design other reads also t = let a = reads in let b = also in let same : design ≡ other = cc in subst T same t
 
-pub drawn_of : {E : Type 0} (Known : Type 0) (library : Library) (text : List ℕ) (design : List Record) (r : Result (Option Drawing) E) → read_def text ≡ Ok design
-    → IfOk r (λ nets. MatchOption nets Known (λ d. IsDrawingOf library design d))
-    → IfOk r (λ nets. MatchOption nets Known (λ d. IsDrawingOfText library text d))
+pub drawn_of : {A E : Type 0} (Known : Type 0) (library : Library) (text : List ℕ) (design : List Record) (r : Result (Option (DrawnNets A)) E) → read_def text ≡ Ok design
+    → IfOk r (λ nets. MatchOption nets Known (λ d. AreDrawn library design d))
+    → IfOk r (λ nets. MatchOption nets Known (λ d. AreDrawnOf library text d))
 drawn_of Known library text design (Ok None) reads h = h
-drawn_of Known library text design (Ok (Some d)) reads h = λ other also. of_this (λ (it : List Record). IsDrawingOf library it d) text design other reads also h
+drawn_of Known library text design (Ok (Some d)) reads h = λ other also. of_this (λ (it : List Record). AreDrawn library it d) text design other reads also h
 drawn_of Known library text design (Err e) reads h = tt
 
 -- an answer that sees these lines sees all diagnostics

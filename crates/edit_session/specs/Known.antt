@@ -5,11 +5,13 @@ use Rattle.def_grammar.specs.Records.{Record, read_def}
 use Rattle.lef_grammar.specs.Library.{Library}
 use Rattle.connection_rules.specs.NetLines.{net_lines}
 use Rattle.design_rules.specs.Boxes.{scale}
-use Rattle.net_checks.specs.Drawings.{Drawing, IsDrawingOf}
+use Rattle.net_checks.specs.Drawings.{IsDrawingOf}
 use Rattle.kept_lines.specs.Kept.{Kept}
 use Rattle.staying_laws.specs.Staying.{lines_on_places, lines_on_statements}
 use Rattle.design_text.specs.DesignTexts.{Content, text_of}
 use Rattle.design_text.specs.Exchanges.{AreExchanges, Exchanged, records_in}
+use Rattle.reports.specs.Answers.{ReportsOn}
+use Rattle.reports.specs.DrawnNets.{AreWithoutNets}
 use Rattle.followed_measures.specs.FollowedMeasures.{HasMeasures}
 use Rattle.followed_measures.specs.Told.{IsToldIn}
 use Rattle.followed_measures.specs.ToldViews.{told_view}
@@ -19,6 +21,7 @@ use Rattle.followed_places.specs.Places.{AreOnPlaces, HasPlaces, Places, said}
 use Rattle.followed_statements.specs.Following.{AreOnStatements}
 use Rattle.followed_statements.specs.Telling.{AreStatementsTold}
 use Rattle.design_model.specs.declared.identifier.StmtId.{StmtId}
+use Rattle.edit_session.specs.declared.drawn_nets.DrawnNets.{DrawnNets}
 use Rattle.edit_session.specs.declared.known_lines.KnownLines.{KnownLines}
 use Rattle.edit_session.specs.declared.noted.FollowedLines.{FollowedLines}
 use Rattle.edit_session.specs.declared.noted.Noted.{Noted}
@@ -28,25 +31,31 @@ use Rattle.edit_session.specs.declared.noted.Told.{Told}
 abbrev pub AreKept : List (List ℕ) → Kept → Type 0
 AreKept lines kept = kept.lines ≡ sorted_by_bytes lines
 
--- each part that is known is that of a design
+-- each part that is known, and what was measured, is that of a design
 pub record AreKnown {A : Type 0} (library : Library) (design : List Record) (known : KnownLines A) : Type 0 where
   pub statements : IfSome known.statements (AreKept (lines_on_statements library design))
   pub places : IfSome known.places (AreKept (lines_on_places library design))
   pub nets : IfSome known.nets (AreKept (net_lines library design (scale design)))
+  pub measures : IfSome known.measures (ReportsOn library design)
 
 -- each is that of what a text reads as
 abbrev pub AreKnownOf : {A : Type 0} → Library → List ℕ → KnownLines A → Type 0
 AreKnownOf library text known = (design : List Record) → read_def text ≡ Ok design → AreKnown library design known
 
--- all parts are known
+-- all lines are known
 pub record AllKnown {A : Type 0} (known : KnownLines A) : Type 0 where
   pub statements : IsSome known.statements
   pub places : IsSome known.places
   pub nets : IsSome known.nets
 
--- nets with their shapes are those of what a text reads as
-abbrev pub IsDrawingOfText : Library → List ℕ → Drawing → Type 0
-IsDrawingOfText library text nets = (design : List Record) → read_def text ≡ Ok design → IsDrawingOf library design nets
+-- nets with their shapes are those of a design, and so is what is measured of it beside them
+pub record AreDrawn {A : Type 0} (library : Library) (design : List Record) (drawn : DrawnNets A) : Type 0 where
+  pub nets : IsDrawingOf library design drawn.nets
+  pub measures : IfSome drawn.measures (AreWithoutNets library design)
+
+-- they are those of what a text reads as
+abbrev pub AreDrawnOf : {A : Type 0} → Library → List ℕ → DrawnNets A → Type 0
+AreDrawnOf library text drawn = (design : List Record) → read_def text ≡ Ok design → AreDrawn library design drawn
 
 -- what is noted of a text's numbered statements, as far as it is
 pub record HasNoted {A : Type 0} (library : Library) (records : List (StmtId × Record)) (n : Noted A) : Type 0 where

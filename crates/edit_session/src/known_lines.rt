@@ -12,10 +12,12 @@ use crate::noted::FollowedLines;
 use design_model::diagnostic::{DiagLine, DiagLines};
 use kept_lines::{KeptLines, all_merged, copies};
 use line_laws::sorting::{same_lines_sort_alike, sorting_is_by_lines};
+use reports::Reports;
 use staying_laws::parts_are_all;
 use std::alloc::{AllocError, Allocator, Global};
 
-/// The lines on a text in three parts, each as far as it was asked for and no edit since then can have changed it.
+/// The lines on a text in three parts, each as far as it was asked for and no edit since then can have changed it; and what was
+/// measured of it with those on nets, until it is asked for or the text is edited.
 pub(crate) struct KnownLines<A: Allocator = Global> {
     /// Those on headers, on each statement by itself, and on the library.
     pub(crate) statements: Option<KeptLines<A>>,
@@ -23,6 +25,7 @@ pub(crate) struct KnownLines<A: Allocator = Global> {
     pub(crate) places: Option<KeptLines<A>>,
     /// Those on nets.
     pub(crate) nets: Option<KeptLines<A>>,
+    pub(crate) measures: Option<Reports<A>>,
 }
 
 // (written out, so that an assignment to such lines is proved over one call)
@@ -32,6 +35,7 @@ impl<A: Allocator> Drop for KnownLines<A> {
             statements: _,
             places: _,
             nets: _,
+            measures: _,
         } = self;
     }
 }
@@ -48,7 +52,7 @@ fn kept_of<A: Allocator>(part: &Option<KeptLines<A>>) -> &KeptLines<A>
 }
 
 impl<A: Allocator + Copy> KnownLines<A> {
-    /// No part is known, of any text.
+    /// Nothing is known, of any text.
     pub(crate) fn none() -> KnownLines<A>
         ensures { (library : TheLibrary) (design : List Record) → AreKnown library design result }
     {
@@ -56,10 +60,11 @@ impl<A: Allocator + Copy> KnownLines<A> {
             statements: None,
             places: None,
             nets: None,
+            measures: None,
         }
     }
 
-    /// Whether all parts are known.
+    /// Whether all lines are known.
     pub(crate) fn are_all(&self) -> bool
         ensures { result ≡ true → AllKnown self.now }
     {

@@ -15,6 +15,7 @@
 #![tactic(auto)]
 
 mod change;
+mod drawn_nets;
 mod known_lines;
 mod measures;
 mod nets;

@@ -7,10 +7,12 @@ ghost use Rattle.followed_measures.specs.FollowedMeasures.{HasMeasures};
 ghost use Rattle.followed_measures.specs.Told.{IsToldIn};
 ghost use Rattle.followed_measures.specs.ToldViews.{told_view};
 ghost use Rattle.followed_places.specs.Places.{said};
-ghost use Rattle.edit_session.specs.Known.{HasNoted};
+ghost use Rattle.reports.specs.Answers.{ReportsOn};
+ghost use Rattle.edit_session.specs.Known.{AreKnownOf, HasNoted};
 ghost use Rattle.edit_session.specs.Sessions.{AnswersOn};
 
 use crate::change::Change;
+use crate::known_lines::KnownLines;
 use crate::nets::net_of;
 use crate::noted::Noted;
 use crate::places::component_of;
@@ -21,41 +23,51 @@ use design_text::made::Made;
 use design_text::text::DesignText;
 use edit_model::edit::Edit;
 use followed_measures::{FollowedMeasures, ToldMeasures};
+use reports::Reports;
 use std::alloc::{AllocError, Allocator};
 use wire_parts::nets::NetEntry;
 
-/// What was measured of a text, if that is kept, and else what is measured of it now.
+/// What was measured of a text, if that is kept or was made with its lines, and else what is measured of it now.
 fn kept_or_made<A: Allocator + Copy>(
     alloc: A,
     library: &Library<'_, A>,
     text: &DesignText<A>,
     kept: Option<FollowedMeasures<A>>,
+    made: Option<Reports<A>>,
 ) -> Result<FollowedMeasures<A>, AllocError>
-    requires { IfSome kept (HasMeasures library.now (records_in text.now)) }
+    requires kept { IfSome kept (HasMeasures library.now (records_in text.now)) }
+    requires made { IfSome made (ReportsOn library.now (said (records_in text.now))) }
     ensures { IfOk result (HasMeasures library.now (records_in text.now)) }
 {
-    match kept {
-        Some(measures) => Ok(measures),
+    if let Some(measures) = kept {
+        return Ok(measures);
+    }
+    match made {
+        Some(reports) => Ok(FollowedMeasures::made(reports)),
         None => FollowedMeasures::of(alloc, library, text),
     }
 }
 
-/// What is measured of a text, which is no longer noted then.
+/// What is measured of a text, which is then neither noted nor known with its lines.
 pub(crate) fn take_measures<A: Allocator + Copy>(
     alloc: A,
     library: &Library<'_, A>,
     text: &DesignText<A>,
     noted: &mut Noted<A>,
+    known: &mut KnownLines<A>,
 ) -> Result<FollowedMeasures<A>, AllocError>
-    requires { HasNoted library.now (records_in text.now) noted.old }
+    requires noted { HasNoted library.now (records_in text.now) noted.old }
+    requires known { AreKnownOf library.now (text_of text.now) known.old }
     ensures noted { HasNoted library.now (records_in text.now) noted.new }
+    ensures known { AreKnownOf library.now (text_of text.now) known.new }
     ensures measures { IfOk result (HasMeasures library.now (records_in text.now)) }
     ensures answers { IfOk result (λ m. AnswersOn library.now (text_of text.now) m.answers) }
 {
     text.statements_are_kept();
     text.design_is_read();
     let kept = noted.measures.take();
-    kept_or_made(alloc, library, text, kept)
+    let made = known.measures.take();
+    kept_or_made(alloc, library, text, kept, made)
 }
 
 /// What is measured of the net or of the component that an edit of the design is of.

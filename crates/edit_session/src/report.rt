@@ -1,6 +1,6 @@
 //! The lines of a report on the present text, part by part.
 
-ghost use Rattle.std.specs.Prelude.{◌≡◌, ◌++◌, ◌<◌, ◌≤◌, IfOk, IsSome, List, MatchOption, OnOk, flat_map, map};
+ghost use Rattle.std.specs.Prelude.{◌≡◌, ◌++◌, ◌<◌, ◌≤◌, ◌^◌, IfOk, IsSome, List, MatchOption, OnOk, flat_map, map};
 ghost use Rattle.def_grammar.specs.Records.{Record};
 ghost use Rattle.def_reader.specs.StatementViews.{record_view};
 ghost use Rattle.lef_grammar.specs.Library.{Library as TheLibrary};
@@ -13,8 +13,13 @@ ghost use Rattle.line_laws.specs.Lines.{SameLines};
 ghost use Rattle.staying_laws.specs.Staying.{lines_on_places, lines_on_statements};
 ghost use Rattle.design_text.specs.DesignTexts.{text_of};
 ghost use Rattle.net_checks.specs.Drawings.{IsDrawingOf};
-ghost use Rattle.edit_session.specs.Known.{AllKnown, AreKept, AreKnown, AreKnownOf, IsDrawingOfText};
+ghost use Rattle.std.specs.List.{All};
+ghost use Rattle.design_model.specs.Ranges.{IsWithin};
+ghost use Rattle.measure_rules.specs.GridCells.{lines_along_x, lines_along_y};
+ghost use Rattle.measure_rules.specs.Lengths.{total_length};
+ghost use Rattle.edit_session.specs.Known.{AllKnown, AreDrawn, AreDrawnOf, AreKept, AreKnown, AreKnownOf};
 
+use crate::drawn_nets::{DrawnNets, drawn_nets};
 use crate::known_lines::KnownLines;
 use crate::no_nets::know_no_nets;
 use cell_library::library::Library;
@@ -30,6 +35,8 @@ use line_laws::one::components_in_any_order;
 use line_laws::same::{maps_are_same, permutations_are_same};
 use line_laws::scales::scales_are_good;
 use line_laws::sorting::same_lines_sort_alike;
+use measure_laws::lengths::lengths_fit;
+use measure_laws::ranges::lines_fit;
 use net_checks::NetDrawing;
 use place_checks::blocked::blocked_of;
 use place_checks::boxes::boxes_of;
@@ -148,20 +155,24 @@ fn know_places<'t, A: Allocator + Copy>(
     Ok(())
 }
 
-/// Makes the lines on statements known, and gives the nets of a design with their shapes, unless the lines on nets are known.
+/// Makes the lines on statements known, and gives what is drawn of a design, unless the lines on nets are known.
 fn know_statements<'l, 't, A: Allocator + Copy>(
     alloc: A,
-    library: &Library<'l, A>,
+    library: &'t Library<'l, A>,
     records: &[Statement<'t>],
+    is_measured: bool,
     known: &mut KnownLines<A>,
-) -> Result<Option<NetDrawing<'l, 't, A>>, AllocError>
+) -> Result<Option<DrawnNets<'l, 't, A>>, AllocError>
     requires some { 0 < scale (map record_view records.now) }
     requires few { scale (map record_view records.now) ≤ 100000 }
+    requires lengths { total_length library.now (map record_view records.now) (scale (map record_view records.now)) < 2 ^ 64 }
+    requires across { All (IsWithin 2147483647) (flat_map lines_along_x (map record_view records.now)) }
+    requires upward { All (IsWithin 2147483647) (flat_map lines_along_y (map record_view records.now)) }
     requires known { AreKnown library.now (map record_view records.now) known.old }
-    ensures known { AreKnown library.now (map record_view records.entry.now) known.new }
+    ensures known { AreKnown library.entry.now (map record_view records.entry.now) known.new }
     ensures places { known.new.places ≡ known.old.places }
     ensures statements { OnOk result (IsSome known.new.statements) }
-    ensures nets { IfOk result (λ nets. MatchOption nets (IsSome known.new.nets) (IsDrawingOf library.now (map record_view records.entry.now))) }
+    ensures nets { IfOk result (λ nets. MatchOption nets (IsSome known.new.nets) (AreDrawn library.entry.now (map record_view records.entry.now))) }
 {
     let names = names_of(alloc, library.hash_builder(), records)?;
     if known.statements.is_none() {
@@ -170,35 +181,55 @@ fn know_statements<'l, 't, A: Allocator + Copy>(
     if known.nets.is_some() {
         return Ok(None);
     }
-    let nets = NetDrawing::new(alloc, library, &names)?;
-    Ok(Some(nets))
+    let drawn = drawn_nets(alloc, library, &names, is_measured)?;
+    Ok(Some(drawn))
 }
 
-/// Makes all lines known but those on nets, and gives the nets with their shapes, unless the lines on them are known too. Each
-/// statement is read once, from its piece, and none is kept.
+/// Makes all lines known but those on nets, and gives what is drawn of them, unless the lines on them are known too. Each statement is
+/// read once, from its piece, and none is kept.
 fn know_all_but_nets<'l, 't, A: Allocator + Copy>(
     alloc: A,
     library: &'t Library<'l, A>,
     text: &'t DesignText<A>,
+    is_measured: bool,
     known: &mut KnownLines<A>,
-) -> Result<Option<NetDrawing<'l, 't, A>>, AllocError>
+) -> Result<Option<DrawnNets<'l, 't, A>>, AllocError>
     requires { AreKnownOf library.now (text_of text.now) known.old }
     ensures known { AreKnownOf library.entry.now (text_of text.entry.now) known.new }
     ensures statements { OnOk result (IsSome known.new.statements) }
     ensures places { OnOk result (IsSome known.new.places) }
-    ensures nets { IfOk result (λ nets. MatchOption nets (IsSome known.new.nets) (λ d. IsDrawingOfText library.entry.now (text_of text.entry.now) d)) }
+    ensures nets { IfOk result (λ nets. MatchOption nets (IsSome known.new.nets) (λ d. AreDrawnOf library.entry.now (text_of text.entry.now) d)) }
 {
     scales_are_good();
+    lengths_fit();
+    lines_fit();
     let records = text.statements(alloc)?;
     know_places(alloc, library, &records, known)?;
-    know_statements(alloc, library, &records, known)
+    know_statements(alloc, library, &records, is_measured, known)
 }
 
-/// Makes the lines on a text known. What was known is not made again.
+/// Makes the lines on nets known, and what is measured with them, if that is to be.
+fn know_nets<A: Allocator + Copy>(
+    alloc: A,
+    drawn: DrawnNets<'_, '_, A>,
+    known: &mut KnownLines<A>,
+) -> Result<(), AllocError>
+    ensures known { (library : TheLibrary) (design : List Record) → AreDrawn library design drawn.entry → AreKnown library design known.old → AreKnown library design known.new }
+    ensures statements { known.new.statements ≡ known.old.statements }
+    ensures places { known.new.places ≡ known.old.places }
+    ensures nets { OnOk result (IsSome known.new.nets) }
+{
+    known.nets = Some(on_nets(alloc, &drawn.nets)?);
+    known.measures = drawn.into_measures()?;
+    Ok(())
+}
+
+/// Makes the lines on a text known, and what is measured of it, unless it is measured already. What was known is not made again.
 pub(crate) fn know_lines<A: Allocator + Copy>(
     alloc: A,
     library: &Library<'_, A>,
     text: &DesignText<A>,
+    is_measured: bool,
     known: &mut KnownLines<A>,
 ) -> Result<(), AllocError>
     requires { AreKnownOf library.now (text_of text.now) known.old }
@@ -209,8 +240,8 @@ pub(crate) fn know_lines<A: Allocator + Copy>(
     if known.are_all() {
         return Ok(());
     }
-    if let Some(nets) = know_all_but_nets(alloc, library, text, known)? {
-        known.nets = Some(on_nets(alloc, &nets)?);
+    if let Some(drawn) = know_all_but_nets(alloc, library, text, is_measured, known)? {
+        know_nets(alloc, drawn, known)?;
     }
     Ok(())
 }

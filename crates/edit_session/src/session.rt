@@ -49,7 +49,7 @@ pub struct Session<'s, 'l, A: Allocator + Copy = Global> {
     alloc: A,
     library: &'s Library<'l, A>,
     text: DesignText<A>,
-    /// The lines on the present text that are known.
+    /// The lines on the present text that are known, and what was measured with them.
     known: KnownLines<A>,
     /// What is noted of the present text, so that lines follow an edit, and what was measured of it.
     noted: Noted<A>,
@@ -241,7 +241,14 @@ impl<'s, 'l, A: Allocator + Copy> Session<'s, 'l, A> {
         ensures kinds { IfOk result (λ lines. HaveTheirKinds lines) }
         ensures same { self.new ≡ self.old }
     {
-        know_lines(self.alloc, self.library, &self.text, &mut self.known)?;
+        let is_measured = self.noted.measures.is_some();
+        know_lines(
+            self.alloc,
+            self.library,
+            &self.text,
+            is_measured,
+            &mut self.known,
+        )?;
         self.known.joined(self.alloc)
     }
 
@@ -251,18 +258,31 @@ impl<'s, 'l, A: Allocator + Copy> Session<'s, 'l, A> {
         ensures text { IfOk result (λ v. Measures self.old.text (λ design. report_lines (diagnostics self.old.library design)) v.items) }
         ensures same { self.new ≡ self.old }
     {
-        know_lines(self.alloc, self.library, &self.text, &mut self.known)?;
+        let is_measured = self.noted.measures.is_some();
+        know_lines(
+            self.alloc,
+            self.library,
+            &self.text,
+            is_measured,
+            &mut self.known,
+        )?;
         let lines = self.known.lent(self.alloc)?;
         check_text(self.alloc, &lines)
     }
 
-    /// The length of the wires of a net, in database units; `None` where there is no such net. Measures are made at the first
-    /// question, follow an edit of one net, and are made anew after others.
+    /// The length of the wires of a net, in database units; `None` where there is no such net. Measures are made with all diagnostics,
+    /// from one drawing of the nets, or else at the first question; they follow an edit of one net, and are made anew after others.
     pub fn net_length(&mut self, net: &[u8]) -> Result<Option<u64>, AllocError>
         ensures length { IfOk result (Measures self.old.text (λ design. net_length self.old.library design (scale design) net.now)) }
         ensures same { self.new ≡ self.old }
     {
-        let measures = take_measures(self.alloc, self.library, &self.text, &mut self.noted)?;
+        let measures = take_measures(
+            self.alloc,
+            self.library,
+            &self.text,
+            &mut self.noted,
+            &mut self.known,
+        )?;
         let length = measures.reports().net_length(net);
         self.noted.measures = Some(measures);
         Ok(length)
@@ -273,7 +293,13 @@ impl<'s, 'l, A: Allocator + Copy> Session<'s, 'l, A> {
         ensures bounds { IfOk result (λ b. Measures self.old.text (λ design. net_box self.old.library design (scale design) net.now) (option_map (option_map rectangle_of) b)) }
         ensures same { self.new ≡ self.old }
     {
-        let measures = take_measures(self.alloc, self.library, &self.text, &mut self.noted)?;
+        let measures = take_measures(
+            self.alloc,
+            self.library,
+            &self.text,
+            &mut self.noted,
+            &mut self.known,
+        )?;
         let bounds = measures.reports().net_box(net);
         self.noted.measures = Some(measures);
         Ok(bounds)
@@ -284,7 +310,13 @@ impl<'s, 'l, A: Allocator + Copy> Session<'s, 'l, A> {
         ensures total { IfOk result (Measures self.old.text (λ design. total_length self.old.library design (scale design))) }
         ensures same { self.new ≡ self.old }
     {
-        let measures = take_measures(self.alloc, self.library, &self.text, &mut self.noted)?;
+        let measures = take_measures(
+            self.alloc,
+            self.library,
+            &self.text,
+            &mut self.noted,
+            &mut self.known,
+        )?;
         let total = measures.reports().total_length();
         self.noted.measures = Some(measures);
         Ok(total)
@@ -301,7 +333,13 @@ impl<'s, 'l, A: Allocator + Copy> Session<'s, 'l, A> {
         ensures density { IfOk result (Measures self.old.text (λ design. cell_density self.old.library design column row layer.0)) }
         ensures same { self.new ≡ self.old }
     {
-        let measures = take_measures(self.alloc, self.library, &self.text, &mut self.noted)?;
+        let measures = take_measures(
+            self.alloc,
+            self.library,
+            &self.text,
+            &mut self.noted,
+            &mut self.known,
+        )?;
         let density = measures.reports().cell(column, row, layer);
         self.noted.measures = Some(measures);
         Ok(density)
@@ -312,7 +350,13 @@ impl<'s, 'l, A: Allocator + Copy> Session<'s, 'l, A> {
         ensures density { IfOk result (Measures self.old.text (λ design. place_density self.old.library design column row)) }
         ensures same { self.new ≡ self.old }
     {
-        let measures = take_measures(self.alloc, self.library, &self.text, &mut self.noted)?;
+        let measures = take_measures(
+            self.alloc,
+            self.library,
+            &self.text,
+            &mut self.noted,
+            &mut self.known,
+        )?;
         let density = measures.reports().place_cell(column, row);
         self.noted.measures = Some(measures);
         Ok(density)

@@ -5,6 +5,7 @@ ghost use Rattle.std.specs.List.{AllByRecursion};
 ghost use Rattle.std.specs.Option.{option_map};
 ghost use Rattle.design_model.specs.declared.identifier.StmtId.{StmtId as Number};
 ghost use Rattle.def_grammar.specs.Records.{Record};
+ghost use Rattle.lef_grammar.specs.Library.{Library as TheLibrary};
 ghost use Rattle.design_model.specs.Views.{rectangle_of};
 ghost use Rattle.measuring_laws.specs.Measuring.{is_of_cells};
 ghost use Rattle.net_laws.specs.NetChanges.{is_one_of};
@@ -146,11 +147,18 @@ impl<A: Allocator + Copy> FollowedMeasures<A> {
     {
         text.statements_are_kept();
         let reports = reports_on(alloc, library, text)?;
-        Ok(FollowedMeasures {
+        Ok(FollowedMeasures::made(reports))
+    }
+
+    /// What was measured of a text already.
+    pub fn made(reports: Reports<A>) -> FollowedMeasures<A>
+        ensures { (library : TheLibrary) (records : List (Number × Record)) → ReportsOn library (said records) reports → HasMeasures library records result }
+    {
+        FollowedMeasures {
             reports,
             common: None,
             heads: None,
-        })
+        }
     }
 
     /// What was measured.

@@ -2,6 +2,7 @@ pub mod BoxSteps
 pub mod BoxSums
 pub mod CellAnswers
 pub mod DensitySteps
+pub mod DrawnSteps
 pub mod ExchangeSteps
 pub mod MeasuredSteps
 pub mod NetAnswers

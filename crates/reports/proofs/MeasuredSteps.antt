@@ -27,7 +27,7 @@ boxes_seen [] = refl
 boxes_seen (s ∷ ss) = ap (λ rs. shape_box s ∷ rs) (boxes_seen ss)
 
 -- the shapes of a net are those of its parts
-shapes_of_parts : (n : Net) → map bare (flat_map shapes_of_net (n ∷ [])) ≡ flat_map shapes_in n.parts
+pub shapes_of_parts : (n : Net) → map bare (flat_map shapes_of_net (n ∷ [])) ≡ flat_map shapes_in n.parts
 shapes_of_parts n = ap (map bare) (append-nil (shapes_of_net n)) ∙ of_parts n n.parts
 
 -- so that nothing else of the net matters to them
@@ -35,7 +35,7 @@ pub same_shapes : (m n : Net) → m.parts ≡ n.parts → map bare (flat_map sha
 same_shapes m n same = shapes_of_parts m ∙ ap (flat_map shapes_in) same ∙ sym (shapes_of_parts n)
 
 -- the rectangles of a net are those of its shapes
-rectangles_are : (n : Net) (ss : List NetShape) → map shape_view ss ≡ map bare (flat_map shapes_of_net (n ∷ [])) → map shape_box ss ≡ rectangles_of n
+pub rectangles_are : (n : Net) (ss : List NetShape) → map shape_view ss ≡ map bare (flat_map shapes_of_net (n ∷ [])) → map shape_box ss ≡ rectangles_of n
 rectangles_are n ss seen =
     sym (boxes_seen ss)
     ∙ ap (map box_of) (seen ∙ shapes_of_parts n)
@@ -50,7 +50,7 @@ measured_push [] (k ∷ ls) n l same = absurd (omega (arith, same))
 measured_push (m ∷ ns) [] n l same = absurd (omega (arith, same))
 measured_push (m ∷ ns) (k ∷ ls) n l same = ap (λ ms. net_measured m k ∷ ms) (measured_push ns ls n l (omega (arith, same)))
 
-capped_twice : (n x : ℕ) → capped (capped n + x) ≡ capped (n + x)
+pub capped_twice : (n x : ℕ) → capped (capped n + x) ≡ capped (n + x)
 capped_twice n x = omega arith
 
 measured_length : (ns : List Net) (ls : List ℕ) → length ns ≡ length ls → length (measured ns ls) ≡ length ns

@@ -1,5 +1,6 @@
 pub mod Answers
 pub mod Densities
+pub mod DrawnNets
 pub mod Exchanges
 pub mod MeasuredNets
 pub mod NetMeasures

@@ -9,12 +9,14 @@
 //! `net_measures` measures the one net of a few statements, for such an exchange (`specs/NetMeasures`).
 //!
 //! `Reports` owns what it holds and lends nothing: a name, a length and a box for each net, and the sums of cells that are in use.
-//! While it is made it draws one net after the other, and holds the shapes of that net alone. Making it and following an exchange are
-//! all that takes memory, and their one error is `AllocError`; after one of an exchange the reports are of no use.
+//! While it is made it draws one net after the other, and holds the shapes of that net alone. Who has the nets drawn already begins
+//! with `Reports::without_nets` and puts them in by `put_nets` (`specs/DrawnNets`). Making it, putting nets in and following an exchange
+//! are all that takes memory, and their one error is `AllocError`; after one of the last two the reports are of no use.
 #![tactic(auto)]
 
 mod cell_densities;
 mod densities;
+mod drawn_nets;
 mod measured_nets;
 mod net_box;
 pub mod net_measures;

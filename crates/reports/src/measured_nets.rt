@@ -123,7 +123,7 @@ fn is_net_entry(statement: &Statement<'_>) -> bool {
 }
 
 /// How many entries of NETS and of SPECIALNETS there are: at least as many as nets.
-fn net_entry_count(records: &[Statement<'_>]) -> usize {
+pub(crate) fn net_entry_count(records: &[Statement<'_>]) -> usize {
     records
         .iter()
         .filter(|statement| is_net_entry(statement))

@@ -1,27 +1,33 @@
 //! What is measured of a design.
 
-ghost use Rattle.std.specs.Prelude.{◌≡◌, ◌+◌, ◌<◌, ◌≤◌, ◌^◌, IfOk, OnOk, flat_map, map};
+ghost use Rattle.std.specs.Prelude.{◌≡◌, ◌+◌, ◌<◌, ◌≤◌, ◌^◌, IfOk, List, OnOk, flat_map, length, map};
 ghost use Rattle.std.specs.List.{All};
 ghost use Rattle.std.specs.Option.{option_map};
 ghost use Rattle.design_model.specs.Ranges.{IsWithin};
 ghost use Rattle.design_model.specs.Views.{rectangle_of};
+ghost use Rattle.def_grammar.specs.Records.{Record};
+ghost use Rattle.lef_grammar.specs.Library.{Library as TheLibrary};
+ghost use Rattle.connection_rules.specs.NetParts.{all_nets};
 ghost use Rattle.design_rules.specs.Boxes.{scale};
 ghost use Rattle.measure_rules.specs.GridCells.{lines_along_x, lines_along_y};
 ghost use Rattle.measure_rules.specs.Lengths.{total_length};
 ghost use Rattle.net_lists.specs.PartCuts.{shape_view};
 ghost use Rattle.reports.specs.Answers.{ReportsOn, box_in, cell_in, length_in, place_cell_in};
+ghost use Rattle.design_nets.specs.NetGroups.{net_lengths};
+ghost use Rattle.reports.specs.DrawnNets.{AreWithoutNets};
 ghost use Rattle.reports.specs.Exchanges.{ComponentExchanged, NetExchanged};
 
 use crate::cell_densities::CellDensities;
-use crate::densities::place_densities;
-use crate::measured_nets::measured_nets;
+use crate::densities::{no_densities, place_densities};
+use crate::drawn_nets::{measure_each, sum_of};
+use crate::measured_nets::{measured_nets, net_entry_count};
 use crate::net_table::{Measures, NetTable};
 use cell_library::library::Library;
 use design_model::geometry::Rect;
 use design_model::identifier::LayerId;
 use design_names::names::Names;
 use measure_laws::lengths::none_is_longer;
-use net_lists::NetShape;
+use net_lists::{NetList, NetShape};
 use std::alloc::{AllocError, Allocator, Global};
 use std::marker::Model;
 
@@ -49,6 +55,18 @@ impl<A: Allocator> Model for Reports<A> {
     ghost invariant = { λ r. r.layers < 2 ^ 63 };
 }
 
+/// How many layers a library has, unless they are too many.
+fn few_layers<A: Allocator + Copy>(library: &Library<'_, A>) -> Result<usize, AllocError>
+    ensures count { IfOk result (λ n. n ≡ length library.now.layers) }
+    ensures few { IfOk result (λ n. n < 2 ^ 63) }
+{
+    let layers = library.layer_count();
+    if layers > MOST_LAYERS {
+        return Err(AllocError);
+    }
+    Ok(layers)
+}
+
 impl<A: Allocator + Copy> Reports<A> {
     /// Measures a design whose text reads, so that its scale, its lengths and the lines of its grid are in range.
     pub fn open<'t>(
@@ -64,10 +82,7 @@ impl<A: Allocator + Copy> Reports<A> {
         ensures { IfOk result (ReportsOn library.entry.now names.entry.now) }
     {
         none_is_longer();
-        let layers = library.layer_count();
-        if layers > MOST_LAYERS {
-            return Err(AllocError);
-        }
+        let layers = few_layers(library)?;
         let measured = measured_nets(alloc, library, names)?;
         let place_cells = place_densities(alloc, library, names, &measured.cells)?;
         Ok(Reports {
@@ -77,6 +92,53 @@ impl<A: Allocator + Copy> Reports<A> {
             cells: measured.cells,
             place_cells,
         })
+    }
+
+    /// Measures all of a design but its nets, which are put in by `put_nets` before anything is asked. The design is one whose text
+    /// reads, as for `open`.
+    pub fn without_nets<'t>(
+        alloc: A,
+        library: &'t Library<'_, A>,
+        names: &Names<'_, 't, A>,
+    ) -> Result<Reports<A>, AllocError>
+        requires some { 0 < scale names.now }
+        requires few { scale names.now ≤ 100000 }
+        requires lengths { total_length library.now names.now (scale names.now) < 2 ^ 64 }
+        requires across { All (IsWithin 2147483647) (flat_map lines_along_x names.now) }
+        requires upward { All (IsWithin 2147483647) (flat_map lines_along_y names.now) }
+        ensures { IfOk result (AreWithoutNets library.entry.now names.entry.now) }
+    {
+        let layer_count = few_layers(library)?;
+        let most = net_entry_count(names.records());
+        let nets = NetTable::with_room(alloc, names.hash_builder(), most)?;
+        let cells = no_densities(alloc, names)?;
+        let place_cells = place_densities(alloc, library, names, &cells)?;
+        Ok(Reports {
+            layers: layer_count,
+            nets,
+            total: 0,
+            cells,
+            place_cells,
+        })
+    }
+
+    /// Measures the nets of the design, which are drawn: these are all of them, with the lengths of their wires in database units. The
+    /// design itself isn't asked any more. After an error the answers are of no use.
+    pub fn put_nets(&mut self, nets: &NetList<'_, A>, lengths: &[u64]) -> Result<(), AllocError>
+        ensures { (library : TheLibrary) (design : List Record) → AreWithoutNets library design self.old → nets.now ≡ all_nets library design (scale design) → lengths.now ≡ net_lengths library design (scale design)
+            → OnOk result (ReportsOn library design self.new) }
+    {
+        none_is_longer();
+        let Reports {
+            nets: table,
+            cells,
+            total,
+            ..
+        } = self;
+        measure_each(nets, lengths, table)?;
+        cells.add_shapes(nets.shapes())?;
+        *total = sum_of(lengths);
+        Ok(())
     }
 
     /// Follows an exchange of some shapes of a net by others, after which the net has this length and this box. The old length is that

@@ -10,4 +10,5 @@ returns-then-not-has_nets g c = λ library knew design reads.
       statements = before.statements;
       places = before.places;
       nets = c.of.ensures ∙ ap sorted_by_bytes (c.new.ensures ∙ sym (c.has_nets.ensures library design reads no));
+      measures = before.measures;
     }

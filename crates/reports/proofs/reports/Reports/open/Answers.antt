@@ -24,5 +24,5 @@ returns g c =
     reports_on library design _
     (λ name. ap (λ ns. option_map (λ (n : MeasuredNet). n.net_length) (find_named name_of ns name)) by_name ∙ length_is library design u no_longer few name)
     (λ name. ap (λ ns. option_map (λ (n : MeasuredNet). n.net_box) (find_named name_of ns name)) by_name ∙ box_is library design u length_by name)
-    (measured_are.together ∙ total_is library design u no_longer few) c.layer_count-layers.ensures measured_are.densities
+    (measured_are.together ∙ total_is library design u no_longer few) c.in_ok-layers.ensures.count measured_are.densities
     c.in_ok-place_cells.ensures
