@@ -1,24 +1,20 @@
 -- Nets that are drawn are measured one after the other, and found by their names.
-use Rattle.std.proofs.Common.{◌≡◌, ◌+◌, ◌<◌, ◌≤◌, ◌^◌, ℕ, Bool, true, false, ◌||◌, List, [], ◌∷◌, ◌++◌, drop, flat_map, get_or, length, map, sum, sum_by, take, refl, sym, ap, ap₂, ◌∙◌, Option, Some, None, ℤ, if◌then◌else◌, arith}
+use Rattle.std.proofs.Common.{◌≡◌, ◌+◌, ◌<◌, ◌≤◌, ℕ, Bool, true, false, ◌||◌, List, [], ◌∷◌, drop, flat_map, get_or, length, map, sum, sum_by, take, refl, sym, ap, ap₂, ◌∙◌, Option, Some, None, ℤ, if◌then◌else◌}
 use Rattle.std.specs.List.{list_any}
-use Rattle.std.specs.Option.{option_map}
 use Rattle.std.specs.Str.{bytes_eq}
-use Rattle.std.proofs.lemmas.List.{drop_all, drop_more, take_all, take_more}
+use Rattle.std.proofs.lemmas.List.{drop_all, drop_more, take_more}
 use Rattle.std.proofs.lemmas.List.Sums.{sum_by_push}
 use Rattle.form_meanings.specs.Firsts.{find_named}
 use Rattle.def_grammar.specs.Records.{Record}
 use Rattle.lef_grammar.specs.Library.{Library}
-use Rattle.lef_grammar.specs.Measures.{Shape}
 use Rattle.connection_rules.specs.NetLines.{shapes_of_net}
 use Rattle.connection_rules.specs.NetParts.{Net, all_nets, net_named, net_names}
-use Rattle.design_nets.specs.NetGroups.{net_lengths}
 use Rattle.drawn_parts.specs.DrawnLengths.{capped}
 use Rattle.net_lists.specs.Counts.{shape_count}
 use Rattle.net_lists.specs.NetViews.{net_view}
-use Rattle.net_lists.specs.PartCuts.{parts_of, shape_view}
+use Rattle.net_lists.specs.PartCuts.{shape_view}
 use Rattle.net_lists.specs.declared.net_view.NetView.{NetView}
 use Rattle.net_lists.specs.declared.parts.NetShape.{NetShape}
-use Rattle.net_lists.specs.declared.parts.PartHead.{PartHead}
 use Rattle.net_lists.proofs.ShapeLemmas.{bare, shapes_in_parts}
 use Rattle.cell_sums.specs.Tables.{CellTable}
 use Rattle.measure_rules.specs.NetBoxes.{rectangles_of}
@@ -36,14 +32,13 @@ abbrev pub find : List MeasuredNet → List ℕ → Option MeasuredNet
 find table name = find_named name_of table name
 
 -- what is left to be found once a net was put in
-pub next_found : (old new : List Net) (n : Net) (ls : List ℕ) (i l : ℕ) (table after : List MeasuredNet) (name : List ℕ) (all : Option MeasuredNet)
-    → old ≡ n ∷ new → i < length ls → l ≡ get_or ls i l
-    → find after name ≡ (if bytes_eq n.name name then Some (measured_net n l) else find table name)
+pub next_found : (old new : List Net) (n : Net) (ls : List ℕ) (i : ℕ) (table after : List MeasuredNet) (name : List ℕ) (all : Option MeasuredNet) → old ≡ n ∷ new → i < length ls
+    → find after name ≡ (if bytes_eq n.name name then Some (measured_net n (get_or ls i 0)) else find table name)
     → found_after old (drop i ls) name (find table name) ≡ all
     → found_after new (drop (i + 1) ls) name (find after name) ≡ all
-next_found old new n ls i l table after name all is below here put left =
+next_found old new n ls i table after name all is below put left =
     ap (found_after new (drop (i + 1) ls) name) put
-    ∙ sym (ap₂ (λ ns ks. found_after ns ks name (find table name)) is (drop_more ls i l below ∙ ap (λ (k : ℕ). k ∷ drop (i + 1) ls) (sym here)))
+    ∙ sym (ap₂ (λ ns ks. found_after ns ks name (find table name)) is (drop_more ls i 0 below))
     ∙ left
 
 -- without lengths or without nets nothing more is found

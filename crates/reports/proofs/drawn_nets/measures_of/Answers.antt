@@ -1,8 +1,7 @@
-use Rattle.std.proofs.Common.{ap, ◌∙◌}
+use Rattle.std.proofs.Common.{Option, ap, ◌∙◌}
+use Rattle.design_model.specs.Geometry.{Rectangle}
 use Rattle.measure_rules.specs.NetBoxes.{box_round}
 use Rattle.net_lists.specs.NetViews.{net_view}
-use Rattle.design_model.specs.Geometry.{Rectangle}
-use Rattle.std.proofs.Common.{Option, ℕ}
 use Rattle.reports.specs.MeasuredNets.{MeasuredNet}
 use Rattle.reports.proofs.DrawnSteps.{rectangles_lent}
 use Rattle.reports.proofs.drawn_nets.measures_of.Goals as goal
