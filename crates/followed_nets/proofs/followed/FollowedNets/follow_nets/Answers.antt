@@ -109,6 +109,8 @@ returns-clause-lines g c = λ old exchanges touched followed.
 
 pub returns-clause-tests : goal.returns-clause-tests
 returns-clause-tests g c = λ old exchanges touched followed.
+    let sum = c.saturating_add-tests.ensures in
+    let counted : c.saturating_add-tests.result ≤ c.tests_told.result + c.tests_told-2.result = omega (arith, sum) in
     let yes : c.in_ok-are_all.field-0 ≡ true = search rules in
     let t = rw (← c.touched.view_is) at touched in
     let alone = rw (← c.touched.view_is) at c.in_ok-are_all.ensures in
@@ -141,7 +143,24 @@ returns-clause-tests g c = λ old exchanges touched followed.
     let gone = rw (c.deref-4.ensures.value) at c.tests_told.ensures in
     let come = rw (c.deref-5.ensures.value) at c.tests_told-2.ensures in
     let come_few = rw (c.in-Some-2.is) at c.in_ok-after.ensures.few in
-    let sum = c.saturating_add-tests.ensures in
-    let counted : c.saturating_add-tests.result ≤ c.tests_told.result + c.tests_told-2.result = omega (arith, sum) in
     let start = told_few _ _ _ _ _ _ _ counted gone come t.few come_few in
     rw (← c.touched.view_is) (twice _ _ _ _ _ _ _ _ tests start p.few then_few own then_own)
+
+-- (where memory is refused, nothing is said)
+pub returns-in_err-after-clause-lines : goal.returns-in_err-after-clause-lines
+returns-in_err-after-clause-lines g c = λ old exchanges touched followed. rw (c.from_residual-in_err-after.ensures) tt
+
+pub returns-in_err-after-clause-tests : goal.returns-in_err-after-clause-tests
+returns-in_err-after-clause-tests g c = λ old exchanges touched followed. rw (c.from_residual-in_err-after.ensures) tt
+
+pub returns-in_err-all-clause-lines : goal.returns-in_err-all-clause-lines
+returns-in_err-all-clause-lines g c = λ old exchanges touched followed. rw (c.from_residual-in_err-all.ensures) tt
+
+pub returns-in_err-all-clause-tests : goal.returns-in_err-all-clause-tests
+returns-in_err-all-clause-tests g c = λ old exchanges touched followed. rw (c.from_residual-in_err-all.ensures) tt
+
+pub returns-in_err-followed-clause-lines : goal.returns-in_err-followed-clause-lines
+returns-in_err-followed-clause-lines g c = λ old exchanges touched followed. rw (c.from_residual-in_err-followed.ensures) tt
+
+pub returns-in_err-followed-clause-tests : goal.returns-in_err-followed-clause-tests
+returns-in_err-followed-clause-tests g c = λ old exchanges touched followed. rw (c.from_residual-in_err-followed.ensures) tt
