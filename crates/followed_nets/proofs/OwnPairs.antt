@@ -1,6 +1,6 @@
 -- The shapes of nets that are near others of the same net are no more than those that are near others of the whole design.
-use Rattle.std.proofs.Common.{◌≡◌, ◌∙◌, ◌+◌, ◌*◌, ◌≤◌, ℕ, cond, List, [], ◌∷◌, ◌++◌, Result, Ok, Err, map, sum_by, refl, sym, ap, arith}
-use Rattle.std.specs.Prelude.{IfOk, IsErrAnd, flat_map}
+use Rattle.std.proofs.Common.{◌≡◌, ◌∙◌, ◌+◌, ◌*◌, ◌≤◌, ℕ, cond, List, [], ◌∷◌, ◌++◌, map, sum_by, refl, sym, ap, arith}
+use Rattle.std.specs.Prelude.{flat_map}
 use Rattle.std.proofs.lemmas.List.{map-append}
 use Rattle.std.proofs.lemmas.List.Sums.{sum_by-append, sum_by-cons, sum_by-le-sum_by}
 use Rattle.def_grammar.specs.Records.{Record}
@@ -101,8 +101,3 @@ told_few start gone come gone_tests come_tests told then_told begun a b c d = om
 
 pub twice : (n start out put old new told then_told : ℕ) → n ≤ start + (out + put) → start ≤ told + then_told → out ≤ old → put ≤ new → told ≤ old → then_told ≤ new → n ≤ 2 * (old + new)
 twice n start out put old new told then_told few begun a b c d = omega (arith, few, begun, a, b, c, d)
-
--- where memory is refused, nothing is said
-pub if_refused : {T E : Type 0} {Q : E → Type 0} (r : Result T E) (P : T → Type 0) → IsErrAnd r Q → IfOk r P
-if_refused (Ok x) P refused = absurd refused
-if_refused (Err e) P refused = tt

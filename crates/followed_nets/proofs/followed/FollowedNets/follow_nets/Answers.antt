@@ -1,5 +1,6 @@
 use Rattle.std.proofs.Common.{rules, ◌≡◌, ◌∙◌, ◌+◌, ◌≤◌, ◌++◌, ℕ, List, Option, Some, None, true, ap, arith, map, refl, subst, sym}
 use Rattle.std.specs.Prelude.{IfSome}
+use Rattle.std.proofs.lemmas.Result.{IfOk-from_err}
 use Rattle.def_grammar.specs.Records.{Record}
 use Rattle.connection_rules.specs.NetLines.{NetShape, barriers, layer_name}
 use Rattle.design_rules.specs.Boxes.{scale}
@@ -16,7 +17,7 @@ use Rattle.followed_nets.specs.declared.touched.TouchedComponent.{TouchedCompone
 use Rattle.followed_nets.proofs.BarredNets.{told_alike}
 use Rattle.followed_nets.proofs.FollowLemmas.{all_exchanged, if_none_so, own_few, then_own_few}
 use Rattle.followed_nets.proofs.HeadsStay.{heads_stay}
-use Rattle.followed_nets.proofs.OwnPairs.{if_refused, told_few, twice}
+use Rattle.followed_nets.proofs.OwnPairs.{told_few, twice}
 use Rattle.followed_nets.proofs.followed.FollowedNets.follow_nets.Goals as goal
 
 pub told_nets-requires : goal.told_nets-requires
@@ -148,19 +149,19 @@ returns-clause-tests g c = λ old exchanges touched followed.
 
 -- (where memory is refused, nothing is said)
 pub returns-in_err-after-clause-lines : goal.returns-in_err-after-clause-lines
-returns-in_err-after-clause-lines g c = λ old exchanges touched followed. if_refused _ _ c.from_residual-in_err-after.ensures.1
+returns-in_err-after-clause-lines g c = λ old exchanges touched followed. IfOk-from_err c.from_residual-in_err-after.result _ c.from_residual-in_err-after.ensures.0
 
 pub returns-in_err-after-clause-tests : goal.returns-in_err-after-clause-tests
-returns-in_err-after-clause-tests g c = λ old exchanges touched followed. if_refused _ _ c.from_residual-in_err-after.ensures.1
+returns-in_err-after-clause-tests g c = λ old exchanges touched followed. IfOk-from_err c.from_residual-in_err-after.result _ c.from_residual-in_err-after.ensures.0
 
 pub returns-in_err-all-clause-lines : goal.returns-in_err-all-clause-lines
-returns-in_err-all-clause-lines g c = λ old exchanges touched followed. if_refused _ _ c.from_residual-in_err-all.ensures.1
+returns-in_err-all-clause-lines g c = λ old exchanges touched followed. IfOk-from_err c.from_residual-in_err-all.result _ c.from_residual-in_err-all.ensures.0
 
 pub returns-in_err-all-clause-tests : goal.returns-in_err-all-clause-tests
-returns-in_err-all-clause-tests g c = λ old exchanges touched followed. if_refused _ _ c.from_residual-in_err-all.ensures.1
+returns-in_err-all-clause-tests g c = λ old exchanges touched followed. IfOk-from_err c.from_residual-in_err-all.result _ c.from_residual-in_err-all.ensures.0
 
 pub returns-in_err-followed-clause-lines : goal.returns-in_err-followed-clause-lines
-returns-in_err-followed-clause-lines g c = λ old exchanges touched followed. if_refused _ _ c.from_residual-in_err-followed.ensures.1
+returns-in_err-followed-clause-lines g c = λ old exchanges touched followed. IfOk-from_err c.from_residual-in_err-followed.result _ c.from_residual-in_err-followed.ensures.0
 
 pub returns-in_err-followed-clause-tests : goal.returns-in_err-followed-clause-tests
-returns-in_err-followed-clause-tests g c = λ old exchanges touched followed. if_refused _ _ c.from_residual-in_err-followed.ensures.1
+returns-in_err-followed-clause-tests g c = λ old exchanges touched followed. IfOk-from_err c.from_residual-in_err-followed.result _ c.from_residual-in_err-followed.ensures.0
