@@ -38,11 +38,12 @@ use Rattle.followed_nets.specs.Noted.{AreCommon, said}
 use Rattle.followed_nets.specs.Pieces.{AreOnPieces, ArePieces, Piece, piece_of}
 use Rattle.followed_nets.specs.StarExchanges.{AwaitsOwn, HaveComponent, nets_of}
 use Rattle.followed_nets.specs.Stars.{AreStarNames, AreStars, IsStar, names_of}
-use Rattle.followed_nets.specs.Tests.{near_each, near_pairs, near_told}
+use Rattle.followed_nets.specs.Tests.{near_each, near_own, near_pairs, near_told}
 use Rattle.followed_nets.specs.Told.{IsToldIn, Told}
 use Rattle.followed_nets.specs.Touched.{AreFollowed, ArePinsBy, ArePinsOf, AreTouched, StarPins, Touched, star_names}
 use Rattle.followed_nets.specs.Within.{Fits, LeavesOthers}
 use Rattle.followed_nets.proofs.NearPairs.{near_nets, near_pins}
+use Rattle.followed_nets.proofs.OwnPairs.{own_is_few}
 use Rattle.followed_nets.proofs.PartedNets.{Splits, as_pieces, both_pieces, in_parts, lines_as_nets, made_whole, shapes_as_nets, told_pieces}
 use Rattle.followed_nets.proofs.PinPieces.{left_piece, net_splits, pins_piece, pins_told, same_left, they_are_pins}
 use Rattle.followed_nets.proofs.ShortLines.{same_shorts}
@@ -148,6 +149,13 @@ module _ (library : Library) (records then_records : List (StmtId × Record)) (n
 
   had : AreOnPieces name_of_layer old_bars (map piece_of (all_nets library old (scale old))) noted.shapes kept.lines
   had = as_pieces name_of_layer old_bars (all_nets library old (scale old)) noted.shapes kept.lines followed.nets.shapes_are followed.lines
+
+  -- what was compared to tell nets, before it and after it
+  pub own_few : near_own t.before ≤ near_pairs library old (t.names ++ stars)
+  own_few = own_is_few library old t.names stars stay told.exchange.old_is old_bars t.before touched.told touched.named
+
+  pub then_own_few : near_own after ≤ near_pairs library new (t.names ++ stars)
+  then_own_few = own_is_few library new t.names stars stay told.exchange.new_is old_bars after then_told then_named
 
   -- what is told goes and comes, with some parts of the nets that are kept with theirs
   module _ (gone_part come_part left_part : List ℕ → Piece) (gone_split : (n : List ℕ) → Splits (piece_of (net_named library old (scale old) n)) (gone_part n) (left_part n))

@@ -19,6 +19,7 @@ mod NoteLemmas
 mod NumberLemmas
 mod OneEntry
 mod OthersLeft
+mod OwnPairs
 mod PartedNets
 mod PieceLemmas
 mod PiecesLeft

@@ -18,7 +18,7 @@ use Rattle.shape_index.specs.Near.{near_shapes}
 use Rattle.followed_nets.specs.Exchanging.{AreToldIn, name_of}
 use Rattle.followed_nets.specs.StarExchanges.{AreItsPins}
 use Rattle.followed_nets.specs.Tests.{bar_shape, near_barred, near_bars, near_each, near_pairs, near_told, plain}
-use Rattle.followed_nets.specs.Told.{Told}
+use Rattle.followed_nets.specs.Told.{IsToldIn, Told}
 use Rattle.followed_nets.proofs.NearLemmas.{near_one, sum_near}
 use Rattle.followed_nets.proofs.PieceLemmas.{sum_named}
 
@@ -45,6 +45,15 @@ sum_in_parts w [] = refl
 sum_in_parts w (p ∷ ps) =
     let r = sum_in_parts w ps in
     omega (arith, r, sum_by-append w p.shapes (shapes_in ps), sum_by-cons (λ (q : Part). sum_by w q.shapes) p ps)
+
+-- what is told of a net are its shapes
+pub shapes_told : (library : Library) (design : List Record) (bars : List Barrier) (t : Told) → IsToldIn library bars design t.name t → t.shapes ≡ plain (shapes_of_net (net_named library design (scale design) t.name))
+shapes_told library design bars t told =
+    let net = net_named library design (scale design) t.name in
+    sym (plain_again net.name t.shapes)
+    ∙ ap plain told.told.shapes_are
+    ∙ plain_by_name (shapes_of_net net ++ [])
+    ∙ ap plain (append-nil (shapes_of_net net))
 
 module _ (library : Library) (design : List Record) (shapes : List NetShape) (all : SameThings shapes (shapes_by_name (all_nets library design (scale design)))) where
   abbrev whole : List ℕ → Net
@@ -82,13 +91,7 @@ module _ (library : Library) (design : List Record) (shapes : List NetShape) (al
   pub near_nets : (bars : List Barrier) (ts : List Told) → AreToldIn library bars design ts → near_told ts shapes ≡ near_pairs library design (map name_of ts)
   near_nets bars [] told = refl
   near_nets bars (t ∷ ts) told =
-      let is = told.0.told in
-      let net = whole t.name in
-      let own : t.shapes ≡ plain (shapes_of_net net) =
-      sym (plain_again net.name t.shapes)
-      ∙ ap plain is.shapes_are
-      ∙ plain_by_name (shapes_of_net net ++ [])
-      ∙ ap plain (append-nil (shapes_of_net net)) in
+      let own = shapes_told library design bars t told.0 in
       let here = near_own t.shapes ∙ ap (sum_by near) own in
       let later = near_nets bars ts told.1 in
       omega (

@@ -1,9 +1,10 @@
 -- What is told of nets, one after the other; and which nets list a component.
-use Rattle.std.proofs.Common.{◌≡◌, ◌∙◌, ◌<◌, ◌+◌, ◌||◌, ◌&&◌, ℕ, Bool, true, false, not, List, [], ◌∷◌, ◌++◌, drop, get_or, length, map, append-nil, append_assoc, Some, None, refl, sym, ap, ap₂, subst}
+use Rattle.std.proofs.Common.{◌≡◌, ◌∙◌, ◌<◌, ◌≤◌, ◌+◌, ◌||◌, ◌&&◌, ℕ, Bool, true, false, not, List, [], ◌∷◌, ◌++◌, drop, get_or, length, map, append-nil, append_assoc, Some, None, refl, sym, ap, ap₂, arith, subst, sum_by}
 use Rattle.std.specs.List.{AllByRecursion, list_any}
 use Rattle.std.specs.Str.{bytes_eq}
 use Rattle.std.proofs.lemmas.List.{drop_more, map-append}
 use Rattle.std.proofs.lemmas.List.Folds.{list_any-append}
+use Rattle.std.proofs.lemmas.List.Sums.{sum_by-append, sum_by-cons}
 use Rattle.std.proofs.lemmas.Slice.Eq.{bytes_eq-Decides}
 use Rattle.def_grammar.specs.Records.{Record}
 use Rattle.def_grammar.specs.Terminals.{Terminal, is_of_all, is_of_design, is_virtual}
@@ -11,6 +12,7 @@ use Rattle.lef_grammar.specs.Library.{Library}
 use Rattle.connection_rules.specs.NetLines.{Barrier}
 use Rattle.connection_rules.specs.NetParts.{Net}
 use Rattle.design_rules.specs.Boxes.{scale}
+use Rattle.net_checks.specs.NearWithin.{near_themselves}
 use Rattle.net_laws.specs.NetChanges.{is_one_of}
 use Rattle.net_laws.specs.NetExchanges.{finds}
 use Rattle.net_laws.specs.NetsTold.{terminals_in}
@@ -19,8 +21,11 @@ use Rattle.net_laws.specs.Within.{NoOtherLists, a_component, a_pin, finds_it, ne
 use Rattle.followed_nets.specs.Exchanging.{AreToldIn, name_of}
 use Rattle.followed_nets.specs.Listed.{AreListing, AreListingPin, is_pin_of}
 use Rattle.followed_nets.specs.Stars.{AreStarNames, names_of}
+use Rattle.followed_nets.specs.Tests.{near_own}
 use Rattle.followed_nets.specs.Told.{IsToldIn, Told}
+use Rattle.followed_nets.specs.ToldViews.{tests_of, told_view}
 use Rattle.followed_nets.specs.Touched.{ArePinsBy, AreTouched, StarPins, star_names}
+use Rattle.followed_nets.specs.declared.told.ToldNet.{ToldNet}
 
 -- neither the first nor a later one passes a test
 none_of_both : (b c : Bool) → (b || c) ≡ false → (b ≡ false) × (c ≡ false)
@@ -47,6 +52,22 @@ module _ (library : Library) (bars : List Barrier) (design : List Record) where
       ∙ append_assoc (map name_of ts) (t.name ∷ []) (drop (i + 1) names)
       ∙ ap (λ (l : List (List ℕ)). map name_of ts ++ l) (ap (λ (name : List ℕ). name ∷ drop (i + 1) names) (named_so n t is ∙ at) ∙ sym (drop_more names i n below))
       ∙ named
+
+-- one more net is told by comparing no more than its own shapes that are near each other
+pub one_more_own : {A : Type 0} (ts : List (ToldNet A)) (t : ToldNet A) → t.tests ≤ near_themselves (told_view t).shapes → tests_of ts ≤ near_own (map told_view ts) → tests_of (ts ++ t ∷ []) ≤ near_own (map told_view (ts ++ t ∷ []))
+one_more_own {A = A} ts t few all =
+    let seen = ap near_own (map-append told_view ts (t ∷ [])) in
+    let w = λ (u : Told). near_themselves u.shapes in
+    omega (
+      arith,
+      few,
+      all,
+      seen,
+      sum_by-append (λ (u : ToldNet A). u.tests) ts (t ∷ []),
+      sum_by-cons (λ (u : ToldNet A). u.tests) t [],
+      sum_by-append w (map told_view ts) (told_view t ∷ []),
+      sum_by-cons w (told_view t) [],
+    )
 
 -- the pins of nets by one component
 module _ (library : Library) (design : List Record) (component : List ℕ) where
@@ -116,8 +137,8 @@ none_lists design nets net out = none (terminals_in design net)
     none (t ∷ ts) = none ts
 
 -- an edit that changes no net touches none
-pub none_touched : (library : Library) (design : List Record) (names : List (List ℕ)) (before : List Told) → names ≡ [] → before ≡ [] → AreTouched library design (record { names = names; component = None; pin = None; before = before; stars = [] })
-none_touched library design names before n b =
-    subst (λ (ns : List (List ℕ)). AreTouched library design (record { names = ns; component = None; pin = None; before = before; stars = [] })) (sym n)
-    (subst (λ (bs : List Told). AreTouched library design (record { names = []; component = None; pin = None; before = bs; stars = [] })) (sym b)
-    (record { apart = tt; lists = none_lists design []; told = tt; named = refl; pins = refl }))
+pub none_touched : (library : Library) (design : List Record) (names : List (List ℕ)) (before : List Told) (tests : ℕ) → names ≡ [] → before ≡ [] → tests ≡ 0 → AreTouched library design (record { names = names; component = None; pin = None; before = before; tests = tests; stars = [] })
+none_touched library design names before tests n b none =
+    subst (λ (ns : List (List ℕ)). AreTouched library design (record { names = ns; component = None; pin = None; before = before; tests = tests; stars = [] })) (sym n)
+    (subst (λ (bs : List Told). AreTouched library design (record { names = []; component = None; pin = None; before = bs; tests = tests; stars = [] })) (sym b)
+    (record { apart = tt; lists = none_lists design []; told = tt; named = refl; few = omega (arith, none); pins = refl }))

@@ -1,5 +1,5 @@
 -- How many pairs of shapes are compared at most for the lines on nets that an edit changes.
-use Rattle.std.specs.Prelude.{ℕ, ◌+◌, ◌≤◌, List, ◌++◌, map, sum_by}
+use Rattle.std.specs.Prelude.{ℕ, ◌+◌, ◌*◌, ◌≤◌, List, ◌++◌, map, sum_by}
 use Rattle.def_grammar.specs.Records.{Record}
 use Rattle.lef_grammar.specs.Library.{Library}
 use Rattle.lef_grammar.specs.Measures.{Shape}
@@ -7,6 +7,7 @@ use Rattle.connection_rules.specs.NetLines.{Barrier, NetShape, barriers, net_sha
 use Rattle.connection_rules.specs.NetParts.{net_named}
 use Rattle.design_rules.specs.Boxes.{scale}
 use Rattle.net_laws.specs.Blocked.{BarsChange}
+use Rattle.net_checks.specs.NearWithin.{near_themselves}
 use Rattle.shape_index.specs.Near.{near_shapes}
 use Rattle.followed_nets.specs.Blocked.{AreNotBoth}
 use Rattle.followed_nets.specs.Told.{Told}
@@ -22,6 +23,10 @@ near_each own shapes = sum_by (λ (s : Shape). near_shapes s (plain shapes)) own
 -- so of what is told
 abbrev pub near_told : List Told → List NetShape → ℕ
 near_told ts shapes = sum_by (λ (t : Told). near_each t.shapes shapes) ts
+
+-- so of what is told, each net by itself
+abbrev pub near_own : List Told → ℕ
+near_own ts = sum_by (λ (t : Told). near_themselves t.shapes) ts
 
 -- so of the nets of some names in a design, with the shapes of all nets
 abbrev pub near_pairs : Library → List Record → List (List ℕ) → ℕ
@@ -48,11 +53,12 @@ pub record FewBarred (library : Library) (old new : List Record) (shapes : List 
   pub apart : AreNotBoth gone come
   pub few : tests ≤ before + near_barred (gone ++ come) shapes
 
--- Shapes of nets of these names are compared with shapes near them, as they were and as they are then; so are rectangles that went or came,
--- none of which did both, with the shapes of all nets, as they are then.
+-- Shapes of nets of these names are compared with shapes near them, as they were and as they are then, and each time twice: with those of the
+-- same net, to find how its parts hang together, and with those of other nets. So are rectangles that went or came, none of which did both, with
+-- the shapes of all nets, as they are then.
 pub record FewTests (library : Library) (old new : List Record) (names : List (List ℕ)) (tests : ℕ) : Type 0 where
   pub gone : List Barrier
   pub come : List Barrier
   pub changed : BarsChange (barriers library old (scale old)) (barriers library new (scale new)) gone come
   pub apart : AreNotBoth gone come
-  pub few : tests ≤ (near_pairs library old names + near_pairs library new names) + near_bars library new (gone ++ come)
+  pub few : tests ≤ 2 * (near_pairs library old names + near_pairs library new names) + near_bars library new (gone ++ come)

@@ -1,5 +1,5 @@
 -- What is told of a net in the program as in the definitions.
-use Rattle.std.specs.Prelude.{List, [], Option, Some, None, map}
+use Rattle.std.specs.Prelude.{ℕ, List, [], Option, Some, None, map, sum_by}
 use Rattle.kept_nets.specs.Parts.{part_view}
 use Rattle.net_lists.specs.PartCuts.{shape_view}
 use Rattle.followed_nets.specs.Heads.{Head}
@@ -12,6 +12,10 @@ use Rattle.followed_nets.specs.declared.touched.TouchedComponent.{TouchedCompone
 
 abbrev pub told_view : {A : Type 0} → ToldNet A → Told
 told_view t = record { name = t.name.items; lines = t.lines; shapes = map shape_view t.shapes.items }
+
+-- how many pairs of shapes were compared to tell nets
+abbrev pub tests_of : {A : Type 0} → List (ToldNet A) → ℕ
+tests_of ts = sum_by (λ t. t.tests) ts
 
 abbrev pub head_view : {A : Type 0} → code_head.Head A → Head
 head_view h = record { name = h.name; mode = h.mode; bytes = h.bytes.items }

@@ -45,6 +45,7 @@ fn take_out<A: Allocator + Copy>(
         name,
         lines,
         shapes: own,
+        tests: _,
     } = net;
     if !shapes.remove(name.as_slice(), own.as_slice()) {
         return Ok(None);
@@ -68,6 +69,7 @@ fn put_in<A: Allocator + Copy>(
         name,
         lines,
         shapes: own,
+        tests: _,
     } = net;
     let checked = shapes.put_shorts(layers, name.as_slice(), own.as_slice(), lines)?;
     shapes.insert(alloc, name.as_slice(), own.as_slice())?;
@@ -175,26 +177,23 @@ fn put_in_nets<A: Allocator + Copy>(
 }
 
 /// The lines on nets once all that goes is taken out and then all that comes is put in, so that nothing of what went is compared with what
-/// came. Shapes that both have aren't touched, and the others follow. `layers` are the names of all layers, from the bottom up.
+/// came. Shapes that both have aren't touched, and the others follow. `layers` are the names of all layers, from the bottom up, and `start` has
+/// the lines before it, with how many pairs of shapes were compared to tell the nets.
 pub(crate) fn exchange_nets<A: Allocator + Copy>(
     alloc: A,
     layers: &[&[u8]],
     shapes: &mut NamedShapes<A>,
     told: ToldExchange<A>,
-    kept: KeptLines<A>,
+    start: FollowedOnNets<A>,
 ) -> Result<Option<FollowedOnNets<A>>, AllocError>
-    requires { (bars : List Barrier) × (out : List Piece) × (put : List Piece) × (rest : List Piece) × ArePieces (name_at (map (λ w. w.now) layers.now)) bars out (map told_view told.gone.items) × ArePieces (name_at (map (λ w. w.now) layers.now)) bars put (map told_view told.come.items) × AreOnPieces (name_at (map (λ w. w.now) layers.now)) bars (out ++ rest) shapes.old kept.lines }
-    ensures lines { (bars : List Barrier) (out put rest : List Piece) → ArePieces (name_at (map (λ w. w.now) layers.now)) bars out (map told_view told.gone.items) → ArePieces (name_at (map (λ w. w.now) layers.now)) bars put (map told_view told.come.items) → AreOnPieces (name_at (map (λ w. w.now) layers.now)) bars (out ++ rest) shapes.old kept.lines
+    requires { (bars : List Barrier) × (out : List Piece) × (put : List Piece) × (rest : List Piece) × ArePieces (name_at (map (λ w. w.now) layers.now)) bars out (map told_view told.gone.items) × ArePieces (name_at (map (λ w. w.now) layers.now)) bars put (map told_view told.come.items) × AreOnPieces (name_at (map (λ w. w.now) layers.now)) bars (out ++ rest) shapes.old start.lines.lines }
+    ensures lines { (bars : List Barrier) (out put rest : List Piece) → ArePieces (name_at (map (λ w. w.now) layers.now)) bars out (map told_view told.gone.items) → ArePieces (name_at (map (λ w. w.now) layers.now)) bars put (map told_view told.come.items) → AreOnPieces (name_at (map (λ w. w.now) layers.now)) bars (out ++ rest) shapes.old start.lines.lines
         → IfOk result (λ found. IfSome found (λ f. AreOnPieces (name_at (map (λ w. w.now) layers.now)) bars (put ++ rest) shapes.new f.lines.lines)) }
-    ensures tests { IfOk result (λ found. IfSome found (λ f. f.tests ≤ near_told (map told_view told.gone.items) shapes.old + near_told (map told_view told.come.items) shapes.new)) }
+    ensures tests { IfOk result (λ found. IfSome found (λ f. f.tests ≤ start.tests + (near_told (map told_view told.gone.items) shapes.old + near_told (map told_view told.come.items) shapes.new))) }
 {
     short_is_symmetric();
     same_lines_sort_alike();
     let ToldExchange { gone, come } = without_same(alloc, told)?;
-    let start = FollowedOnNets {
-        lines: kept,
-        tests: 0,
-    };
     let Some(left) = take_out_nets(alloc, layers, shapes, gone, start)? else {
         return Ok(None);
     };

@@ -1,6 +1,6 @@
 //! The nets of a text that are noted, and the lines on them that follow.
 
-ghost use Rattle.std.specs.Prelude.{◌≡◌, ◌++◌, ◌∷◌, ◌+◌, ◌≤◌, ℕ, [], false, true, IfNone, IfOk, IfSome, IsTrue, List, None, Some, flat_map, map};
+ghost use Rattle.std.specs.Prelude.{◌≡◌, ◌++◌, ◌∷◌, ◌+◌, ◌*◌, ◌≤◌, ℕ, [], false, true, IfNone, IfOk, IfSome, IsTrue, List, None, Some, flat_map, map};
 ghost use Rattle.std.specs.List.{AllByRecursion};
 ghost use Rattle.std.specs.Option.{option_map};
 ghost use Rattle.design_model.specs.declared.identifier.StmtId.{StmtId as Number};
@@ -38,6 +38,7 @@ use crate::noted::{common_numbers, drawn_nets, star_names};
 use crate::numbers::numbers_after;
 use crate::star_exchange::{ExchangedStars, ToldExchange, exchange_stars, with_more};
 use crate::taking_bars::without_both;
+use crate::told::tests_told;
 use crate::touched::{TouchedComponent, TouchedNets, are_named, told_nets, told_stars};
 use crate::within::{EditSubject, exchanges_are_within, is_one_of};
 use cell_library::library::Library;
@@ -383,20 +384,20 @@ impl<A: Allocator + Copy> FollowedNets<A> {
         alloc: A,
         library: &Library<'_, A>,
         told: ToldExchange<A>,
-        kept: KeptLines<A>,
+        start: FollowedOnNets<A>,
     ) -> Result<Option<FollowedOnNets<A>>, AllocError>
-        requires { (bars : List TheBarrier) × (out : List Piece) × (put : List Piece) × (rest : List Piece) × ArePieces (layer_name library.now.layers) bars out (map told_view told.gone.items) × ArePieces (layer_name library.now.layers) bars put (map told_view told.come.items) × AreOnPieces (layer_name library.now.layers) bars (out ++ rest) self.old.shapes kept.lines }
+        requires { (bars : List TheBarrier) × (out : List Piece) × (put : List Piece) × (rest : List Piece) × ArePieces (layer_name library.now.layers) bars out (map told_view told.gone.items) × ArePieces (layer_name library.now.layers) bars put (map told_view told.come.items) × AreOnPieces (layer_name library.now.layers) bars (out ++ rest) self.old.shapes start.lines.lines }
         ensures common { self.new.common ≡ self.old.common }
         ensures bars { self.new.bars ≡ self.old.bars }
         ensures heads { self.new.heads ≡ self.old.heads }
         ensures stars { self.new.stars ≡ self.old.stars }
-        ensures lines { (bars : List TheBarrier) (out put rest : List Piece) → ArePieces (layer_name library.now.layers) bars out (map told_view told.gone.items) → ArePieces (layer_name library.now.layers) bars put (map told_view told.come.items) → AreOnPieces (layer_name library.now.layers) bars (out ++ rest) self.old.shapes kept.lines
+        ensures lines { (bars : List TheBarrier) (out put rest : List Piece) → ArePieces (layer_name library.now.layers) bars out (map told_view told.gone.items) → ArePieces (layer_name library.now.layers) bars put (map told_view told.come.items) → AreOnPieces (layer_name library.now.layers) bars (out ++ rest) self.old.shapes start.lines.lines
             → IfOk result (λ found. IfSome found (λ f. AreOnPieces (layer_name library.now.layers) bars (put ++ rest) self.new.shapes f.lines.lines)) }
-        ensures tests { IfOk result (λ found. IfSome found (λ f. f.tests ≤ near_told (map told_view told.gone.items) self.old.shapes + near_told (map told_view told.come.items) self.new.shapes)) }
+        ensures tests { IfOk result (λ found. IfSome found (λ f. f.tests ≤ start.tests + (near_told (map told_view told.gone.items) self.old.shapes + near_told (map told_view told.come.items) self.new.shapes))) }
     {
         layers_have_their_names();
         let layers = layer_names(alloc, library)?;
-        let found = exchange_nets(alloc, &layers, &mut self.shapes, told, kept)?;
+        let found = exchange_nets(alloc, &layers, &mut self.shapes, told, start)?;
         Ok(found)
     }
 
@@ -433,7 +434,7 @@ impl<A: Allocator + Copy> FollowedNets<A> {
             → IfOk result (λ found. IfSome found (λ f. AreBarred library.now (records_in text.now) (barriers library.now (said old) (scale (said old))) self.new f.lines)) }
         ensures tests { (old : List (Number × Record)) → AreExchanges text.now.pieces.table.slots old made.now.exchanges (records_in text.now) → AreTouched library.now (said old) touched → AreFollowed library.now old self.old kept
             → let names = touched.names ++ star_names touched.stars in
-            IfOk result (λ found. IfSome found (λ f. f.tests ≤ near_pairs library.now (said old) names + near_pairs library.now (said (records_in text.now)) names)) }
+            IfOk result (λ found. IfSome found (λ f. f.tests ≤ 2 * (near_pairs library.now (said old) names + near_pairs library.now (said (records_in text.now)) names))) }
     {
         told_nets_are_exchanged();
         one_component_exchanged();
@@ -464,6 +465,7 @@ impl<A: Allocator + Copy> FollowedNets<A> {
         let Some(after) = told_nets(alloc, library, text, common, bars, &names)? else {
             return Ok(None);
         };
+        let tests = tests_told(&before).saturating_add(tests_told(&after));
         let told = ToldExchange {
             gone: before,
             come: after,
@@ -471,7 +473,8 @@ impl<A: Allocator + Copy> FollowedNets<A> {
         let Some(all) = self.exchange_stars(alloc, library, text, component, told)? else {
             return Ok(None);
         };
-        let Some(followed) = self.exchange(alloc, library, all, kept)? else {
+        let start = FollowedOnNets { lines: kept, tests };
+        let Some(followed) = self.exchange(alloc, library, all, start)? else {
             return Ok(None);
         };
         Ok(Some(followed))

@@ -62,7 +62,7 @@ pub(crate) fn with_more<A: Allocator + Copy>(
     Ok(ToldExchange { gone, come })
 }
 
-/// These shapes of a net with the lines on how it hangs together.
+/// These shapes of a net with the lines on how it hangs together. What is compared for these lines isn't counted.
 fn told_with<A: Allocator + Copy>(
     alloc: A,
     star: &KeptNet<A>,
@@ -79,6 +79,7 @@ fn told_with<A: Allocator + Copy>(
         name,
         lines,
         shapes,
+        tests: 0,
     })
 }
 

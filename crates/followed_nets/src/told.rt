@@ -13,11 +13,12 @@ ghost use Rattle.net_laws.specs.OneNet.{TellNet};
 ghost use Rattle.net_lists.specs.PartCuts.{shape_view};
 ghost use Rattle.net_touches.specs.Barriers.{barrier_view};
 ghost use Rattle.net_checks.specs.Drawings.{IsBarredDrawing};
+ghost use Rattle.net_checks.specs.NearWithin.{near_themselves};
 ghost use Rattle.design_text.specs.DesignTexts.{design_of};
 ghost use Rattle.design_text.specs.Exchanges.{records_in};
 ghost use Rattle.followed_nets.specs.Noted.{AreCommon};
 ghost use Rattle.followed_nets.specs.Told.{IsTold, IsToldIn};
-ghost use Rattle.followed_nets.specs.ToldViews.{told_view};
+ghost use Rattle.followed_nets.specs.ToldViews.{tests_of, told_view};
 
 use crate::told_statements::told_statements;
 use cell_library::library::Library;
@@ -30,15 +31,27 @@ use net_checks::NetDrawing;
 use net_laws::one_net_is_told;
 use net_lists::NetShape;
 use net_touches::Barrier;
-use report_lines::Lines;
+use report_lines::{Checked, Lines};
 use std::alloc::{AllocError, Allocator, Global};
 
-/// A net's name, the lines on it by itself, and its shapes.
+/// A net's name, the lines on it by itself, its shapes, and how many pairs of these were compared to find how its parts hang together.
 #[derive(Drop)]
 pub(crate) struct ToldNet<A: Allocator = Global> {
     pub(crate) name: Vec<u8, A>,
     pub(crate) lines: Lines<A>,
     pub(crate) shapes: Vec<NetShape, A>,
+    pub(crate) tests: u64,
+}
+
+/// How many pairs of shapes were compared to tell nets.
+pub(crate) fn tests_told<A: Allocator + Copy>(nets: &[ToldNet<A>]) -> u64
+    ensures { result ≤ tests_of nets.now }
+{
+    let mut tests: u64 = 0;
+    for net in nets {
+        tests = tests.saturating_add(net.tests);
+    }
+    tests
 }
 
 /// The lines on the nets that are drawn, and their shapes, under a name.
@@ -51,14 +64,16 @@ fn told_by<A: Allocator + Copy>(
     ensures lines { (library : TheLibrary) (design : List Record) (bars : List TheBarrier) → IsBarredDrawing library design bars drawing.now
         → IfOk result (λ t. SameLines t.lines ([] ++ lines_on_nets (layer_name library.layers) (all_nets library design (scale design)) bars)) }
     ensures shapes { IfOk result (λ t. map shape_view t.shapes.items ≡ map (λ s. s.shape) (flat_map shapes_of_net drawing.now.nets)) }
+    ensures tests { IfOk result (λ t. t.tests ≤ near_themselves (told_view t).shapes) }
 {
     let name = Vec::from_slice(alloc, net)?;
-    let lines = drawing.put_lines(alloc, Lines::new(alloc))?;
+    let Checked { lines, tests } = drawing.put_counted_lines(alloc, Lines::new(alloc))?;
     let shapes = Vec::from_slice(alloc, drawing.nets().shapes())?;
     Ok(ToldNet {
         name,
         lines,
         shapes,
+        tests,
     })
 }
 
@@ -72,8 +87,9 @@ fn told_of<A: Allocator + Copy>(
 ) -> Result<ToldNet<A>, AllocError>
     requires some { 0 < scale (map record_view statements.now) }
     requires few { scale (map record_view statements.now) ≤ 100000 }
-    ensures { (design : List Record) → TellNet (map record_view statements.now) design net.now
+    ensures told { (design : List Record) → TellNet (map record_view statements.now) design net.now
         → IfOk result (λ t. IsTold library.now (map barrier_view bars.now) (net_named library.now design (scale design) net.now) (told_view t)) }
+    ensures tests { IfOk result (λ t. t.tests ≤ near_themselves (told_view t).shapes) }
 {
     one_net_is_told();
     let names = names_of(alloc, library.hash_builder(), statements)?;
@@ -91,7 +107,8 @@ pub(crate) fn told_net<A: Allocator + Copy>(
     net: &[u8],
 ) -> Result<Option<ToldNet<A>>, AllocError>
     requires { AreCommon (records_in text.now) common.now }
-    ensures { IfOk result (λ found. IfSome found (λ t. IsToldIn library.now (map barrier_view bars.now) (design_of text.now) net.now (told_view t))) }
+    ensures told { IfOk result (λ found. IfSome found (λ t. IsToldIn library.now (map barrier_view bars.now) (design_of text.now) net.now (told_view t))) }
+    ensures tests { IfOk result (λ found. IfSome found (λ t. t.tests ≤ near_themselves (told_view t).shapes)) }
 {
     one_net_is_told();
     scales_are_good();

@@ -1,6 +1,6 @@
 //! The nets that an edit is about to change.
 
-ghost use Rattle.std.specs.Prelude.{◌≡◌, [], IfOk, IfSome, IsTrue, List, None, map};
+ghost use Rattle.std.specs.Prelude.{◌≡◌, ◌≤◌, [], IfOk, IfSome, IsTrue, List, None, map};
 ghost use Rattle.std.specs.List.{AllByRecursion};
 ghost use Rattle.def_grammar.specs.Records.{Record};
 ghost use Rattle.lef_grammar.specs.Library.{Library as TheLibrary};
@@ -13,7 +13,8 @@ ghost use Rattle.followed_nets.specs.Exchanging.{AreToldIn, name_of};
 ghost use Rattle.followed_nets.specs.Heads.{IsHead};
 ghost use Rattle.followed_nets.specs.Noted.{AreCommon};
 ghost use Rattle.followed_nets.specs.Stars.{names_of};
-ghost use Rattle.followed_nets.specs.ToldViews.{head_view, star_view, told_view};
+ghost use Rattle.followed_nets.specs.Tests.{near_own};
+ghost use Rattle.followed_nets.specs.ToldViews.{head_view, star_view, tests_of, told_view};
 ghost use Rattle.followed_nets.specs.Touched.{ArePinsBy, AreTouched, star_names};
 
 use crate::heads::{Head, head_named};
@@ -54,12 +55,12 @@ pub struct TouchedNets<A: Allocator = Global> {
 impl<A: Allocator> Model for TouchedNets<A> {
     ghost use Rattle.std.specs.Prelude.{map};
     ghost use Rattle.std.specs.Option.{option_map};
-    ghost use Rattle.followed_nets.specs.ToldViews.{stars_of, told_view};
+    ghost use Rattle.followed_nets.specs.ToldViews.{stars_of, tests_of, told_view};
     ghost use Rattle.followed_nets.specs.Touched.{Touched};
 
     ghost Value = { Touched };
 
-    ghost view = { λ t. record { names = t.names.items; component = option_map (λ c. c.name) t.component; pin = t.pin; before = map told_view t.before.items; stars = stars_of t.component } };
+    ghost view = { λ t. record { names = t.names.items; component = option_map (λ c. c.name) t.component; pin = t.pin; before = map told_view t.before.items; tests = tests_of t.before.items; stars = stars_of t.component } };
 }
 
 impl<A: Allocator + Copy> TouchedNets<A> {
@@ -89,6 +90,7 @@ pub(crate) fn told_nets<A: Allocator + Copy>(
     requires { AreCommon (records_in text.now) common.now }
     ensures told { IfOk result (λ found. IfSome found (λ v. AreToldIn library.now (map barrier_view bars.now) (design_of text.now) (map told_view v.items))) }
     ensures named { IfOk result (λ found. IfSome found (λ v. map name_of (map told_view v.items) ≡ names.now)) }
+    ensures few { IfOk result (λ found. IfSome found (λ v. tests_of v.items ≤ near_own (map told_view v.items))) }
 {
     let mut told = Vec::new(alloc);
     for name in names {

@@ -1,2 +1,3 @@
+pub mod HeldParts
 pub mod NameLemmas
 pub mod LineLemmas

@@ -1,2 +1,3 @@
 pub mod BarrierViews
 pub mod Drawings
+pub mod NearWithin

@@ -28,10 +28,10 @@ use std::marker::Model;
 /// long its wires are. It borrows from the texts alone, so what it was made from may be given back before its lines are made.
 #[derive(Drop)]
 pub struct NetDrawing<'l, 't, A: Allocator = Global> {
-    nets: NetList<'t, A>,
+    pub(crate) nets: NetList<'t, A>,
     lengths: Vec<u64, A>,
-    barriers: Vec<Barrier, A>,
-    layers: Vec<&'l [u8], A>,
+    pub(crate) barriers: Vec<Barrier, A>,
+    pub(crate) layers: Vec<&'l [u8], A>,
 }
 
 impl<'l, 't, A: Allocator> Model for NetDrawing<'l, 't, A> {

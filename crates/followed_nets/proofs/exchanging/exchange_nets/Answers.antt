@@ -12,7 +12,7 @@ take_out_nets-requires g c =
     let symmetric = same_shorts c.short_is_symmetric.ensures layers in
     let bars = c.requires.0 in
     let told = c.in_ok-gone.ensures in
-    let there = without layers bars sorted symmetric _ _ told.0 told.1 c.requires.3 c.args.shapes.now c.args.kept.lines c.requires.1 c.requires.4 c.requires.6 in
+    let there = without layers bars sorted symmetric _ _ told.0 told.1 c.requires.3 c.args.shapes.now c.args.start.lines.lines c.requires.1 c.requires.4 c.requires.6 in
     (bars, map (whole layers bars) _, staying layers bars sorted symmetric told.0 ∷ c.requires.3, are_whole layers bars _, there)
 
 pub put_in_nets-requires : goal.put_in_nets-requires
@@ -22,7 +22,7 @@ put_in_nets-requires g c =
     let symmetric = same_shorts c.short_is_symmetric.ensures layers in
     let bars = c.requires.0 in
     let told = c.in_ok-gone.ensures in
-    let there = without layers bars sorted symmetric _ _ told.0 told.1 c.requires.3 c.args.shapes.now c.args.kept.lines c.requires.1 c.requires.4 c.requires.6 in
+    let there = without layers bars sorted symmetric _ _ told.0 told.1 c.requires.3 c.args.shapes.now c.args.start.lines.lines c.requires.1 c.requires.4 c.requires.6 in
     let stay = staying layers bars sorted symmetric told.0 ∷ c.requires.3 in
     let left = rw (c.in-Some.is) at (c.in_ok-left.ensures.follows bars (map (whole layers bars) (map told_view c.in_ok-gone.field-0.gone.items)) stay (are_whole layers bars (map told_view c.in_ok-gone.field-0.gone.items)) there) in
     let come = map told_view c.in_ok-gone.field-0.come.items in
@@ -34,7 +34,7 @@ returns-clause-lines g c = λ bars out put rest goes comes had.
     let sorted = c.same_lines_sort_alike.ensures in
     let symmetric = same_shorts c.short_is_symmetric.ensures layers in
     let told = c.in_ok-gone.ensures in
-    let there = without layers bars sorted symmetric _ _ told.0 told.1 rest c.args.shapes.now c.args.kept.lines out goes had in
+    let there = without layers bars sorted symmetric _ _ told.0 told.1 rest c.args.shapes.now c.args.start.lines.lines out goes had in
     let stay = staying layers bars sorted symmetric told.0 ∷ rest in
     let left = rw (c.in-Some.is) at (c.in_ok-left.ensures.follows bars (map (whole layers bars) (map told_view c.in_ok-gone.field-0.gone.items)) stay (are_whole layers bars (map told_view c.in_ok-gone.field-0.gone.items)) there) in
     let now = rw (c.in-Some-2.is) at (c.in_ok-followed.ensures.follows bars (map (whole layers bars) (map told_view c.in_ok-gone.field-0.come.items)) stay (are_whole layers bars (map told_view c.in_ok-gone.field-0.come.items)) left) in

@@ -21,9 +21,9 @@ told_of-requires-clause-few g c =
     let good = c.scales_are_good.ensures (text_of c.args.text.now) design c.design_is_read.ensures.reads in
     rw (ap (λ l. scale (map record_view l)) c.deref.ensures.value ∙ told.same_scale) good.few
 
-pub returns : goal.returns
-returns g c =
+pub returns-clause-told : goal.returns-clause-told
+returns-clause-told g c =
     let design = design_of c.args.text.now in
     let tell = rw (c.in-Some.is) at c.in_ok-statements.ensures in
     let these : TellNet (map record_view c.deref.result.now) design c.args.net.now = rw (c.deref.ensures.value) tell in
-    record { some = map record_view c.deref.result.now; tell = these; told = c.in_ok-told.ensures design these }
+    record { some = map record_view c.deref.result.now; tell = these; told = c.in_ok-told.ensures.told design these }

@@ -7,8 +7,8 @@ use Rattle.followed_nets.specs.ToldViews.{told_view}
 use Rattle.followed_nets.proofs.ToldLemmas.{told_if}
 use Rattle.followed_nets.proofs.told.told_of.Goals as goal
 
-pub returns : goal.returns
-returns g c = λ design tell.
+pub returns-clause-told : goal.returns-clause-told
+returns-clause-told g c = λ design tell.
     let library = c.args.library.now in
     let some = map record_view c.args.statements.now in
     let bars = map barrier_view c.args.bars.now in

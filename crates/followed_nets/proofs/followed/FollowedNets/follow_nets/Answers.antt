@@ -1,5 +1,6 @@
 use Rattle.std.proofs.Common.{rules, ◌≡◌, ◌∙◌, ◌+◌, ◌≤◌, ◌++◌, ℕ, List, Option, Some, None, true, ap, arith, map, refl, subst, sym}
 use Rattle.std.specs.Prelude.{IfSome}
+use Rattle.std.proofs.lemmas.Result.{IfOk-from_err}
 use Rattle.def_grammar.specs.Records.{Record}
 use Rattle.connection_rules.specs.NetLines.{NetShape, barriers, layer_name}
 use Rattle.design_rules.specs.Boxes.{scale}
@@ -14,8 +15,9 @@ use Rattle.followed_nets.specs.declared.exchanging.FollowedOnNets.{FollowedOnNet
 use Rattle.followed_nets.specs.declared.star_exchange.ToldExchange.{ToldExchange}
 use Rattle.followed_nets.specs.declared.touched.TouchedComponent.{TouchedComponent}
 use Rattle.followed_nets.proofs.BarredNets.{told_alike}
-use Rattle.followed_nets.proofs.FollowLemmas.{all_exchanged, if_none_so}
+use Rattle.followed_nets.proofs.FollowLemmas.{all_exchanged, if_none_so, own_few, then_own_few}
 use Rattle.followed_nets.proofs.HeadsStay.{heads_stay}
+use Rattle.followed_nets.proofs.OwnPairs.{told_few, twice}
 use Rattle.followed_nets.proofs.followed.FollowedNets.follow_nets.Goals as goal
 
 pub told_nets-requires : goal.told_nets-requires
@@ -106,12 +108,10 @@ returns-clause-lines g c = λ old exchanges touched followed.
       lines = p.then_lines c.exchange.new.self.shapes c.in-Some-4.followed.lines.lines on;
     }
 
--- (over variables, as these sums are large terms)
-bounded : (n a b c d : ℕ) → n ≤ a + b → a ≤ c → b ≤ d → n ≤ c + d
-bounded n a b c d sum first second = omega (arith, sum, first, second)
-
 pub returns-clause-tests : goal.returns-clause-tests
 returns-clause-tests g c = λ old exchanges touched followed.
+    let sum = c.saturating_add-tests.ensures in
+    let counted : c.saturating_add-tests.result ≤ c.tests_told.result + c.tests_told-2.result = omega (arith, sum) in
     let yes : c.in_ok-are_all.field-0 ≡ true = search rules in
     let t = rw (← c.touched.view_is) at touched in
     let alone = rw (← c.touched.view_is) at c.in_ok-are_all.ensures in
@@ -136,6 +136,32 @@ returns-clause-tests g c = λ old exchanges touched followed.
     let on = subst (λ (found : Option (FollowedOnNets _)). IfSome found (λ f. AreOnPieces (layer_name library.layers) p.bars (p.put ++ p.rest) c.exchange.new.self.shapes f.lines.lines)) c.in-Some-4.is
     (c.in_ok-followed.ensures.lines p.bars p.out p.put p.rest p.goes p.comes had) in
     let tests = rw (c.in-Some-4.is, c.in_ok-all.ensures.shapes) at c.in_ok-followed.ensures.tests in
-    let few = p.few in
     let then_few = p.then_few c.exchange.new.self.shapes (p.then_shapes c.exchange.new.self.shapes c.in-Some-4.followed.lines.lines on) in
-    rw (← c.touched.view_is) (bounded _ _ _ _ _ tests few then_few)
+    let own =
+    own_few library old last _ c.args.kept _ _ c.told_nets_are_exchanged.ensures c.one_entry_tells.ensures c.same_lines_sort_alike.ensures c.short_is_symmetric.ensures t f both.0 fits then_told named in
+    let then_own =
+    then_own_few library old last _ c.args.kept _ _ c.told_nets_are_exchanged.ensures c.one_entry_tells.ensures c.same_lines_sort_alike.ensures c.short_is_symmetric.ensures t f both.0 fits then_told named in
+    let gone = rw (c.deref-4.ensures.value) at c.tests_told.ensures in
+    let come = rw (c.deref-5.ensures.value) at c.tests_told-2.ensures in
+    let come_few = rw (c.in-Some-2.is) at c.in_ok-after.ensures.few in
+    let start = told_few _ _ _ _ _ _ _ counted gone come t.few come_few in
+    rw (← c.touched.view_is) (twice _ _ _ _ _ _ _ _ tests start p.few then_few own then_own)
+
+-- (where memory is refused, nothing is said)
+pub returns-in_err-after-clause-lines : goal.returns-in_err-after-clause-lines
+returns-in_err-after-clause-lines g c = λ old exchanges touched followed. IfOk-from_err c.from_residual-in_err-after.result _ c.from_residual-in_err-after.ensures.0
+
+pub returns-in_err-after-clause-tests : goal.returns-in_err-after-clause-tests
+returns-in_err-after-clause-tests g c = λ old exchanges touched followed. IfOk-from_err c.from_residual-in_err-after.result _ c.from_residual-in_err-after.ensures.0
+
+pub returns-in_err-all-clause-lines : goal.returns-in_err-all-clause-lines
+returns-in_err-all-clause-lines g c = λ old exchanges touched followed. IfOk-from_err c.from_residual-in_err-all.result _ c.from_residual-in_err-all.ensures.0
+
+pub returns-in_err-all-clause-tests : goal.returns-in_err-all-clause-tests
+returns-in_err-all-clause-tests g c = λ old exchanges touched followed. IfOk-from_err c.from_residual-in_err-all.result _ c.from_residual-in_err-all.ensures.0
+
+pub returns-in_err-followed-clause-lines : goal.returns-in_err-followed-clause-lines
+returns-in_err-followed-clause-lines g c = λ old exchanges touched followed. IfOk-from_err c.from_residual-in_err-followed.result _ c.from_residual-in_err-followed.ensures.0
+
+pub returns-in_err-followed-clause-tests : goal.returns-in_err-followed-clause-tests
+returns-in_err-followed-clause-tests g c = λ old exchanges touched followed. IfOk-from_err c.from_residual-in_err-followed.result _ c.from_residual-in_err-followed.ensures.0

@@ -19,5 +19,6 @@ returns-clause-touched g c =
       lists = c.requires.lists;
       told = told_alike library (map barrier_view c.deref-2.result.now) bars same design (map told_view c.in-Some.before.items) (rw (c.in-Some.is) at c.in_ok-before.ensures.told);
       named = rw (c.in-Some.is) at c.in_ok-before.ensures.named ∙ c.deref-3.ensures.value;
+      few = rw (c.in-Some.is) at c.in_ok-before.ensures.few;
       pins = c.requires.pins;
     }
