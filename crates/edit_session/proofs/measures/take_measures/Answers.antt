@@ -18,4 +18,4 @@ kept_or_made-requires-clause-made g c =
 pub returns-clause-known : goal.returns-clause-known
 returns-clause-known g c = λ design reads.
     let known = c.requires.known design reads in
-    record { statements = known.statements; places = known.places; nets = known.nets; measures = ? }
+    record { statements = known.statements; places = known.places; nets = known.nets; measures = rw (c.take-made.ensures.after) tt }

@@ -5,13 +5,5 @@ returns-clause-known g c = λ library design drawn known. record {
   statements = known.statements;
   places = known.places;
   nets = c.in_ok-on_nets.ensures library design drawn.nets;
-  measures = c.in_ok-into_measures.ensures library design drawn;
-}
-
-pub returns-in_err-into_measures-clause-known : goal.returns-in_err-into_measures-clause-known
-returns-in_err-into_measures-clause-known g c = λ library design drawn known. record {
-  statements = known.statements;
-  places = known.places;
-  nets = c.in_ok-on_nets.ensures library design drawn.nets;
-  measures = known.measures;
+  measures = c.in_ok-known.ensures library design drawn;
 }
