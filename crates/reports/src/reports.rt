@@ -35,13 +35,25 @@ use std::marker::Model;
 const MOST_LAYERS: usize = usize::MAX / 2;
 
 /// The lengths of all nets and the boxes round them, and how dense the cells of the grid are, of one design.
-#[derive(Drop)]
 pub struct Reports<A: Allocator = Global> {
     layers: usize,
     nets: NetTable<A>,
     total: u64,
     cells: CellDensities<A>,
     place_cells: CellDensities<A>,
+}
+
+// (written out, so that who owns this is proved over one call)
+impl<A: Allocator> Drop for Reports<A> {
+    fn drop(self) {
+        let Reports {
+            layers: _,
+            nets: _,
+            total: _,
+            cells: _,
+            place_cells: _,
+        } = self;
+    }
 }
 
 impl<A: Allocator> Model for Reports<A> {
