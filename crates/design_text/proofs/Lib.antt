@@ -1,4 +1,5 @@
 mod AnyOrder
+pub mod ChunkWalks
 mod EntriesOnce
 mod EntryLists
 mod EntryPlaces

@@ -1,9 +1,10 @@
 //! The statements of the text of a design.
 
-ghost use Rattle.std.specs.Prelude.{◌≡◌, IfOk, Ok, map};
+ghost use Rattle.std.specs.Prelude.{◌≡◌, IfOk, Ok, length, map};
 ghost use Rattle.std.specs.Option.{option_map};
 ghost use Rattle.def_grammar.specs.Records.{read_def};
 ghost use Rattle.def_reader.specs.StatementViews.{record_view};
+ghost use Rattle.text_pieces.specs.Chunks.{ids_at};
 ghost use Rattle.text_pieces.specs.KeptRecords.{AreKept, HavePieces, record_of, records_under};
 ghost use Rattle.text_pieces.specs.Tables.{kept_at};
 ghost use Rattle.design_tables.specs.TableViews.{numbered_view};
@@ -64,6 +65,24 @@ impl<A: Allocator + Copy> DesignText<A> {
         self.pieces.statements_are_kept();
         let ids = self.pieces.numbers(alloc)?;
         numbered(alloc, &self.pieces, &ids)
+    }
+
+    /// In how many chunks the numbers of the statements stand.
+    pub fn chunks(&self) -> usize
+        ensures { result ≡ length self.now.pieces.table.chunks }
+    {
+        let _ = &self.tables;
+        self.pieces.chunks()
+    }
+
+    /// The numbers in a chunk, in the order of the text; none where there is no such chunk. By chunks all statements can be gone over without
+    /// all of them being held.
+    pub fn chunk(&self, place: usize) -> &[StmtId]
+        ensures numbers { result.now ≡ ids_at self.now.pieces.table.chunks place }
+        ensures pieces { HavePieces self.now.pieces.table.slots result.now }
+    {
+        let _ = &self.tables;
+        self.pieces.chunk(place)
     }
 
     /// A law: the statements of the text are kept under their numbers, and say what the text reads as.

@@ -19,13 +19,6 @@ use Rattle.edit_session.specs.declared.drawn_nets.DrawnNets.{DrawnNets}
 abbrev Lines : Type 0
 Lines = List (List ℕ)
 
-module _ (old : Lines) where
-  -- two parts, and a third in whatever order
-  pub parts_and_more : (l1 l2 l3 a b d all : Lines) → l1 ≡ old ++ a → l2 ≡ l1 ++ b → SameLines l3 (l2 ++ d) → SameLines (((old ++ a) ++ b) ++ d) all → SameLines l3 all
-  parts_and_more l1 l2 l3 a b d all h1 h2 more same = record {
-    often = λ q. more.often q ∙ ap (λ (l : Lines). times q (l ++ d)) (h2 ∙ ap (λ (l : Lines). l ++ b) h1) ∙ same.often q;
-  }
-
 -- the sorted lines have each line as often
 pub sorted_same : SortingIsByLines → (q : List ℕ) (lines : Lines) → times q (sorted_by_bytes lines) ≡ times q lines
 sorted_same law q lines = sum_by-IsPermutation (λ x. cond (bytes_eq q x) 1 0) lines (sorted_by_bytes lines) (law.0 lines).same

@@ -11,7 +11,7 @@ ghost use Rattle.design_rules.specs.OverlapLines.{overlap_lines};
 ghost use Rattle.design_rules.specs.PlaceLines.{place_lines};
 ghost use Rattle.line_laws.specs.Lines.{SameLines};
 ghost use Rattle.staying_laws.specs.Staying.{lines_on_places, lines_on_statements};
-ghost use Rattle.design_text.specs.DesignTexts.{text_of};
+ghost use Rattle.design_text.specs.DesignTexts.{design_of, text_of};
 ghost use Rattle.net_checks.specs.Drawings.{IsDrawingOf};
 ghost use Rattle.std.specs.List.{All};
 ghost use Rattle.design_model.specs.Ranges.{IsWithin};
@@ -29,23 +29,20 @@ use design_text::text::DesignText;
 use entry_checks::known::Defined;
 use entry_checks::statement_lines::StatementChecks;
 use entry_checks::unchecked::unchecked_in_library;
-use followed_statements::put_statement;
+use followed_places::lines_on_places;
+use followed_statements::{lines_on_statements, put_statement};
 use kept_lines::KeptLines;
-use line_laws::one::components_in_any_order;
-use line_laws::same::{maps_are_same, permutations_are_same};
 use line_laws::scales::scales_are_good;
 use line_laws::sorting::same_lines_sort_alike;
 use measure_laws::lengths::lengths_fit;
 use measure_laws::ranges::lines_fit;
 use net_checks::NetDrawing;
-use place_checks::blocked::blocked_of;
-use place_checks::boxes::boxes_of;
+use place_checks::between::put_lines_between;
 use place_checks::count::counts_of;
 use place_checks::keep_outs::keep_outs_of;
-use place_checks::overlap::overlaps_of;
-use place_checks::place_lines::lines_of;
-use place_checks::placed_box::PlacedBox;
-use place_checks::sweep::sort_boxes;
+use place_checks::place_lines::put_components;
+use place_checks::scale::scale_of;
+use place_checks::surroundings::surroundings_of;
 use report_lines::Lines;
 use std::alloc::{AllocError, Allocator};
 
@@ -79,17 +76,19 @@ fn put_places<'t, A: Allocator + Copy>(
     ensures { let design = map record_view records.entry.now in
         OnOk result (SameLines lines.new (lines.old ++ (overlap_lines library.now design ++ place_lines library.now design))) }
 {
-    let mut boxes = boxes_of(alloc, library, records)?;
-    sort_boxes(&mut boxes);
-    overlaps_of(&boxes, lines)?;
-    lines_of(alloc, library, records, &boxes, lines)?;
+    let surroundings = surroundings_of(alloc, library, records)?;
     let keep_outs = keep_outs_of(alloc, records)?;
-    blocked_of(&boxes, &keep_outs, lines)?;
-    // The order of the components makes no difference to the lines.
-    permutations_are_same::<PlacedBox<'t>>();
-    maps_are_same::<PlacedBox<'t>>();
-    components_in_any_order();
-    Ok(())
+    let mut boxes = Vec::new(alloc);
+    put_components(
+        alloc,
+        library,
+        scale_of(records),
+        &surroundings,
+        records,
+        &mut boxes,
+        lines,
+    )?;
+    put_lines_between(&mut boxes, &keep_outs, lines)
 }
 
 /// The lines on components.
@@ -185,6 +184,52 @@ fn know_statements<'l, 't, A: Allocator + Copy>(
     Ok(Some(drawn))
 }
 
+/// The lines on the headers and the statements of a text and on its library, few statements at a time.
+fn on_statements_of<A: Allocator + Copy>(
+    alloc: A,
+    library: &Library<'_, A>,
+    text: &DesignText<A>,
+) -> Result<KeptLines<A>, AllocError>
+    ensures { IfOk result (AreKept (lines_on_statements library.now (design_of text.now))) }
+{
+    same_lines_sort_alike();
+    Ok(KeptLines::of(lines_on_statements(alloc, library, text)?))
+}
+
+/// The lines on the components of a text, few statements at a time.
+fn on_places_of<A: Allocator + Copy>(
+    alloc: A,
+    library: &Library<'_, A>,
+    text: &DesignText<A>,
+) -> Result<KeptLines<A>, AllocError>
+    ensures { IfOk result (AreKept (lines_on_places library.now (design_of text.now))) }
+{
+    same_lines_sort_alike();
+    Ok(KeptLines::of(lines_on_places(alloc, library, text)?))
+}
+
+/// Makes the lines on statements and on components known, where those on nets are. All statements are never held at once.
+fn know_by_few<A: Allocator + Copy>(
+    alloc: A,
+    library: &Library<'_, A>,
+    text: &DesignText<A>,
+    known: &mut KnownLines<A>,
+) -> Result<(), AllocError>
+    requires known { AreKnownOf library.now (text_of text.now) known.old }
+    requires nets { IsSome known.old.nets }
+    ensures known { AreKnownOf library.now (text_of text.now) known.new }
+    ensures all { OnOk result (AllKnown known.new) }
+{
+    text.design_is_read();
+    if known.statements.is_none() {
+        known.statements = Some(on_statements_of(alloc, library, text)?);
+    }
+    if known.places.is_none() {
+        known.places = Some(on_places_of(alloc, library, text)?);
+    }
+    Ok(())
+}
+
 /// Makes all lines known but those on nets, and gives what is drawn of them, unless the lines on them are known too. Each statement is
 /// read once, from its piece, and none is kept.
 fn know_all_but_nets<'l, 't, A: Allocator + Copy>(
@@ -239,6 +284,9 @@ pub(crate) fn know_lines<A: Allocator + Copy>(
     know_no_nets(alloc, text, known);
     if known.are_all() {
         return Ok(());
+    }
+    if known.nets.is_some() {
+        return know_by_few(alloc, library, text, known);
     }
     if let Some(drawn) = know_all_but_nets(alloc, library, text, is_measured, known)? {
         know_nets(alloc, drawn, known)?;

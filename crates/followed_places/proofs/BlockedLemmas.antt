@@ -1,11 +1,10 @@
 -- The lines on rectangles with the components whose boxes meet them are those with all.
 use Rattle.std.proofs.Common.{◌≡◌, ◌≤◌, ◌<◌, ◌+◌, ℕ, Bool, true, false, cond, List, [], ◌∷◌, ◌++◌, length, get_or, drop, drop-cons, add-one, refl, sym, ap, subst, ◌∙◌, arith, map, sum_by, filter, ⊎_elim}
-use Rattle.std.specs.Prelude.{IsPermutation, ◌&&◌}
+use Rattle.std.specs.Prelude.{◌&&◌}
 use Rattle.std.specs.Int.Signed.{le_z}
 use Rattle.std.specs.List.{flat_map}
 use Rattle.std.proofs.lemmas.Bool.{and_from, and_parts, both_ways, cases_Bool as cases}
 use Rattle.std.proofs.lemmas.List.{append-nil, drop_all}
-use Rattle.std.proofs.lemmas.List.Sorted.{IsPermutation-map, sum_by-IsPermutation}
 use Rattle.std.proofs.lemmas.List.Sums.{sum_by-cons}
 use Rattle.design_model.specs.Families.{cross_lines}
 use Rattle.design_model.specs.Geometry.{Rectangle, overlap}
@@ -24,10 +23,6 @@ use Rattle.statement_boxes.specs.Boxes.{near_count}
 use Rattle.followed_places.specs.Tests.{near_rectangles}
 use Rattle.followed_places.proofs.MetLemmas.{sum_by-filter}
 use Rattle.followed_places.proofs.OthersMet.{overlap_meets}
-
--- boxes in another order
-pub sorted_same : (old new : List PlacedBox) (those : List Boxed) → IsPermutation old new → SameThings (map boxed_view old) those → SameThings (map boxed_view new) those
-sorted_same old new those moved same = record { sums = λ w. sum_by-IsPermutation w (map boxed_view old) (map boxed_view new) (IsPermutation-map boxed_view old new moved) ∙ same.sums w }
 
 -- what shares area shares a point
 meets_back : (a b : Rectangle) → meets b a ≡ true → meets a b ≡ true
@@ -51,16 +46,12 @@ only_met q r b = ⊎_elim
     ap (λ (m : Bool). cond m (times q (blocked_of b r)) 0) f ∙ sym none)
     (cases (meets b.box r))
 
-one_alone : (q : List ℕ) (r : Rectangle) (b : Boxed) → times q (flat_map (blocked_of b) (r ∷ [])) ≡ times q (blocked_of b r)
-one_alone q r b = ap (times q) (append-nil (blocked_of b r))
-
 -- with those that meet it
 met_lines : (q : List ℕ) (r : Rectangle) (stay met : List Boxed) → SameThings met (filter (λ b. meets b.box r) stay)
-    → times q (cross_lines blocked_of met (r ∷ [])) ≡ times q (flat_map (λ b. blocked_of b r) stay)
+    → times q (flat_map (λ b. blocked_of b r) met) ≡ times q (flat_map (λ b. blocked_of b r) stay)
 met_lines q r stay met those =
     let v : Boxed → ℕ = λ b. times q (blocked_of b r) in
-    times-flat_map q (λ (b : Boxed). flat_map (blocked_of b) (r ∷ [])) met
-    ∙ sum_by-same (λ (b : Boxed). times q (flat_map (blocked_of b) (r ∷ []))) v (λ b. one_alone q r b) met
+    times-flat_map q (λ (b : Boxed). blocked_of b r) met
     ∙ those.sums v
     ∙ sum_by-filter v (λ (b : Boxed). meets b.box r) stay
     ∙ sum_by-same (λ (b : Boxed). cond (meets b.box r) (v b) 0) v (λ b. only_met q r b) stay
@@ -71,19 +62,19 @@ abbrev pub turned : List Rectangle → List Boxed → List (List ℕ)
 turned rects stay = cross_lines (λ (r : Rectangle) (b : Boxed). blocked_of b r) rects stay
 
 one_more : (stay met : List Boxed) (r : Rectangle) (rest : List Rectangle) (old new all : List (List ℕ)) → SameThings met (filter (λ b. meets b.box r) stay)
-    → SameLines new (old ++ cross_lines blocked_of met (r ∷ [])) → SameLines (old ++ turned (r ∷ rest) stay) all → SameLines (new ++ turned rest stay) all
+    → new ≡ old ++ flat_map (λ b. blocked_of b r) met → SameLines (old ++ turned (r ∷ rest) stay) all → SameLines (new ++ turned rest stay) all
 one_more stay met r rest old new all those is so_far = record {
   often = λ q.
       let here = flat_map (λ (b : Boxed). blocked_of b r) stay in
       let a = so_far.often q in
-      let b = is.often q in
+      let b = ap (times q) is in
       let c = met_lines q r stay met those in
       omega (
         arith,
         a,
         b,
         c,
-        times-append q old (cross_lines blocked_of met (r ∷ [])),
+        times-append q old (flat_map (λ (b : Boxed). blocked_of b r) met),
         times-append q old (turned (r ∷ rest) stay),
         times-append q here (turned rest stay),
         times-append q new (turned rest stay),
@@ -94,12 +85,11 @@ left_from : (rects : List Rect) (i : ℕ) (x : Rect) → i < length rects → x 
 left_from rects i x below is = rw (add-one, drop-cons rects i x, ← is) refl
 
 -- one rectangle more
-pub one_of_rectangles : (stay : List Boxed) (met sorted : List PlacedBox) (rects : List Rect) (i : ℕ) (x : Rect) (old new all : List (List ℕ)) → i < length rects → x ≡ get_or rects i x
-    → IsPermutation met sorted → SameThings (map boxed_view met) (filter (λ b. meets b.box (rectangle_of x)) stay)
-    → SameLines new (old ++ cross_lines blocked_of (map boxed_view sorted) (rectangle_of x ∷ []))
+pub one_of_rectangles : (stay : List Boxed) (met : List PlacedBox) (rects : List Rect) (i : ℕ) (x : Rect) (old new all : List (List ℕ)) → i < length rects → x ≡ get_or rects i x
+    → SameThings (map boxed_view met) (filter (λ b. meets b.box (rectangle_of x)) stay) → new ≡ old ++ flat_map (λ b. blocked_of b (rectangle_of x)) (map boxed_view met)
     → SameLines (old ++ turned (map rectangle_of (drop i rects)) stay) all → SameLines (new ++ turned (map rectangle_of (drop (i + 1) rects)) stay) all
-one_of_rectangles stay met sorted rects i x old new all below is moved those added so_far =
-    one_more stay (map boxed_view sorted) (rectangle_of x) (map rectangle_of (drop (i + 1) rects)) old new all (sorted_same met sorted _ moved those) added
+one_of_rectangles stay met rects i x old new all below is those added so_far =
+    one_more stay (map boxed_view met) (rectangle_of x) (map rectangle_of (drop (i + 1) rects)) old new all those added
     (subst (λ (rs : List Rect). SameLines (old ++ turned (map rectangle_of rs) stay) all) (left_from rects i x below is) so_far)
 
 -- behind the last

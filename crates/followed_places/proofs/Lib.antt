@@ -1,3 +1,4 @@
+mod AnewLemmas
 mod BlockedLemmas
 mod ComponentLemmas
 mod ExchangeLemmas

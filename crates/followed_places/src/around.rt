@@ -1,6 +1,6 @@
 //! What stands round components (LEF/DEF 5.8 Language Reference, "Rows", "Die Area", "Regions", "Groups" and "Blockages").
 
-ghost use Rattle.std.specs.Prelude.{◌≡◌, ◌<◌, ◌≤◌, IfOk, filter, map};
+ghost use Rattle.std.specs.Prelude.{◌≡◌, ◌<◌, ◌≤◌, ◌++◌, IfOk, OnOk, filter, map};
 ghost use Rattle.std.specs.List.{list_any};
 ghost use Rattle.design_model.specs.Views.{rectangle_of};
 ghost use Rattle.def_reader.specs.StatementViews.{record_view, records_view};
@@ -112,7 +112,22 @@ impl<A: Allocator + Copy> KeptAround<A> {
     }
 }
 
-/// The numbers of those of these statements that tell what stands round components and what keeps them out, in their order.
+/// Puts the numbers of those of these statements that tell what stands round components and what keeps them out behind others, in their order.
+pub(crate) fn push_numbers_around<A: Allocator>(
+    statements: &[Numbered<'_>],
+    numbers: &mut Vec<StmtId, A>,
+) -> Result<(), AllocError>
+    ensures { OnOk result (numbers.new.items ≡ numbers.old.items ++ map (λ x. x.0) (filter (λ x. surrounds_or_blocks x.1) (map numbered_view statements.now))) }
+{
+    for numbered in statements {
+        if surrounds_or_blocks(&numbered.statement) {
+            numbers.push(numbered.id)?;
+        }
+    }
+    Ok(())
+}
+
+/// These numbers by themselves.
 pub(crate) fn numbers_around<A: Allocator + Copy>(
     alloc: A,
     statements: &[Numbered<'_>],
@@ -120,10 +135,6 @@ pub(crate) fn numbers_around<A: Allocator + Copy>(
     ensures { IfOk result (λ v. v.items ≡ map (λ x. x.0) (filter (λ x. surrounds_or_blocks x.1) (map numbered_view statements.now))) }
 {
     let mut numbers = Vec::new(alloc);
-    for numbered in statements {
-        if surrounds_or_blocks(&numbered.statement) {
-            numbers.push(numbered.id)?;
-        }
-    }
+    push_numbers_around(statements, &mut numbers)?;
     Ok(numbers)
 }

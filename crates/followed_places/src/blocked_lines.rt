@@ -14,8 +14,7 @@ use cell_library::library::Library;
 use design_model::geometry::Rect;
 use design_text::text::DesignText;
 use line_laws::each::crosses_turn;
-use place_checks::blocked::blocked_of;
-use place_checks::sweep::sort_boxes;
+use place_checks::blocked::put_blockage;
 use report_lines::{Checked, Lines};
 use statement_boxes::StatementBoxes;
 use std::alloc::{AllocError, Allocator};
@@ -43,9 +42,7 @@ pub(crate) fn blocked_near<'t, A: Allocator + Copy>(
     for rect in rects {
         let found = met(alloc, library, scale, text, boxes, *rect)?;
         tests = tests.saturating_add(found.compared);
-        let mut components = found.components;
-        sort_boxes(&mut components);
-        blocked_of(&components, &[*rect], &mut lines)?;
+        put_blockage(&found.components, rect, &mut lines)?;
     }
     Ok(Checked { lines, tests })
 }

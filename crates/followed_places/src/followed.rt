@@ -94,7 +94,7 @@ struct ChangedKeepOuts<'c> {
 }
 
 /// A law: the database units per micron of a text are as many as a text may have.
-fn units_are_good<A: Allocator + Copy>(text: &DesignText<A>)
+pub(crate) fn units_are_good<A: Allocator + Copy>(text: &DesignText<A>)
     ensures some { 0 < scale (said (records_in text.now)) }
     ensures few { scale (said (records_in text.now)) ≤ 100000 }
 {

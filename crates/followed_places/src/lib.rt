@@ -6,6 +6,7 @@
 //! kept the lines on their components, with those components alone whose boxes meet theirs; or where they have no components, the lines on
 //! the rectangles where they keep components out, with those alone whose boxes meet these. It reads these statements, and no others.
 //! It counts the boxes that it compares: no more than the `near_pairs` of `specs/Tests`, before the exchange and after it.
+//! `lines_on_places` makes the lines anew from a text, chunk by chunk.
 //!
 //! What is noted is `HasPlaces` of `specs/Places`, and with the kept lines `AreFollowed`. Statements are asked of
 //! `design_text` by their numbers, lines are those of `place_checks`, and that they follow is a law of `staying_laws`.
@@ -13,6 +14,7 @@
 //! Nothing is lent. The one error is `AllocError`: what is noted, and the kept lines, are then to be made anew.
 #![tactic(auto)]
 
+mod anew;
 mod around;
 mod blocked_lines;
 mod components;
@@ -20,4 +22,5 @@ mod followed;
 mod keep_outs;
 mod own_lines;
 
+pub use anew::lines_on_places;
 pub use followed::{FollowedOnPlaces, FollowedPlaces};

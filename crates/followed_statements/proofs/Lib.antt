@@ -1,3 +1,4 @@
+mod AnewLemmas
 mod CountLemmas
 mod ExchangeLemmas
 mod LineLemmas

@@ -6,7 +6,7 @@
 //! one out, or gives a component another macro, `tell_statements` tells the lines on headers, and on the entries of nets that list that
 //! component, before it; the lines follow then if what others see is the same but for the components of its name (`specs/Seen`). What a statement names is looked up in the tables of the text.
 //! `leaves_places` tells of an edit that it exchanged nothing that lines on components hang on. `put_statement` gives the lines on one
-//! statement, by any look-ups. The one error is `AllocError`.
+//! statement, by any look-ups, and `lines_on_statements` all of them anew, chunk by chunk. The one error is `AllocError`.
 #![tactic(auto)]
 
 mod counts;
@@ -20,6 +20,6 @@ mod showing;
 mod telling;
 
 pub use following::follow_statements;
-pub use lines::put_statement;
+pub use lines::{lines_on_statements, put_statement};
 pub use places::leaves_places;
 pub use telling::{ToldStatements, tell_statements};

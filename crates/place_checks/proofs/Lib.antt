@@ -1,3 +1,4 @@
+pub mod BetweenLemmas
 pub mod BoxLemmas
 pub mod CountLemmas
 pub mod FitLemmas

@@ -14,34 +14,34 @@ use Rattle.std.proofs.lemmas.List.Elements.{All-filter, filter_passes}
 use Rattle.std.proofs.lemmas.List.Kept.{IsSortedBy-filter}
 use Rattle.std.proofs.lemmas.List.Sorted.{ranks_by, sorted_far}
 use Rattle.design_model.specs.declared.geometry.Rect.{Rect}
-use Rattle.place_checks.specs.declared.placed_box.PlacedBox.{PlacedBox}
+use Rattle.place_checks.specs.declared.swept_box.SweptBox.{SweptBox}
 use Rattle.place_checks.specs.Sweep.{FromLeft, InSweepOrder, sweep_cmp}
 
 pub sweep_cmp_total : IsTotalOrder sweep_cmp
 sweep_cmp_total = then_total (on_total (λ (r : Rect). r.y1) int_cmp_total) (on_total (λ (r : Rect). r.x1) int_cmp_total)
 
-pub is_order : IsStrictWeakOrder (λ (a b : PlacedBox). is_lt (sweep_cmp a.rect b.rect))
-is_order = ranks_by sweep_cmp_total (λ (b : PlacedBox). b.rect)
+pub is_order : IsStrictWeakOrder (λ (a b : SweptBox). is_lt (sweep_cmp a.rect b.rect))
+is_order = ranks_by sweep_cmp_total (λ (b : SweptBox). b.rect)
 
 -- a test that a box passes wherever one does that doesn't come before it
-abbrev pub Follows : (PlacedBox → Bool) → Type 0
-Follows p = (a b : PlacedBox) → is_lt (sweep_cmp b.rect a.rect) ≡ false → p b ≡ true → p a ≡ true
+abbrev pub Follows : (SweptBox → Bool) → Type 0
+Follows p = (a b : SweptBox) → is_lt (sweep_cmp b.rect a.rect) ≡ false → p b ≡ true → p a ≡ true
 
-pub parted : (p : PlacedBox → Bool) → Follows p → (xs : List PlacedBox) → InSweepOrder xs → IsPartitionedBy p xs
+pub parted : (p : SweptBox → Bool) → Follows p → (xs : List SweptBox) → InSweepOrder xs → IsPartitionedBy p xs
 parted p follows xs s i j d low high pass = follows (get_or xs i d) (get_or xs j d) (sorted_far _ is_order xs s.rises i j d low high) pass
 
-pub sorted_filter : (p : PlacedBox → Bool) (xs : List PlacedBox) → InSweepOrder xs → InSweepOrder (filter p xs)
+pub sorted_filter : (p : SweptBox → Bool) (xs : List SweptBox) → InSweepOrder xs → InSweepOrder (filter p xs)
 sorted_filter p xs s = record { rises = IsSortedBy-filter _ is_order p xs s.rises }
 
 -- all of a list pass, or none does
-all_pass : (p : PlacedBox → Bool) (xs : List PlacedBox) → AllWithin (λ y. p y ≡ true) xs 0 (length xs) → filter p xs ≡ xs
+all_pass : (p : SweptBox → Bool) (xs : List SweptBox) → AllWithin (λ y. p y ≡ true) xs 0 (length xs) → filter p xs ≡ xs
 all_pass p [] h = refl
 all_pass p (x ∷ xs) h =
     let rest = all_pass p xs (λ k d low high. h (suc k) d (omega arith) (omega arith)) in
     let here : p x ≡ true = h 0 x (omega arith) (omega arith) in
     rw (here, rest) refl
 
-none_pass : (p : PlacedBox → Bool) (xs : List PlacedBox) → AllWithin (λ y. p y ≡ false) xs 0 (length xs) → filter p xs ≡ []
+none_pass : (p : SweptBox → Bool) (xs : List SweptBox) → AllWithin (λ y. p y ≡ false) xs 0 (length xs) → filter p xs ≡ []
 none_pass p [] h = refl
 none_pass p (x ∷ xs) h =
     let rest = none_pass p xs (λ k d low high. h (suc k) d (omega arith) (omega arith)) in
@@ -49,17 +49,17 @@ none_pass p (x ∷ xs) h =
     rw (here, rest) refl
 
 -- those before the point are those that pass
-pub passing : (p : PlacedBox → Bool) (xs : List PlacedBox) (n : ℕ) → IsPartitionPoint (λ y. p y ≡ true) (λ y. p y ≡ false) xs n → take n xs ≡ filter p xs
+pub passing : (p : SweptBox → Bool) (xs : List SweptBox) (n : ℕ) → IsPartitionPoint (λ y. p y ≡ true) (λ y. p y ≡ false) xs n → take n xs ≡ filter p xs
 passing p [] zero h = refl
 passing p [] (suc n) h = refl
 passing p (x ∷ xs) zero h = sym (none_pass p (x ∷ xs) h.1)
 passing p (x ∷ xs) (suc n) h =
     let here : p x ≡ true = h.0 0 x (omega arith) (omega arith) in
     let rest = passing p xs n (λ k d low high. h.0 (suc k) d (omega arith) (omega arith), λ k d low high. h.1 (suc k) d (omega arith) (omega arith)) in
-    rw here (ap (λ (ys : List PlacedBox). x ∷ ys) rest)
+    rw here (ap (λ (ys : List SweptBox). x ∷ ys) rest)
 
 -- and those from it on are the others
-pub others : (p q : PlacedBox → Bool) → ((x : PlacedBox) → q x ≡ not (p x)) → (xs : List PlacedBox) (n : ℕ) → IsPartitionPoint (λ y. p y ≡ true) (λ y. p y ≡ false) xs n
+pub others : (p q : SweptBox → Bool) → ((x : SweptBox) → q x ≡ not (p x)) → (xs : List SweptBox) (n : ℕ) → IsPartitionPoint (λ y. p y ≡ true) (λ y. p y ≡ false) xs n
     → drop n xs ≡ filter q xs
 others p q not_p [] zero h = refl
 others p q not_p [] (suc n) h = refl
@@ -133,31 +133,31 @@ follows_up_to h a b e pass =
     let below = up_to_of b.rect.y1 h pass in
     up_to_test a.rect.y1 h (omega (arith, ints))
 
-pub taken : (h : ℤ) (xs : List PlacedBox) (n : ℕ) → IsPartitionPoint (λ (b : PlacedBox). int_lt b.rect.y1 h ≡ true) (λ b. int_lt b.rect.y1 h ≡ false) xs n
+pub taken : (h : ℤ) (xs : List SweptBox) (n : ℕ) → IsPartitionPoint (λ (b : SweptBox). int_lt b.rect.y1 h ≡ true) (λ b. int_lt b.rect.y1 h ≡ false) xs n
     → take n xs ≡ filter (λ b. int_lt b.rect.y1 h) xs
 taken h xs n p = passing (λ b. int_lt b.rect.y1 h) xs n p
 
-pub left_over : (h : ℤ) (xs : List PlacedBox) (n : ℕ) → IsPartitionPoint (λ (b : PlacedBox). le_z b.rect.y1 h ≡ true) (λ b. le_z b.rect.y1 h ≡ false) xs n
+pub left_over : (h : ℤ) (xs : List SweptBox) (n : ℕ) → IsPartitionPoint (λ (b : SweptBox). le_z b.rect.y1 h ≡ true) (λ b. le_z b.rect.y1 h ≡ false) xs n
     → drop n xs ≡ filter (λ b. int_lt h b.rect.y1) xs
 left_over h xs n p = others (λ b. le_z b.rect.y1 h) (λ b. int_lt h b.rect.y1) (λ b. above_is_not_up_to b.rect.y1 h) xs n p
 
-pub sorted_as : (p : PlacedBox → Bool) (xs ys : List PlacedBox) → InSweepOrder xs → ys ≡ filter p xs → InSweepOrder ys
+pub sorted_as : (p : SweptBox → Bool) (xs ys : List SweptBox) → InSweepOrder xs → ys ≡ filter p xs → InSweepOrder ys
 sorted_as p xs ys s is = rw is (sorted_filter p xs s)
 
 -- boxes with the lower edge of the first one of some go from left to right
-pub row_from_left : (first : PlacedBox) (behind left row : List PlacedBox) → InSweepOrder left → left ≡ first ∷ behind → row ≡ filter (λ b. le_z b.rect.y1 first.rect.y1) left → FromLeft row
+pub row_from_left : (first : SweptBox) (behind left row : List SweptBox) → InSweepOrder left → left ≡ first ∷ behind → row ≡ filter (λ b. le_z b.rect.y1 first.rect.y1) left → FromLeft row
 row_from_left first behind left row s split is =
-    let p : PlacedBox → Bool = λ b. le_z b.rect.y1 first.rect.y1 in
-    let high : All (λ (b : PlacedBox). first.rect.y1 ≤ℤ b.rect.y1) left = rw split (λ k d low. not_above first.rect (get_or (first ∷ behind) k d).rect (sorted_far _ is_order (first ∷ behind) (rw split at s).rises 0 k d (omega arith) low)) in
+    let p : SweptBox → Bool = λ b. le_z b.rect.y1 first.rect.y1 in
+    let high : All (λ (b : SweptBox). first.rect.y1 ≤ℤ b.rect.y1) left = rw split (λ k d low. not_above first.rect (get_or (first ∷ behind) k d).rect (sorted_far _ is_order (first ∷ behind) (rw split at s).rises 0 k d (omega arith) low)) in
     rw is (record {
       rises = λ i j d before within.
-          let up : first.rect.y1 ≤ℤ (get_or (filter p left) i d).rect.y1 = All-filter p (λ (b : PlacedBox). first.rect.y1 ≤ℤ b.rect.y1) left high i d (omega (arith, before, within)) in
+          let up : first.rect.y1 ≤ℤ (get_or (filter p left) i d).rect.y1 = All-filter p (λ (b : SweptBox). first.rect.y1 ≤ℤ b.rect.y1) left high i d (omega (arith, before, within)) in
           let down : (get_or (filter p left) j d).rect.y1 ≤ℤ first.rect.y1 = up_to_of (get_or (filter p left) j d).rect.y1 first.rect.y1 (filter_passes p left j d within) in
           not_right (get_or (filter p left) i d).rect (get_or (filter p left) j d).rect (sorted_far _ is_order (filter p left) (sorted_filter p left s).rises i j d (omega (arith, before)) within) (omega (arith, ints));
     })
 
 -- and so do those from one on
-pub drop_from_left : (i : ℕ) (row : List PlacedBox) → FromLeft row → FromLeft (drop i row)
+pub drop_from_left : (i : ℕ) (row : List SweptBox) → FromLeft row → FromLeft (drop i row)
 drop_from_left i row s = record {
   rises = λ j k d before within. rw (get_or-drop i row j d, get_or-drop i row k d) (s.rises (i + j) (i + k) d (omega (arith, before)) (omega (arith, within, length-drop i row)));
 }

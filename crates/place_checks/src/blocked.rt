@@ -6,9 +6,10 @@ ghost use Rattle.design_model.specs.Families.{cross_lines};
 ghost use Rattle.design_rules.specs.PlaceLines.{blocked_of};
 ghost use Rattle.line_laws.specs.Lines.{SameLines};
 ghost use Rattle.place_checks.specs.Sweep.{InSweepOrder};
-ghost use Rattle.place_checks.specs.Views.{boxed_view};
+ghost use Rattle.place_checks.specs.Views.{boxed_view, swept_view};
 
 use crate::placed_box::PlacedBox;
+use crate::swept_box::SweptBox;
 use crate::sweep::{begin_below, end_above, greatest_height};
 use design_model::diagnostic::DiagKind;
 use design_model::geometry::Rect;
@@ -19,11 +20,11 @@ use std::alloc::{AllocError, Allocator};
 
 /// Puts the line of a component that lies on a rectangle where placement is blocked.
 fn put_blocked<A: Allocator + Copy>(
-    component: &PlacedBox<'_>,
+    component: &SweptBox<'_>,
     rect: &Rect,
     lines: &mut Lines<A>,
 ) -> Result<(), AllocError>
-    ensures { OnOk result (lines.new ≡ lines.old ++ blocked_of (boxed_view component.now) (rectangle_of rect.now)) }
+    ensures { OnOk result (lines.new ≡ lines.old ++ blocked_of (swept_view component.now) (rectangle_of rect.now)) }
 {
     if !overlaps(&component.rect, rect) {
         return Ok(());
@@ -41,21 +42,35 @@ pub(crate) fn put_blocked_by<A: Allocator + Copy>(
     ensures { OnOk result (lines.new ≡ lines.old ++ flat_map (blocked_of (boxed_view component.now)) (map rectangle_of keep_outs.now)) }
 {
     for rect in keep_outs {
-        put_blocked(component, rect, lines)?;
+        put_blocked(&component.swept(), rect, lines)?;
     }
     Ok(())
 }
 
-/// Puts a line for each of the boxes that lies on a rectangle where placement is blocked, in their order, whatever it is.
-pub(crate) fn put_all_blocked<A: Allocator + Copy>(
-    boxes: &[PlacedBox<'_>],
+/// Puts a line for each of some components that lies on a rectangle where placement is blocked, in their order.
+pub fn put_blockage<A: Allocator + Copy>(
+    components: &[PlacedBox<'_>],
     rect: &Rect,
     lines: &mut Lines<A>,
 ) -> Result<(), AllocError>
-    ensures { OnOk result (lines.new ≡ lines.old ++ flat_map (λ c. blocked_of c (rectangle_of rect.now)) (map boxed_view boxes.now)) }
+    ensures { OnOk result (lines.new ≡ lines.old ++ flat_map (λ c. blocked_of c (rectangle_of rect.now)) (map boxed_view components.now)) }
 {
-    for placed in boxes {
-        put_blocked(placed, rect, lines)?;
+    for component in components {
+        put_blocked(&component.swept(), rect, lines)?;
+    }
+    Ok(())
+}
+
+/// The same of boxes in a sweep.
+fn put_all_blocked<A: Allocator + Copy>(
+    boxes: &[SweptBox<'_>],
+    rect: &Rect,
+    lines: &mut Lines<A>,
+) -> Result<(), AllocError>
+    ensures { OnOk result (lines.new ≡ lines.old ++ flat_map (λ c. blocked_of c (rectangle_of rect.now)) (map swept_view boxes.now)) }
+{
+    for swept in boxes {
+        put_blocked(swept, rect, lines)?;
     }
     Ok(())
 }
@@ -64,13 +79,13 @@ pub(crate) fn put_all_blocked<A: Allocator + Copy>(
 ///
 /// A rectangle is compared with those boxes alone that begin below its upper edge, and less than the height of the
 /// tallest below its lower edge.
-pub fn blocked_of<A: Allocator + Copy>(
-    boxes: &[PlacedBox<'_>],
+pub(crate) fn blocked_of<A: Allocator + Copy>(
+    boxes: &[SweptBox<'_>],
     keep_outs: &[Rect],
     lines: &mut Lines<A>,
 ) -> Result<(), AllocError>
     requires { InSweepOrder boxes.now }
-    ensures { OnOk result (SameLines lines.new (lines.old ++ cross_lines blocked_of (map boxed_view boxes.now) (map rectangle_of keep_outs.now))) }
+    ensures { OnOk result (SameLines lines.new (lines.old ++ cross_lines blocked_of (map swept_view boxes.now) (map rectangle_of keep_outs.now))) }
 {
     let tallest = greatest_height(boxes);
     for rect in keep_outs {

@@ -5,7 +5,7 @@ ghost use Rattle.std.specs.List.{filter_map};
 ghost use Rattle.std.specs.Option.{option_map};
 ghost use Rattle.def_grammar.specs.Parts.{Coordinates};
 ghost use Rattle.lef_grammar.specs.Library.{Macro};
-ghost use Rattle.design_rules.specs.Boxes.{box_at, box_of, boxes, component_box, scale};
+ghost use Rattle.design_rules.specs.Boxes.{box_at, box_of, component_box};
 ghost use Rattle.def_reader.specs.StatementViews.{record_view, records_view};
 ghost use Rattle.place_parts.specs.ComponentViews.{component_view};
 ghost use Rattle.place_checks.specs.Corners.{IsSpotAt};
@@ -16,7 +16,6 @@ use crate::corners::corner_of;
 use crate::last_macros::LastMacros;
 use crate::outline::Outline;
 use crate::placed_box::PlacedBox;
-use crate::scale::scale_of;
 use cell_library::library::Library;
 use def_reader::entry::Entry;
 use def_reader::statement::Statement;
@@ -105,17 +104,4 @@ pub fn boxes_among<'t, A: Allocator + Copy>(
         boxes.push(placed)?;
     }
     Ok(boxes)
-}
-
-/// The boxes of all components that take part, in the order of the text.
-pub fn boxes_of<'t, A: Allocator + Copy>(
-    alloc: A,
-    library: &'t Library<'_, A>,
-    records: &[Statement<'t>],
-) -> Result<Vec<PlacedBox<'t>, A>, AllocError>
-    requires some { 0 < scale (records_view records.now) }
-    requires few { scale (records_view records.now) ≤ 100000 }
-    ensures { IfOk result (λ v. map boxed_view v.items ≡ boxes library.now (records_view records.now)) }
-{
-    boxes_among(alloc, library, scale_of(records), records)
 }

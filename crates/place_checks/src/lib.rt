@@ -1,15 +1,15 @@
 //! Checks of a design over statements that were read once: where its components lie and what they stand in, and how many entries
 //! its sections have.
 //!
-//! Begin with `boxes::boxes_of`, the components that take part, and `sweep::sort_boxes`, which puts them into the order of a sweep
-//! from below. Then `overlap::overlaps_of` puts a line for each pair of them that share area, `blocked::blocked_of` one for
-//! each that lies on a rectangle of `keep_outs::keep_outs_of`, whose rectangles are those of `blocked_shapes`, and `place_lines::lines_of` those on rows, the die and fences:
-//! `rows` looks rows up by their lower edge (`row_index`), and `fences` the groups of a component by its name
-//! (`assignment_table`), passing over fences whose hull is apart from its box (`hull`). `count::counts_of` puts a line for each
-//! section whose header says another number. Who follows a change asks for the lines of one component in what
-//! `surroundings::surroundings_of` gives, or of one rectangle: `place_lines::lines_in` and the calls of `one`; `boxes::boxes_among` has the
-//! components among some of the statements. From one edit to the next it keeps the surroundings by `kept_surroundings`, which lends
-//! them again.
+//! Begin with `surroundings::surroundings_of`, what the components of a design stand in. `place_lines::put_components` puts the lines on
+//! rows, the die and fences of the components among some statements, and what a sweep over many knows of each; so the statements needn't all
+//! be there at once. Then `between::put_lines_between` puts a line for each pair of these that share area, and one for each that lies on a
+//! rectangle of `keep_outs::keep_outs_of`, whose rectangles are those of `blocked_shapes`: it sorts them from below (`sweep`), and passes
+//! over those that are apart (`overlap`, `blocked`). `rows` looks rows up by their lower edge (`row_index`), and `fences` the groups of a
+//! component by its name (`assignment_table`), passing over fences whose hull is apart from its box (`hull`). `count::counts_of` puts a line
+//! for each section whose header says another number. Who follows a change asks for the lines of one component in its surroundings, or of one
+//! rectangle: `place_lines::lines_in`, `blocked::put_blockage` and the calls of `one`; `boxes::boxes_among` has the components among some of
+//! the statements. From one edit to the next it keeps the surroundings by `kept_surroundings`, which lends them again.
 //! What they say is defined in `design_rules/specs`: `Boxes`, `Surroundings`, `OverlapLines`, `PlaceLines` and `CountLines`;
 //! `specs/Views`, `PlaceViews` and `IndexViews` say how components and surroundings are seen there. No text is read here:
 //! statements come from `def_reader`.
@@ -21,6 +21,7 @@
 
 pub mod assigned;
 pub mod assignment_table;
+pub mod between;
 pub mod blocked;
 pub mod blocked_shapes;
 pub mod boxes;
@@ -42,7 +43,7 @@ pub mod last_macros;
 mod names;
 pub mod one;
 mod outline;
-pub mod overlap;
+mod overlap;
 pub mod place_lines;
 pub mod placed_box;
 pub mod placed_row;
@@ -51,4 +52,5 @@ pub mod row_index;
 mod rows;
 pub mod scale;
 pub mod surroundings;
-pub mod sweep;
+mod sweep;
+pub mod swept_box;

@@ -8,7 +8,7 @@ ghost use Rattle.place_checks.specs.IndexViews.{rows_view, surroundings_view};
 ghost use Rattle.place_checks.specs.OneLines.{OwnLinesAreParted, lines_but_rows};
 ghost use Rattle.place_checks.specs.Views.{boxed_view};
 
-use crate::blocked::{put_all_blocked, put_blocked_by};
+use crate::blocked::{put_blockage, put_blocked_by};
 use crate::fences::put_at_borders;
 use crate::overlap::put_overlaps_with;
 use crate::place_lines::lines_in;
@@ -81,7 +81,7 @@ pub fn of_blockage<A: Allocator + Copy>(
     ensures tests { IfOk result (λ c. c.tests ≡ 0) }
 {
     let mut lines = Lines::new(alloc);
-    put_all_blocked(boxes, rect, &mut lines)?;
+    put_blockage(boxes, rect, &mut lines)?;
     Ok(Checked { lines, tests: 0 })
 }
 

@@ -5,9 +5,10 @@ ghost use Rattle.design_model.specs.Families.{lines_with, pair_lines};
 ghost use Rattle.design_model.specs.Order.{greater, lesser};
 ghost use Rattle.design_rules.specs.OverlapLines.{overlap_of};
 ghost use Rattle.place_checks.specs.Sweep.{FromLeft, InSweepOrder};
-ghost use Rattle.place_checks.specs.Views.{boxed_view};
+ghost use Rattle.place_checks.specs.Views.{boxed_view, swept_view};
 
 use crate::placed_box::PlacedBox;
+use crate::swept_box::SweptBox;
 use crate::sweep::{begin_above, begin_below, begin_up_to};
 use design_model::diagnostic::DiagKind;
 use orient_geom::overlaps;
@@ -30,11 +31,11 @@ fn greater<'t>(a: &'t [u8], b: &'t [u8]) -> &'t [u8]
 
 /// Puts the line of two boxes that overlap, the lesser name first.
 fn put_overlap<'t, A: Allocator + Copy>(
-    first: &PlacedBox<'t>,
-    other: &PlacedBox<'t>,
+    first: &SweptBox<'t>,
+    other: &SweptBox<'t>,
     lines: &mut Lines<A>,
 ) -> Result<(), AllocError>
-    ensures { OnOk result (lines.new ≡ lines.old ++ overlap_of (boxed_view first.now) (boxed_view other.now)) }
+    ensures { OnOk result (lines.new ≡ lines.old ++ overlap_of (swept_view first.now) (swept_view other.now)) }
 {
     if !overlaps(&first.rect, &other.rect) {
         return Ok(());
@@ -43,7 +44,7 @@ fn put_overlap<'t, A: Allocator + Copy>(
     lines.put(DiagKind::Overlap, &[lesser(a, b), greater(a, b)], &[])
 }
 
-/// Puts a line for each of the other boxes that a box overlaps, in whatever order they stand.
+/// Puts a line for each of the other components that a component overlaps, in whatever order they stand.
 pub(crate) fn put_overlaps_with<'t, A: Allocator + Copy>(
     first: &PlacedBox<'t>,
     others: &[PlacedBox<'t>],
@@ -52,19 +53,19 @@ pub(crate) fn put_overlaps_with<'t, A: Allocator + Copy>(
     ensures { OnOk result (lines.new ≡ lines.old ++ lines_with overlap_of (boxed_view first.now) (map boxed_view others.now)) }
 {
     for other in others {
-        put_overlap(first, other, lines)?;
+        put_overlap(&first.swept(), &other.swept(), lines)?;
     }
     Ok(())
 }
 
 /// Puts a line for each of the boxes behind a box in its row that it overlaps.
 fn put_beside<'t, A: Allocator + Copy>(
-    first: &PlacedBox<'t>,
-    row: &[PlacedBox<'t>],
+    first: &SweptBox<'t>,
+    row: &[SweptBox<'t>],
     lines: &mut Lines<A>,
 ) -> Result<(), AllocError>
     requires { FromLeft row.now }
-    ensures { OnOk result (lines.new ≡ lines.old ++ lines_with overlap_of (boxed_view first.now) (map boxed_view row.now)) }
+    ensures { OnOk result (lines.new ≡ lines.old ++ lines_with overlap_of (swept_view first.now) (map swept_view row.now)) }
 {
     for next in row {
         // Those behind begin no further left.
@@ -79,10 +80,10 @@ fn put_beside<'t, A: Allocator + Copy>(
 /// What is left to compare with a box of those behind one: all, or, where that one is not left of the box's right edge,
 /// those that begin above it.
 fn left_behind<'b, 't>(
-    behind: &'b [PlacedBox<'t>],
-    one: &PlacedBox<'t>,
-    first: &PlacedBox<'t>,
-) -> &'b [PlacedBox<'t>]
+    behind: &'b [SweptBox<'t>],
+    one: &SweptBox<'t>,
+    first: &SweptBox<'t>,
+) -> &'b [SweptBox<'t>]
     requires { InSweepOrder behind.now }
     ensures those { result.now ≡ (if int_lt one.entry.now.rect.x1 first.entry.now.rect.x2 then behind.entry.now else filter (λ b. int_lt one.entry.now.rect.y1 b.rect.y1) behind.entry.now) }
     ensures sorted { InSweepOrder result.now }
@@ -95,12 +96,12 @@ fn left_behind<'b, 't>(
 
 /// Puts a line for each of the other boxes that a box overlaps.
 fn put_overlaps<'t, A: Allocator + Copy>(
-    first: &PlacedBox<'t>,
-    others: &[PlacedBox<'t>],
+    first: &SweptBox<'t>,
+    others: &[SweptBox<'t>],
     lines: &mut Lines<A>,
 ) -> Result<(), AllocError>
     requires { InSweepOrder others.now }
-    ensures { OnOk result (lines.new ≡ lines.old ++ lines_with overlap_of (boxed_view first.now) (map boxed_view others.now)) }
+    ensures { OnOk result (lines.new ≡ lines.old ++ lines_with overlap_of (swept_view first.now) (map swept_view others.now)) }
 {
     let mut left = begin_below(others, &first.rect);
     while let Some((next, behind)) = left.split_first() {
@@ -112,12 +113,12 @@ fn put_overlaps<'t, A: Allocator + Copy>(
 
 /// Puts a line for each of the boxes above the row of a box that it overlaps.
 fn put_above<'t, A: Allocator + Copy>(
-    first: &PlacedBox<'t>,
-    above: &[PlacedBox<'t>],
+    first: &SweptBox<'t>,
+    above: &[SweptBox<'t>],
     lines: &mut Lines<A>,
 ) -> Result<(), AllocError>
     requires { InSweepOrder above.now }
-    ensures { OnOk result (lines.new ≡ lines.old ++ lines_with overlap_of (boxed_view first.now) (map boxed_view above.now)) }
+    ensures { OnOk result (lines.new ≡ lines.old ++ lines_with overlap_of (swept_view first.now) (map swept_view above.now)) }
 {
     let Some((lowest, _)) = above.split_first() else {
         return Ok(());
@@ -131,13 +132,13 @@ fn put_above<'t, A: Allocator + Copy>(
 
 /// Puts the lines of the boxes of a row, with one another and with those above the row.
 fn put_row<'t, A: Allocator + Copy>(
-    row: &[PlacedBox<'t>],
-    above: &[PlacedBox<'t>],
+    row: &[SweptBox<'t>],
+    above: &[SweptBox<'t>],
     lines: &mut Lines<A>,
 ) -> Result<(), AllocError>
     requires row { FromLeft row.now }
     requires above { InSweepOrder above.now }
-    ensures { OnOk result (lines.new ++ pair_lines overlap_of (map boxed_view above.now) ≡ lines.old ++ pair_lines overlap_of (map boxed_view (row.now ++ above.now))) }
+    ensures { OnOk result (lines.new ++ pair_lines overlap_of (map swept_view above.now) ≡ lines.old ++ pair_lines overlap_of (map swept_view (row.now ++ above.now))) }
 {
     for (i, first) in row.iter().enumerate() {
         put_beside(first, &row[i + 1..], lines)?;
@@ -151,12 +152,12 @@ fn put_row<'t, A: Allocator + Copy>(
 /// The boxes are gone over by rows, those of one lower edge. Each box is compared with those behind it in its row up to
 /// its right edge, and with those above the row that begin below its upper edge and, at their height, left of its right
 /// edge.
-pub fn overlaps_of<A: Allocator + Copy>(
-    boxes: &[PlacedBox<'_>],
+pub(crate) fn overlaps_of<A: Allocator + Copy>(
+    boxes: &[SweptBox<'_>],
     lines: &mut Lines<A>,
 ) -> Result<(), AllocError>
     requires { InSweepOrder boxes.now }
-    ensures { OnOk result (lines.new ≡ lines.old ++ pair_lines overlap_of (map boxed_view boxes.now)) }
+    ensures { OnOk result (lines.new ≡ lines.old ++ pair_lines overlap_of (map swept_view boxes.now)) }
 {
     let mut left = boxes;
     while let Some((first, _)) = left.split_first() {

@@ -1,18 +1,22 @@
 //! The lines of components in rows, in the die and in fences.
 
 ghost use Rattle.std.specs.Prelude.{◌≡◌, ◌≤◌, ◌<◌, ◌++◌, flat_map, map, OnOk};
-ghost use Rattle.design_rules.specs.Boxes.{scale};
+ghost use Rattle.std.specs.List.{filter_map};
+ghost use Rattle.design_rules.specs.Boxes.{box_of};
 ghost use Rattle.design_rules.specs.PlaceLines.{lines_in};
-ghost use Rattle.design_rules.specs.Surroundings.{surroundings};
+ghost use Rattle.design_rules.specs.Surroundings.{Surroundings as Around};
 ghost use Rattle.place_checks.specs.IndexViews.{surroundings_view};
+ghost use Rattle.place_checks.specs.SameSurroundings.{HaveSameLines};
 ghost use Rattle.def_reader.specs.StatementViews.{records_view};
-ghost use Rattle.place_checks.specs.Views.{boxed_view};
+ghost use Rattle.place_checks.specs.Views.{bare, boxed_view, swept_view};
 
+use crate::boxes::boxes_among;
 use crate::fences::put_at_borders;
 use crate::placed_box::PlacedBox;
+use crate::swept_box::SweptBox;
 use crate::row_index::NO_EDGE;
 use crate::rows::{put_by_rows, put_in_rows};
-use crate::surroundings::{Surroundings, surroundings_of};
+use crate::surroundings::Surroundings;
 use cell_library::library::Library;
 use def_reader::statement::Statement;
 use report_lines::Lines;
@@ -34,7 +38,7 @@ pub fn lines_in<'t, A: Allocator + Copy>(
 /// Puts the lines of components in their surroundings, in the order of the components.
 ///
 /// Rows are looked up anew where the lower edge differs from that of the component before.
-pub fn all_lines_in<'t, A: Allocator + Copy>(
+fn all_lines_in<'t, A: Allocator + Copy>(
     alloc: A,
     surroundings: &Surroundings<'t, A>,
     boxes: &[PlacedBox<'t>],
@@ -55,18 +59,38 @@ pub fn all_lines_in<'t, A: Allocator + Copy>(
     Ok(())
 }
 
-/// Puts the lines of these components in the surroundings of a design, in the order of the components.
-pub fn lines_of<'t, A: Allocator + Copy>(
+/// Puts what a sweep knows of components behind what it knows of others.
+fn push_swept<'t, A: Allocator>(
+    components: &[PlacedBox<'t>],
+    boxes: &mut Vec<SweptBox<'t>, A>,
+) -> Result<(), AllocError>
+    ensures { OnOk result (map swept_view boxes.new.items ≡ map swept_view boxes.old.items ++ map bare (map boxed_view components.now)) }
+{
+    for component in components {
+        boxes.push(component.swept())?;
+    }
+    Ok(())
+}
+
+/// Puts the lines of the components among statements in their surroundings behind others, and what a sweep knows of them behind what it
+/// knows of others; by the scale of their design.
+pub fn put_components<'t, A: Allocator + Copy>(
     alloc: A,
-    library: &Library<'_, A>,
-    records: &[Statement<'t>],
-    boxes: &[PlacedBox<'t>],
+    library: &'t Library<'_, A>,
+    scale: u32,
+    surroundings: &Surroundings<'t, A>,
+    statements: &[Statement<'t>],
+    boxes: &mut Vec<SweptBox<'t>, A>,
     lines: &mut Lines<A>,
 ) -> Result<(), AllocError>
-    requires some { 0 < scale (records_view records.now) }
-    requires few { scale (records_view records.now) ≤ 100000 }
-    ensures { OnOk result (lines.new ≡ lines.old ++ flat_map (lines_in (surroundings library.now (records_view records.now))) (map boxed_view boxes.now)) }
+    requires some { 0 < scale }
+    requires few { scale ≤ 100000 }
+    ensures lines { (s : Around) → HaveSameLines (surroundings_view surroundings.now) s
+        → OnOk result (lines.new ≡ lines.old ++ flat_map (lines_in s) (filter_map (box_of library.entry.now scale) (records_view statements.now))) }
+    ensures boxes { OnOk result (map swept_view boxes.new.items ≡ map swept_view boxes.old.items ++ map bare (filter_map (box_of library.entry.now scale) (records_view statements.now))) }
 {
-    let surroundings = surroundings_of(alloc, library, records)?;
-    all_lines_in(alloc, &surroundings, boxes, lines)
+    let components = boxes_among(alloc, library, scale, statements)?;
+    all_lines_in(alloc, surroundings, &components, lines)?;
+    push_swept(&components, boxes)?;
+    Ok(())
 }

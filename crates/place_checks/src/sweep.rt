@@ -5,7 +5,7 @@ ghost use Rattle.std.specs.Int.Signed.{le_z};
 ghost use Rattle.place_checks.specs.Heights.{NoneTaller};
 ghost use Rattle.place_checks.specs.Sweep.{InSweepOrder, sweep_cmp};
 
-use crate::placed_box::PlacedBox;
+use crate::swept_box::SweptBox;
 use design_model::geometry::Rect;
 use std::alloc::Allocator;
 use std::cmp::Ordering;
@@ -18,7 +18,7 @@ fn sweep_cmp(a: &Rect, b: &Rect) -> Ordering
 }
 
 /// Puts boxes into the order of a sweep. It takes no memory.
-pub fn sort_boxes<'t, A: Allocator>(boxes: &mut Vec<PlacedBox<'t>, A>)
+pub(crate) fn sort_boxes<'t, A: Allocator>(boxes: &mut Vec<SweptBox<'t>, A>)
     ensures sorted { InSweepOrder boxes.new.items }
     ensures same { IsPermutation boxes.old.items boxes.new.items }
 {
@@ -26,7 +26,7 @@ pub fn sort_boxes<'t, A: Allocator>(boxes: &mut Vec<PlacedBox<'t>, A>)
 }
 
 /// The boxes whose lower edges are below the upper edge of a rectangle.
-pub(crate) fn begin_below<'b, 't>(boxes: &'b [PlacedBox<'t>], rect: &Rect) -> &'b [PlacedBox<'t>]
+pub(crate) fn begin_below<'b, 't>(boxes: &'b [SweptBox<'t>], rect: &Rect) -> &'b [SweptBox<'t>]
     requires { InSweepOrder boxes.now }
     ensures those { result.now ≡ filter (λ b. int_lt b.rect.y1 rect.entry.now.y2) boxes.entry.now }
     ensures sorted { InSweepOrder result.now }
@@ -35,7 +35,7 @@ pub(crate) fn begin_below<'b, 't>(boxes: &'b [PlacedBox<'t>], rect: &Rect) -> &'
 }
 
 /// The first boxes, those whose lower edges aren't above that of a rectangle.
-pub(crate) fn begin_up_to<'b, 't>(boxes: &'b [PlacedBox<'t>], rect: &Rect) -> &'b [PlacedBox<'t>]
+pub(crate) fn begin_up_to<'b, 't>(boxes: &'b [SweptBox<'t>], rect: &Rect) -> &'b [SweptBox<'t>]
     requires { InSweepOrder boxes.now }
     ensures those { result.now ≡ filter (λ b. le_z b.rect.y1 rect.entry.now.y1) boxes.entry.now }
     ensures others { drop (length result.now) boxes.entry.now ≡ filter (λ b. int_lt rect.entry.now.y1 b.rect.y1) boxes.entry.now }
@@ -45,7 +45,7 @@ pub(crate) fn begin_up_to<'b, 't>(boxes: &'b [PlacedBox<'t>], rect: &Rect) -> &'
 }
 
 /// The boxes whose lower edges are above that of a rectangle.
-pub(crate) fn begin_above<'b, 't>(boxes: &'b [PlacedBox<'t>], rect: &Rect) -> &'b [PlacedBox<'t>]
+pub(crate) fn begin_above<'b, 't>(boxes: &'b [SweptBox<'t>], rect: &Rect) -> &'b [SweptBox<'t>]
     requires { InSweepOrder boxes.now }
     ensures those { result.now ≡ filter (λ b. int_lt rect.entry.now.y1 b.rect.y1) boxes.entry.now }
     ensures sorted { InSweepOrder result.now }
@@ -62,10 +62,10 @@ fn is_under(box_rect: &Rect, height: u64, rect: &Rect) -> bool
 
 /// The boxes that end above the lower edge of a rectangle, if they are this tall.
 pub(crate) fn end_above<'b, 't>(
-    boxes: &'b [PlacedBox<'t>],
+    boxes: &'b [SweptBox<'t>],
     height: u64,
     rect: &Rect,
-) -> &'b [PlacedBox<'t>]
+) -> &'b [SweptBox<'t>]
     requires { InSweepOrder boxes.now }
     ensures { result.now ≡ filter (λ b. int_lt rect.entry.now.y1 (b.rect.y1 +ℤ pos height)) boxes.entry.now }
 {
@@ -80,7 +80,7 @@ fn height(rect: &Rect) -> u64
 }
 
 /// The height of the tallest box, or 0 where there is none.
-pub(crate) fn greatest_height(boxes: &[PlacedBox<'_>]) -> u64
+pub(crate) fn greatest_height(boxes: &[SweptBox<'_>]) -> u64
     ensures { NoneTaller boxes.now result }
 {
     let mut tallest = 0;

@@ -1,5 +1,5 @@
 -- What kept statements say.
-use Rattle.std.proofs.Common.{◌≡◌, ℕ, suc, ◌+◌, List, [], ◌∷◌, ◌++◌, length, map, Option, Some, Ok, refl, sym, ap, subst, ◌∙◌}
+use Rattle.std.proofs.Common.{◌≡◌, ℕ, zero, suc, ◌+◌, List, [], ◌∷◌, ◌++◌, length, map, Option, Some, Ok, refl, sym, ap, subst, ◌∙◌}
 use Rattle.std.specs.List.{zip}
 use Rattle.std.proofs.lemmas.List.{length-map}
 use Rattle.std.proofs.lemmas.Slice.Zip.{seconds-zip}
@@ -13,7 +13,7 @@ use Rattle.piece_laws.specs.ChainLaws.{ChainsLead}
 use Rattle.piece_laws.specs.PlaceLaws.{TextsAreRead, placed_pieces}
 use Rattle.piece_laws.specs.Pieces.{AreChained, IsPiece, modes_from}
 use Rattle.text_pieces.specs.Changes.{IsBetween, Prepared}
-use Rattle.text_pieces.specs.Chunks.{Numbers, all_ids}
+use Rattle.text_pieces.specs.Chunks.{Numbers, all_ids, ids_at}
 use Rattle.text_pieces.specs.Content.{Content, IsText, bytes_of, text_of}
 use Rattle.text_pieces.specs.KeptRecords.{AreKept, AreParted, HavePieces, record_of, record_or, records_under}
 use Rattle.text_pieces.specs.Lent.{numbered_records}
@@ -82,6 +82,13 @@ module _ (slots : List (Option Kept)) where
 
   pieces_between : (xs ys zs : List StmtId) → HavePieces slots (xs ++ (ys ++ zs)) → HavePieces slots ys
   pieces_between xs ys zs h = pieces_front ys zs (pieces_behind xs (ys ++ zs) h)
+
+  -- and so are those of a chunk
+  pub pieces_at : (cs : List Numbers) (k : ℕ) → HavePieces slots (all_ids cs) → HavePieces slots (ids_at cs k)
+  pieces_at [] zero h = tt
+  pieces_at [] (suc k) h = tt
+  pieces_at (c ∷ cs) zero h = pieces_front c.ids (all_ids cs) h
+  pieces_at (c ∷ cs) (suc k) h = pieces_at cs k (pieces_behind c.ids (all_ids cs) h)
 
 module _ (law : TextsAreRead def) (leads : ChainsLead def) where
   -- what a text in pieces says is what is kept of its statements

@@ -38,6 +38,10 @@ AreOnce (x ∷ xs) = IsAbsent x xs × AreOnce xs
 abbrev pub PlaceIn : StmtId → List StmtId → Option ℕ → Type 0
 PlaceIn id ids found = MatchOption found (IsAbsent id ids) (λ i. (i < length ids) × (ids ≡ take i ids ++ id ∷ drop (i + 1) ids))
 
+-- the numbers from a chunk on are those in it and those from the next one on
+abbrev pub ChunksGoOn : Type 0
+ChunksGoOn = (chunks : List Numbers) (k : ℕ) → k < length chunks → all_ids (drop k chunks) ≡ ids_at chunks k ++ all_ids (drop (k + 1) chunks)
+
 abbrev pub first_id : List StmtId → Option StmtId
 first_id [] = None
 first_id (x ∷ xs) = Some x

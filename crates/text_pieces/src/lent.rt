@@ -1,9 +1,10 @@
 //! Pieces that are lent.
 
-ghost use Rattle.std.specs.Prelude.{◌≡◌, IfOk};
+ghost use Rattle.std.specs.Prelude.{◌≡◌, IfOk, length};
 ghost use Rattle.text_pieces.specs.Changes.{IsBetween};
+ghost use Rattle.text_pieces.specs.Chunks.{ChunksGoOn, ids_at};
 ghost use Rattle.text_pieces.specs.Content.{Content};
-ghost use Rattle.text_pieces.specs.KeptRecords.{AreKept, AreParted, LendsKept};
+ghost use Rattle.text_pieces.specs.KeptRecords.{AreKept, AreParted, HavePieces, LendsKept};
 ghost use Rattle.text_pieces.specs.Lent.{Lends};
 ghost use Rattle.text_pieces.specs.Tables.{ids_of};
 
@@ -55,6 +56,25 @@ impl<A: Allocator + Copy> TextPieces<A> {
         self.table.numbers(alloc)
     }
 
+    /// In how many chunks the numbers stand.
+    pub fn chunks(&self) -> usize
+        ensures { result ≡ length self.now.table.chunks }
+    {
+        self.table.chunks.len()
+    }
+
+    /// The numbers in a chunk, in the order of the text; none where there is no such chunk.
+    pub fn chunk(&self, place: usize) -> &[StmtId]
+        ensures numbers { result.now ≡ ids_at self.now.table.chunks place }
+        ensures pieces { HavePieces self.now.table.slots result.now }
+    {
+        self.statements_are_kept();
+        match self.table.chunks.get(place) {
+            Some(chunk) => &chunk.ids,
+            None => &[],
+        }
+    }
+
     /// A law: the statements are kept under their numbers, and the text reads as they say.
     pub fn statements_are_kept(&self)
         ensures { AreKept self.now }
@@ -74,3 +94,8 @@ impl<A: Allocator + Copy> TextPieces<A> {
         let _ = &change.changes;
     }
 }
+
+/// A law: the numbers from a chunk on are those in it and those from the next one on.
+pub fn chunks_go_on()
+    ensures { ChunksGoOn }
+{}

@@ -2,7 +2,7 @@
 //!
 //! Begin with `TextPieces::open`, which reads each statement of a text once, and keeps it with the blanks and comments before it
 //! as a piece of its own. `statement`, `mode` and `offset` answer by a statement's number, `find_at` finds the one at a position,
-//! `first`, `next` and `prev` go from one to another, and `write_to` writes the text. `TextPieces::open_telling` tells each statement as it
+//! `first`, `next` and `prev` go from one to another, `chunk` has those of some statements in a row, and `write_to` writes the text. `TextPieces::open_telling` tells each statement as it
 //! is read, with its number, to what is `Told`, and takes a text as a `Block`, of which pieces are parts. `TextPieces::prepare`
 //! prepares a change beside the text, as a `PreparedText`, which says how many statements were read for it, which numbers go out,
 //! and which come in; `TextPieces::commit` makes it, takes no memory, and leaves the change that takes it back. `let_go` ends a

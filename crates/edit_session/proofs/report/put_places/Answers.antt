@@ -1,18 +1,31 @@
-use Rattle.std.proofs.Common.{map, refl}
+use Rattle.std.proofs.Common.{List, ◌++◌, flat_map, map, subst, ap, ◌∙◌}
+use Rattle.std.specs.Prelude.{OnOk, ℕ}
+use Rattle.std.specs.List.{filter_map}
+use Rattle.design_model.specs.Families.{cross_lines, pair_lines}
+use Rattle.design_model.specs.Views.{rectangle_of}
 use Rattle.def_reader.specs.StatementViews.{record_view}
-use Rattle.place_checks.specs.Views.{boxed_view}
-use Rattle.edit_session.proofs.ReportLemmas.{parts_and_more}
+use Rattle.design_rules.specs.Boxes.{box_of}
+use Rattle.design_rules.specs.OverlapLines.{overlap_of}
+use Rattle.design_rules.specs.PlaceLines.{blocked_of, lines_in}
+use Rattle.design_rules.specs.Surroundings.{keep_outs, surroundings}
+use Rattle.line_laws.specs.Lines.{SameLines}
 use Rattle.edit_session.proofs.report.put_places.Goals as goal
+
+pub put_components-requires-clause-some : goal.put_components-requires-clause-some
+put_components-requires-clause-some g c = rw c.scale_of.ensures c.requires.some
+
+pub put_components-requires-clause-few : goal.put_components-requires-clause-few
+put_components-requires-clause-few g c = rw c.scale_of.ensures c.requires.few
 
 pub returns : goal.returns
 returns g c =
     let library = c.args.library.now in
     let design = map record_view c.args.records.now in
+    let s = surroundings library design in
     let before = c.args.lines.now in
-    let cs = map boxed_view c.sort_boxes.new.boxes.items in
-    let same = rw (c.in_ok-boxes.ensures) at (c.maps_are_same.ensures boxed_view _ _ (c.permutations_are_same.ensures _ _ c.sort_boxes.ensures.same)) in
-    let overlaps = rw (c.deref.ensures.value) at c.in_ok-overlaps_of.ensures in
-    let standing = rw (c.deref-2.ensures.value) at c.in_ok-lines_of.ensures in
-    let blocked = rw (c.deref-3.ensures.value, c.deref-4.ensures.value, c.in_ok-keep_outs.ensures) at c.in_ok-blocked_of.ensures in
-    let all = c.components_in_any_order.ensures library design cs before _ same (record { often = λ q. refl }) in
-    parts_and_more before _ _ _ _ _ _ _ overlaps standing blocked all
+    let placed = filter_map (box_of library c.scale_of.result) design in
+    let own = flat_map (lines_in s) placed in
+    let begun = c.in_ok-put_components.ensures.lines s c.in_ok-surroundings.ensures in
+    let swept = rw c.new-boxes.ensures.items at c.in_ok-put_components.ensures.boxes in
+    let all = rw (c.deref.ensures.value, c.in_ok-keep_outs.ensures) at (c.put_lines_between.ensures placed before own swept begun) in
+    subst (λ (u : ℕ). OnOk c.put_lines_between.result (SameLines c.put_lines_between.new.lines (before ++ (pair_lines overlap_of (filter_map (box_of library u) design) ++ (flat_map (lines_in s) (filter_map (box_of library u) design) ++ cross_lines blocked_of (filter_map (box_of library u) design) (keep_outs design)))))) c.scale_of.ensures all

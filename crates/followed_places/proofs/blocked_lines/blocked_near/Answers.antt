@@ -6,8 +6,8 @@ use Rattle.followed_places.proofs.blocked_lines.blocked_near.Goals as goal
 pub loop-rect-preserved : goal.loop-rect-preserved
 loop-rect-preserved g c = record {
   lines = λ ids are.
-      one_of_rectangles (boxed_under c.args.library.now c.args.scale c.args.text.now.pieces.table.slots ids) c.in_ok-found.found.components.items c.sort_boxes.new.boxes.items c.args.rects.now c.loop-rect.rect-index c.rect-item.result
-      c.loop-rect.lines _ _ c.loop-rect-test.true c.rect-item.is c.sort_boxes.ensures.same (c.in_ok-found.ensures.components ids are) (rw (c.deref.ensures.value) at c.in_ok-blocked_of.ensures) (c.loop-rect.invariant.lines ids are);
+      one_of_rectangles (boxed_under c.args.library.now c.args.scale c.args.text.now.pieces.table.slots ids) c.in_ok-found.found.components.items c.args.rects.now c.loop-rect.rect-index c.rect-item.result
+      c.loop-rect.lines _ _ c.loop-rect-test.true c.rect-item.is (c.in_ok-found.ensures.components ids are) (rw (c.deref.ensures.value) at c.in_ok-put_blockage.ensures) (c.loop-rect.invariant.lines ids are);
   tests = one_counted c.args.boxes.now c.args.rects.now c.loop-rect.rect-index c.rect-item.result c.loop-rect.tests c.saturating_add-tests.result c.in_ok-found.found.compared _
       c.loop-rect-test.true c.rect-item.is c.in_ok-found.ensures.compared (omega arith) c.loop-rect.invariant.tests;
 }

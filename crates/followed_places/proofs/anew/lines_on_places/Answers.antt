@@ -1,0 +1,61 @@
+use Rattle.std.proofs.Common.{◌≡◌, List, ◌++◌, [], filter, flat_map, map, ap, subst, ◌∙◌}
+use Rattle.std.specs.Prelude.{ℕ}
+use Rattle.std.specs.List.{filter_map}
+use Rattle.design_model.specs.Families.{cross_lines, pair_lines}
+use Rattle.design_model.specs.Views.{rectangle_of}
+use Rattle.def_reader.specs.StatementViews.{records_view}
+use Rattle.design_rules.specs.Boxes.{box_of, scale}
+use Rattle.design_rules.specs.OverlapLines.{overlap_of}
+use Rattle.design_rules.specs.PlaceLines.{blocked_of, lines_in}
+use Rattle.design_rules.specs.Surroundings.{keep_outs, surroundings}
+use Rattle.line_laws.specs.Lines.{SameLines}
+use Rattle.place_checks.specs.Views.{bare, swept_view}
+use Rattle.staying_laws.specs.PlaceStatements.{surrounds_or_blocks}
+use Rattle.design_text.specs.DesignTexts.{design_of}
+use Rattle.followed_places.proofs.anew.lines_on_places.Goals as goal
+
+pub surroundings_of-requires-clause-some : goal.surroundings_of-requires-clause-some
+surroundings_of-requires-clause-some g c =
+    let design = design_of c.args.text.now in
+    let around : records_view c.deref-2.result.now ≡ filter surrounds_or_blocks design = ap records_view c.deref-2.ensures.value ∙ c.in_ok-around.ensures in
+    let told = c.surroundings_are_told.ensures c.args.library.now design in
+    rw (ap scale around ∙ told.scale) (rw c.statements_are_kept.ensures.said at c.units_are_good.ensures.some)
+
+pub surroundings_of-requires-clause-few : goal.surroundings_of-requires-clause-few
+surroundings_of-requires-clause-few g c =
+    let design = design_of c.args.text.now in
+    let around : records_view c.deref-2.result.now ≡ filter surrounds_or_blocks design = ap records_view c.deref-2.ensures.value ∙ c.in_ok-around.ensures in
+    let told = c.surroundings_are_told.ensures c.args.library.now design in
+    rw (ap scale around ∙ told.scale) (rw c.statements_are_kept.ensures.said at c.units_are_good.ensures.few)
+
+pub put_all_components-requires-clause-some : goal.put_all_components-requires-clause-some
+put_all_components-requires-clause-some g c =
+    let design = design_of c.args.text.now in
+    let around : records_view c.deref.result.now ≡ filter surrounds_or_blocks design = ap records_view c.deref.ensures.value ∙ c.in_ok-around.ensures in
+    let told = c.surroundings_are_told.ensures c.args.library.now design in
+    rw (c.scale_of-scale.ensures ∙ ap scale around ∙ told.scale) (rw c.statements_are_kept.ensures.said at c.units_are_good.ensures.some)
+
+pub put_all_components-requires-clause-few : goal.put_all_components-requires-clause-few
+put_all_components-requires-clause-few g c =
+    let design = design_of c.args.text.now in
+    let around : records_view c.deref.result.now ≡ filter surrounds_or_blocks design = ap records_view c.deref.ensures.value ∙ c.in_ok-around.ensures in
+    let told = c.surroundings_are_told.ensures c.args.library.now design in
+    rw (c.scale_of-scale.ensures ∙ ap scale around ∙ told.scale) (rw c.statements_are_kept.ensures.said at c.units_are_good.ensures.few)
+
+pub returns : goal.returns
+returns g c =
+    let library = c.args.library.now in
+    let design = design_of c.args.text.now in
+    let s = surroundings library design in
+    let told = c.surroundings_are_told.ensures library design in
+    let around : records_view c.deref-2.result.now ≡ filter surrounds_or_blocks design = ap records_view c.deref-2.ensures.value ∙ c.in_ok-around.ensures in
+    let units : c.scale_of-scale.result ≡ scale design = c.scale_of-scale.ensures ∙ ap scale (ap records_view c.deref.ensures.value ∙ c.in_ok-around.ensures) ∙ told.scale in
+    let outs : map rectangle_of c.deref-4.result.now ≡ keep_outs design =
+    ap (map rectangle_of) c.deref-4.ensures.value ∙ c.in_ok-keep_outs.ensures ∙ ap keep_outs (ap records_view c.deref-3.ensures.value ∙ c.in_ok-around.ensures) ∙ told.keep_outs in
+    let same = rw (ap (surroundings library) around ∙ told.surroundings) at c.in_ok-surroundings.ensures in
+    let placed = filter_map (box_of library c.scale_of-scale.result) design in
+    let own = flat_map (lines_in s) placed in
+    let begun = c.in_ok-put_all_components.ensures.lines s same ∙ ap (λ (l : List (List ℕ)). l ++ own) c.new-lines.ensures in
+    let swept = rw c.in_ok-boxes.ensures.items at c.in_ok-put_all_components.ensures.boxes in
+    let all = rw outs at (c.in_ok-put_lines_between.ensures placed [] own swept begun) in
+    subst (λ (u : ℕ). SameLines c.put_lines_between.new.lines (pair_lines overlap_of (filter_map (box_of library u) design) ++ (flat_map (lines_in s) (filter_map (box_of library u) design) ++ cross_lines blocked_of (filter_map (box_of library u) design) (keep_outs design)))) units all
