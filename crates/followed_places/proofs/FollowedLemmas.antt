@@ -47,7 +47,7 @@ filter_said test (x ∷ rs) = one (test x.1) x (filter (λ y. test y.1) rs) (fil
     one true y ys zs same = ap (λ (l : List Record). y.1 ∷ l) same
     one false y ys zs same = same
 
-filter-append : {A : Type 0} (p : A → Bool) (xs ys : List A) → filter p (xs ++ ys) ≡ filter p xs ++ filter p ys
+pub filter-append : {A : Type 0} (p : A → Bool) (xs ys : List A) → filter p (xs ++ ys) ≡ filter p xs ++ filter p ys
 filter-append p [] ys = refl
 filter-append {A = A} p (x ∷ xs) ys = one (p x) (filter p (xs ++ ys)) (filter p xs) (filter-append p xs ys)
   where

@@ -3,6 +3,7 @@ mod BlockedLemmas
 mod ComponentLemmas
 mod ExchangeLemmas
 mod FollowedLemmas
+mod HalvesLemmas
 mod MetLemmas
 mod NearSums
 mod OthersMet

@@ -1,3 +1,4 @@
+pub mod Halves
 pub mod Lines
 pub mod Placed
 pub mod Places

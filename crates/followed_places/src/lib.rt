@@ -19,6 +19,7 @@ mod around;
 mod blocked_lines;
 mod components;
 mod followed;
+mod halves;
 mod keep_outs;
 mod own_lines;
 

@@ -9,8 +9,8 @@ ghost use Rattle.place_checks.specs.Sweep.{InSweepOrder};
 ghost use Rattle.place_checks.specs.Views.{boxed_view, swept_view};
 
 use crate::placed_box::PlacedBox;
-use crate::swept_box::SweptBox;
 use crate::sweep::{begin_below, end_above, greatest_height};
+use crate::swept_box::SweptBox;
 use design_model::diagnostic::DiagKind;
 use design_model::geometry::Rect;
 use line_laws::each::crosses_turn;

@@ -8,8 +8,8 @@ ghost use Rattle.place_checks.specs.Sweep.{FromLeft, InSweepOrder};
 ghost use Rattle.place_checks.specs.Views.{boxed_view, swept_view};
 
 use crate::placed_box::PlacedBox;
-use crate::swept_box::SweptBox;
 use crate::sweep::{begin_above, begin_below, begin_up_to};
+use crate::swept_box::SweptBox;
 use design_model::diagnostic::DiagKind;
 use orient_geom::overlaps;
 use report_lines::Lines;
@@ -112,7 +112,7 @@ fn put_overlaps<'t, A: Allocator + Copy>(
 }
 
 /// Puts a line for each of the boxes above the row of a box that it overlaps.
-fn put_above<'t, A: Allocator + Copy>(
+pub(crate) fn put_above<'t, A: Allocator + Copy>(
     first: &SweptBox<'t>,
     above: &[SweptBox<'t>],
     lines: &mut Lines<A>,

@@ -1,24 +1,18 @@
 //! The lines of components in rows, in the die and in fences.
 
-ghost use Rattle.std.specs.Prelude.{◌≡◌, ◌≤◌, ◌<◌, ◌++◌, flat_map, map, OnOk};
-ghost use Rattle.std.specs.List.{filter_map};
-ghost use Rattle.design_rules.specs.Boxes.{box_of};
+ghost use Rattle.std.specs.Prelude.{◌≡◌, ◌++◌, flat_map, map, OnOk};
 ghost use Rattle.design_rules.specs.PlaceLines.{lines_in};
 ghost use Rattle.design_rules.specs.Surroundings.{Surroundings as Around};
 ghost use Rattle.place_checks.specs.IndexViews.{surroundings_view};
 ghost use Rattle.place_checks.specs.SameSurroundings.{HaveSameLines};
-ghost use Rattle.def_reader.specs.StatementViews.{records_view};
 ghost use Rattle.place_checks.specs.Views.{bare, boxed_view, swept_view};
 
-use crate::boxes::boxes_among;
 use crate::fences::put_at_borders;
 use crate::placed_box::PlacedBox;
-use crate::swept_box::SweptBox;
 use crate::row_index::NO_EDGE;
 use crate::rows::{put_by_rows, put_in_rows};
 use crate::surroundings::Surroundings;
-use cell_library::library::Library;
-use def_reader::statement::Statement;
+use crate::swept_box::SweptBox;
 use report_lines::Lines;
 use std::alloc::{AllocError, Allocator};
 
@@ -72,25 +66,19 @@ fn push_swept<'t, A: Allocator>(
     Ok(())
 }
 
-/// Puts the lines of the components among statements in their surroundings behind others, and what a sweep knows of them behind what it
-/// knows of others; by the scale of their design.
+/// Puts the lines of components in their surroundings behind others, and what a sweep knows of them behind what it knows of others.
 pub fn put_components<'t, A: Allocator + Copy>(
     alloc: A,
-    library: &'t Library<'_, A>,
-    scale: u32,
     surroundings: &Surroundings<'t, A>,
-    statements: &[Statement<'t>],
+    components: &[PlacedBox<'t>],
     boxes: &mut Vec<SweptBox<'t>, A>,
     lines: &mut Lines<A>,
 ) -> Result<(), AllocError>
-    requires some { 0 < scale }
-    requires few { scale ≤ 100000 }
     ensures lines { (s : Around) → HaveSameLines (surroundings_view surroundings.now) s
-        → OnOk result (lines.new ≡ lines.old ++ flat_map (lines_in s) (filter_map (box_of library.entry.now scale) (records_view statements.now))) }
-    ensures boxes { OnOk result (map swept_view boxes.new.items ≡ map swept_view boxes.old.items ++ map bare (filter_map (box_of library.entry.now scale) (records_view statements.now))) }
+        → OnOk result (lines.new ≡ lines.old ++ flat_map (lines_in s) (map boxed_view components.now)) }
+    ensures boxes { OnOk result (map swept_view boxes.new.items ≡ map swept_view boxes.old.items ++ map bare (map boxed_view components.now)) }
 {
-    let components = boxes_among(alloc, library, scale, statements)?;
-    all_lines_in(alloc, surroundings, &components, lines)?;
-    push_swept(&components, boxes)?;
+    all_lines_in(alloc, surroundings, components, lines)?;
+    push_swept(components, boxes)?;
     Ok(())
 }

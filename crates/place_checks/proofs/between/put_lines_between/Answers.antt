@@ -3,8 +3,8 @@ use Rattle.design_model.specs.Views.{rectangle_of}
 use Rattle.place_checks.proofs.BetweenLemmas.{between}
 use Rattle.place_checks.proofs.between.put_lines_between.Goals as goal
 
-pub returns : goal.returns
-returns g c = λ components before own are begun.
+pub returns-clause-lines : goal.returns-clause-lines
+returns-clause-lines g c = λ components before own are begun.
     let moved = c.permutations_are_same.ensures _ _ c.sort_boxes.ensures.same in
     let pairs = rw (c.deref.ensures.value) at c.in_ok-overlaps_of.ensures in
     let crosses = rw (c.deref-2.ensures.value) at c.in_ok-blocked_of.ensures in
