@@ -38,6 +38,7 @@ use measure_laws::lengths::lengths_fit;
 use measure_laws::ranges::lines_fit;
 use net_checks::NetDrawing;
 use place_checks::between::put_lines_between;
+use place_checks::boxes::boxes_among;
 use place_checks::count::counts_of;
 use place_checks::keep_outs::keep_outs_of;
 use place_checks::place_lines::put_components;
@@ -78,16 +79,9 @@ fn put_places<'t, A: Allocator + Copy>(
 {
     let surroundings = surroundings_of(alloc, library, records)?;
     let keep_outs = keep_outs_of(alloc, records)?;
+    let components = boxes_among(alloc, library, scale_of(records), records)?;
     let mut boxes = Vec::new(alloc);
-    put_components(
-        alloc,
-        library,
-        scale_of(records),
-        &surroundings,
-        records,
-        &mut boxes,
-        lines,
-    )?;
+    put_components(alloc, &surroundings, &components, &mut boxes, lines)?;
     put_lines_between(&mut boxes, &keep_outs, lines)
 }
 

@@ -15,6 +15,8 @@ use Rattle.staying_laws.specs.PlaceStatements.{surrounds_or_blocks}
 use Rattle.text_pieces.specs.KeptRecords.{records_under}
 use Rattle.text_pieces.specs.Tables.{Kept}
 use Rattle.design_text.proofs.ChunkWalks.{says}
+use Rattle.followed_places.specs.Halves.{is_in}
+use Rattle.followed_places.specs.declared.halves.Half.{Half}
 use Rattle.followed_places.proofs.FollowedLemmas.{filter-append}
 
 module _ (slots : List (Option Kept)) where
@@ -29,22 +31,25 @@ module _ (slots : List (Option Kept)) where
       ∙ map-append (λ x. x.0) (filter (λ x. surrounds_or_blocks x.1) (records_under slots a)) (filter (λ x. surrounds_or_blocks x.1) (records_under slots b))
 
   module _ (library : Library) (u : ℕ) where
-    -- the components among some statements
-    abbrev pub placed : List StmtId → List Boxed
-    placed ids = filter_map (box_of library u) (map (says slots) ids)
+    -- the components of a half among some statements
+    abbrev pub placed : Half → List StmtId → List Boxed
+    placed half ids = filter (is_in half) (filter_map (box_of library u) (map (says slots) ids))
 
-    placed_parted : (a b : List StmtId) → placed (a ++ b) ≡ placed a ++ placed b
-    placed_parted a b = ap (filter_map (box_of library u)) (map-append (says slots) a b) ∙ filter_map-append (box_of library u) (map (says slots) a) (map (says slots) b)
+    placed_parted : (half : Half) (a b : List StmtId) → placed half (a ++ b) ≡ placed half a ++ placed half b
+    placed_parted half a b =
+        ap (λ (rs : List Record). filter (is_in half) (filter_map (box_of library u) rs)) (map-append (says slots) a b)
+        ∙ ap (filter (is_in half)) (filter_map-append (box_of library u) (map (says slots) a) (map (says slots) b))
+        ∙ filter-append (is_in half) (filter_map (box_of library u) (map (says slots) a)) (filter_map (box_of library u) (map (says slots) b))
 
     -- their lines, and what a sweep knows of them
-    abbrev pub lines_of : Surroundings → List StmtId → List (List ℕ)
-    lines_of s ids = flat_map (lines_in s) (placed ids)
+    abbrev pub lines_of : Half → Surroundings → List StmtId → List (List ℕ)
+    lines_of half s ids = flat_map (lines_in s) (placed half ids)
 
-    pub lines_parted : (s : Surroundings) (a b : List StmtId) → lines_of s (a ++ b) ≡ lines_of s a ++ lines_of s b
-    lines_parted s a b = ap (flat_map (lines_in s)) (placed_parted a b) ∙ flat_map-append (lines_in s) (placed a) (placed b)
+    pub lines_parted : (half : Half) (s : Surroundings) (a b : List StmtId) → lines_of half s (a ++ b) ≡ lines_of half s a ++ lines_of half s b
+    lines_parted half s a b = ap (flat_map (lines_in s)) (placed_parted half a b) ∙ flat_map-append (lines_in s) (placed half a) (placed half b)
 
-    abbrev pub boxes_of : List StmtId → List Boxed
-    boxes_of ids = map bare (placed ids)
+    abbrev pub boxes_of : Half → List StmtId → List Boxed
+    boxes_of half ids = map bare (placed half ids)
 
-    pub boxes_parted : (a b : List StmtId) → boxes_of (a ++ b) ≡ boxes_of a ++ boxes_of b
-    boxes_parted a b = ap (map bare) (placed_parted a b) ∙ map-append bare (placed a) (placed b)
+    pub boxes_parted : (half : Half) (a b : List StmtId) → boxes_of half (a ++ b) ≡ boxes_of half a ++ boxes_of half b
+    boxes_parted half a b = ap (map bare) (placed_parted half a b) ∙ map-append bare (placed half a) (placed half b)

@@ -9,13 +9,14 @@ use Rattle.design_rules.specs.OverlapLines.{overlap_of}
 use Rattle.design_rules.specs.PlaceLines.{blocked_of, lines_in}
 use Rattle.design_rules.specs.Surroundings.{keep_outs, surroundings}
 use Rattle.line_laws.specs.Lines.{SameLines}
+use Rattle.place_checks.specs.Views.{boxed_view}
 use Rattle.edit_session.proofs.report.put_places.Goals as goal
 
-pub put_components-requires-clause-some : goal.put_components-requires-clause-some
-put_components-requires-clause-some g c = rw c.scale_of.ensures c.requires.some
+pub boxes_among-requires-clause-some : goal.boxes_among-requires-clause-some
+boxes_among-requires-clause-some g c = rw c.scale_of.ensures c.requires.some
 
-pub put_components-requires-clause-few : goal.put_components-requires-clause-few
-put_components-requires-clause-few g c = rw c.scale_of.ensures c.requires.few
+pub boxes_among-requires-clause-few : goal.boxes_among-requires-clause-few
+boxes_among-requires-clause-few g c = rw c.scale_of.ensures c.requires.few
 
 pub returns : goal.returns
 returns g c =
@@ -25,7 +26,8 @@ returns g c =
     let before = c.args.lines.now in
     let placed = filter_map (box_of library c.scale_of.result) design in
     let own = flat_map (lines_in s) placed in
-    let begun = c.in_ok-put_components.ensures.lines s c.in_ok-surroundings.ensures in
-    let swept = rw c.new-boxes.ensures.items at c.in_ok-put_components.ensures.boxes in
-    let all = rw (c.deref.ensures.value, c.in_ok-keep_outs.ensures) at (c.put_lines_between.ensures placed before own swept begun) in
+    let those = ap (map boxed_view) c.deref.ensures.value ∙ c.in_ok-components.ensures in
+    let begun = rw those at (c.in_ok-put_components.ensures.lines s c.in_ok-surroundings.ensures) in
+    let swept = rw (c.new-boxes.ensures.items, those) at c.in_ok-put_components.ensures.boxes in
+    let all = rw (c.deref-2.ensures.value, c.in_ok-keep_outs.ensures) at (c.put_lines_between.ensures placed before own swept begun) in
     subst (λ (u : ℕ). OnOk c.put_lines_between.result (SameLines c.put_lines_between.new.lines (before ++ (pair_lines overlap_of (filter_map (box_of library u) design) ++ (flat_map (lines_in s) (filter_map (box_of library u) design) ++ cross_lines blocked_of (filter_map (box_of library u) design) (keep_outs design)))))) c.scale_of.ensures all

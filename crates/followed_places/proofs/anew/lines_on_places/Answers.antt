@@ -28,15 +28,15 @@ surroundings_of-requires-clause-few g c =
     let told = c.surroundings_are_told.ensures c.args.library.now design in
     rw (ap scale around ∙ told.scale) (rw c.statements_are_kept.ensures.said at c.units_are_good.ensures.few)
 
-pub put_all_components-requires-clause-some : goal.put_all_components-requires-clause-some
-put_all_components-requires-clause-some g c =
+pub lines_in_halves-requires-clause-some : goal.lines_in_halves-requires-clause-some
+lines_in_halves-requires-clause-some g c =
     let design = design_of c.args.text.now in
     let around : records_view c.deref.result.now ≡ filter surrounds_or_blocks design = ap records_view c.deref.ensures.value ∙ c.in_ok-around.ensures in
     let told = c.surroundings_are_told.ensures c.args.library.now design in
     rw (c.scale_of-scale.ensures ∙ ap scale around ∙ told.scale) (rw c.statements_are_kept.ensures.said at c.units_are_good.ensures.some)
 
-pub put_all_components-requires-clause-few : goal.put_all_components-requires-clause-few
-put_all_components-requires-clause-few g c =
+pub lines_in_halves-requires-clause-few : goal.lines_in_halves-requires-clause-few
+lines_in_halves-requires-clause-few g c =
     let design = design_of c.args.text.now in
     let around : records_view c.deref.result.now ≡ filter surrounds_or_blocks design = ap records_view c.deref.ensures.value ∙ c.in_ok-around.ensures in
     let told = c.surroundings_are_told.ensures c.args.library.now design in
@@ -46,16 +46,10 @@ pub returns : goal.returns
 returns g c =
     let library = c.args.library.now in
     let design = design_of c.args.text.now in
-    let s = surroundings library design in
     let told = c.surroundings_are_told.ensures library design in
     let around : records_view c.deref-2.result.now ≡ filter surrounds_or_blocks design = ap records_view c.deref-2.ensures.value ∙ c.in_ok-around.ensures in
     let units : c.scale_of-scale.result ≡ scale design = c.scale_of-scale.ensures ∙ ap scale (ap records_view c.deref.ensures.value ∙ c.in_ok-around.ensures) ∙ told.scale in
     let outs : map rectangle_of c.deref-4.result.now ≡ keep_outs design =
     ap (map rectangle_of) c.deref-4.ensures.value ∙ c.in_ok-keep_outs.ensures ∙ ap keep_outs (ap records_view c.deref-3.ensures.value ∙ c.in_ok-around.ensures) ∙ told.keep_outs in
     let same = rw (ap (surroundings library) around ∙ told.surroundings) at c.in_ok-surroundings.ensures in
-    let placed = filter_map (box_of library c.scale_of-scale.result) design in
-    let own = flat_map (lines_in s) placed in
-    let begun = c.in_ok-put_all_components.ensures.lines s same ∙ ap (λ (l : List (List ℕ)). l ++ own) c.new-lines.ensures in
-    let swept = rw c.in_ok-boxes.ensures.items at c.in_ok-put_all_components.ensures.boxes in
-    let all = rw outs at (c.in_ok-put_lines_between.ensures placed [] own swept begun) in
-    subst (λ (u : ℕ). SameLines c.put_lines_between.new.lines (pair_lines overlap_of (filter_map (box_of library u) design) ++ (flat_map (lines_in s) (filter_map (box_of library u) design) ++ cross_lines blocked_of (filter_map (box_of library u) design) (keep_outs design)))) units all
+    rw (outs, units) at (c.in_ok-lines.ensures (surroundings library design) same)
