@@ -202,6 +202,43 @@ fn on_places_of<A: Allocator + Copy>(
     Ok(KeptLines::of(lines_on_places(alloc, library, text)?))
 }
 
+/// Makes the lines on the statements of a text known, few statements at a time.
+fn know_statements_of<A: Allocator + Copy>(
+    alloc: A,
+    library: &Library<'_, A>,
+    text: &DesignText<A>,
+    known: &mut KnownLines<A>,
+) -> Result<(), AllocError>
+    requires { AreKnown library.now (design_of text.now) known.old }
+    ensures known { AreKnown library.now (design_of text.now) known.new }
+    ensures nets { known.new.nets ≡ known.old.nets }
+    ensures statements { OnOk result (IsSome known.new.statements) }
+{
+    if known.statements.is_none() {
+        known.statements = Some(on_statements_of(alloc, library, text)?);
+    }
+    Ok(())
+}
+
+/// Makes the lines on the components of a text known, few statements at a time.
+fn know_places_of<A: Allocator + Copy>(
+    alloc: A,
+    library: &Library<'_, A>,
+    text: &DesignText<A>,
+    known: &mut KnownLines<A>,
+) -> Result<(), AllocError>
+    requires { AreKnown library.now (design_of text.now) known.old }
+    ensures known { AreKnown library.now (design_of text.now) known.new }
+    ensures nets { known.new.nets ≡ known.old.nets }
+    ensures statements { known.new.statements ≡ known.old.statements }
+    ensures places { OnOk result (IsSome known.new.places) }
+{
+    if known.places.is_none() {
+        known.places = Some(on_places_of(alloc, library, text)?);
+    }
+    Ok(())
+}
+
 /// Makes the lines on statements and on components known, where those on nets are. All statements are never held at once.
 fn know_by_few<A: Allocator + Copy>(
     alloc: A,
@@ -215,12 +252,8 @@ fn know_by_few<A: Allocator + Copy>(
     ensures all { OnOk result (AllKnown known.new) }
 {
     text.design_is_read();
-    if known.statements.is_none() {
-        known.statements = Some(on_statements_of(alloc, library, text)?);
-    }
-    if known.places.is_none() {
-        known.places = Some(on_places_of(alloc, library, text)?);
-    }
+    know_statements_of(alloc, library, text, known)?;
+    know_places_of(alloc, library, text, known)?;
     Ok(())
 }
 

@@ -29,5 +29,5 @@ returns g c =
     let those = ap (map boxed_view) c.deref.ensures.value ∙ c.in_ok-components.ensures in
     let begun = rw those at (c.in_ok-put_components.ensures.lines s c.in_ok-surroundings.ensures) in
     let swept = rw (c.new-boxes.ensures.items, those) at c.in_ok-put_components.ensures.boxes in
-    let all = rw (c.deref-2.ensures.value, c.in_ok-keep_outs.ensures) at (c.put_lines_between.ensures placed before own swept begun) in
+    let all = rw (c.deref-2.ensures.value, c.in_ok-keep_outs.ensures) at (c.put_lines_between.ensures.lines placed before own swept begun) in
     subst (λ (u : ℕ). OnOk c.put_lines_between.result (SameLines c.put_lines_between.new.lines (before ++ (pair_lines overlap_of (filter_map (box_of library u) design) ++ (flat_map (lines_in s) (filter_map (box_of library u) design) ++ cross_lines blocked_of (filter_map (box_of library u) design) (keep_outs design)))))) c.scale_of.ensures all

@@ -15,4 +15,4 @@ returns-clause-lines g c = λ done.
     let entries = map record_view c.in-Some.entries.items in
     let once : ListsOnce component design entries = rw (c.in-Some.is) at (c.in_ok-entries.ensures.once) in
     listed_lines library design entries component c.args.lines.now c.put_statements.new.lines once
-    ((rw (c.new-checks.ensures) at (c.in_ok-put_statements.ensures)) ∙ ap (λ (some : List Statement). c.args.lines.now ++ flat_map (statement_lines library design) (map record_view some)) c.deref.ensures.value)
+    ((rw (c.new-checks.ensures) at (c.in_ok-put_statements.ensures.lines)) ∙ ap (λ (some : List Statement). c.args.lines.now ++ flat_map (statement_lines library design) (map record_view some)) c.deref.ensures.value)
