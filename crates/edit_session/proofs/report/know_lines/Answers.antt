@@ -15,3 +15,6 @@ returns-then-are_all-clause-known g c = c.know_no_nets.ensures c.args.library.no
 
 pub know_all_but_nets-requires : goal.know_all_but_nets-requires
 know_all_but_nets-requires g c = c.know_no_nets.ensures c.args.library.now c.requires
+
+pub know_by_few-requires-clause-known : goal.know_by_few-requires-clause-known
+know_by_few-requires-clause-known g c = c.know_no_nets.ensures c.args.library.now c.requires
