@@ -37,6 +37,7 @@ use Rattle.followed_nets.specs.Listed.{AreApart}
 use Rattle.followed_nets.specs.Noted.{AreCommon, said}
 use Rattle.followed_nets.specs.Pieces.{AreOnPieces, ArePieces, Piece, piece_of}
 use Rattle.followed_nets.specs.StarExchanges.{AwaitsOwn, HaveComponent, nets_of}
+use Rattle.followed_nets.specs.StarTests.{FewForStars}
 use Rattle.followed_nets.specs.Stars.{AreStarNames, AreStars, IsStar, names_of}
 use Rattle.followed_nets.specs.Tests.{near_each, near_own, near_pairs, near_told}
 use Rattle.followed_nets.specs.Told.{IsToldIn, Told}
@@ -47,6 +48,7 @@ use Rattle.followed_nets.proofs.OwnPairs.{own_is_few}
 use Rattle.followed_nets.proofs.PartedNets.{Splits, as_pieces, both_pieces, in_parts, lines_as_nets, made_whole, shapes_as_nets, told_pieces}
 use Rattle.followed_nets.proofs.PinPieces.{left_piece, net_splits, pins_piece, pins_told, same_left, they_are_pins}
 use Rattle.followed_nets.proofs.ShortLines.{same_shorts}
+use Rattle.followed_nets.proofs.StarPairs.{both_few, plainly_few, stars_few}
 
 tells : (library : Library) (bars : List Barrier) (design : List Record) (ts : List Told) → AreToldIn library bars design ts → AllTell design (map name_of ts)
 tells library bars design [] told = tt
@@ -377,6 +379,27 @@ module _ (library : Library) (records then_records : List (StmtId × Record)) (n
       let awaits = subst (λ (ps : List StarPins). AwaitsOwn library old new (name own) kept_nets ps) (pins_are own refl) (awaits_own lines_follow exchange (name own) is) in
       let have = some old kept_nets (fits.own (name own) is).1 awaits in
       record { parts = exchanged_stars lines_follow exchange (name own) is gone come then_kept have; then_stars = then_stars lines_follow exchange (name own) is gone come then_kept have }
+
+  -- so few pairs are compared to tell the nets, and those that are kept with their parts
+  pub all_few : {C : Type 0} (component : Option C) (name : C → List ℕ) (own_pins : C → List StarPins) → t.component ≡ option_map name component → ((own : C) → component ≡ Some own → t.stars ≡ own_pins own)
+      → PinLinesFollow → OneComponentExchanged → (gone come : List Told) (then_kept : Option (List Net)) (begun tests : ℕ)
+      → IfNone component (tests ≡ begun)
+      → IfSome component (λ own. (d : List Record) (kept_nets : List Net) → noted.stars ≡ Some kept_nets → AwaitsOwn library d new (name own) kept_nets (own_pins own)
+      → HaveComponent library d new (name own) (names_of kept_nets) t.before after then_kept gone come)
+      → IfSome component (λ own. (kept_nets : List Net) → noted.stars ≡ Some kept_nets → FewForStars kept_nets then_kept begun tests)
+      → begun ≤ near_own t.before + near_own after
+      → tests ≤ near_pairs library old (t.names ++ stars) + near_pairs library new (t.names ++ stars)
+  all_few None name own_pins is pins_are lines_follow exchange gone come then_kept begun tests none some few start = plainly_few tests begun _ _ _ _ start none own_few then_own_few
+  all_few (Some own) name own_pins is pins_are lines_follow exchange gone come then_kept begun tests none some few start =
+      let kept_nets = kept_stars lines_follow exchange (name own) is in
+      let there = (fits.own (name own) is).1 in
+      let named = (fits.own (name own) is).2 in
+      let awaits = subst (λ (ps : List StarPins). AwaitsOwn library old new (name own) kept_nets ps) (pins_are own refl) (awaits_own lines_follow exchange (name own) is) in
+      let have = some old kept_nets there awaits in
+      let compared = subst (λ (s : Option (List Net)). FewForStars kept_nets s begun tests) have.kept_are (few kept_nets there) in
+      let before = both_few library old t.names stars stay told.exchange.old_is old_bars t.before kept_nets touched.told touched.named (are_kept kept_nets there).kept (sym named) in
+      let then = both_few library new t.names stars stay told.exchange.new_is old_bars after have.stars then_told then_named have.own.kept (have.own.same_names ∙ sym named) in
+      stars_few tests begun _ _ _ _ _ _ start compared before then
 
 pub if_none_so : {C P Q : Type 0} (o : Option C) → (P → Q) → IfNone o P → IfNone o Q
 if_none_so None f h = f h

@@ -28,6 +28,7 @@ mod PinsAlone
 mod SameParts
 mod ShortLines
 pub mod StarHeadLemmas
+mod StarPairs
 mod StarsLeft
 pub mod TellLemmas
 pub mod TellOneLemmas

@@ -34,13 +34,13 @@ plain_part : (n : Net) (pin : Bool) (ss : List Shape) → plain (shapes_of_part 
 plain_part n pin [] = refl
 plain_part n pin (s ∷ ss) = ap (λ (l : List Shape). s ∷ l) (plain_part n pin ss)
 
-plain_parts : (n : Net) (ps : List Part) → plain (flat_map (shapes_of_part n) ps) ≡ shapes_in ps
+pub plain_parts : (n : Net) (ps : List Part) → plain (flat_map (shapes_of_part n) ps) ≡ shapes_in ps
 plain_parts n [] = refl
 plain_parts n (p ∷ ps) =
     map-append (λ (s : NetShape). s.shape) (shapes_of_part n p) (flat_map (shapes_of_part n) ps)
     ∙ ap₂ (λ (a b : List Shape). a ++ b) (plain_part n p.is_pin p.shapes) (plain_parts n ps)
 
-sum_in_parts : (w : Shape → ℕ) (ps : List Part) → sum_by w (shapes_in ps) ≡ sum_by (λ (p : Part). sum_by w p.shapes) ps
+pub sum_in_parts : (w : Shape → ℕ) (ps : List Part) → sum_by w (shapes_in ps) ≡ sum_by (λ (p : Part). sum_by w p.shapes) ps
 sum_in_parts w [] = refl
 sum_in_parts w (p ∷ ps) =
     let r = sum_in_parts w ps in

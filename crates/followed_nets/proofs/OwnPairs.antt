@@ -64,14 +64,14 @@ module _ (library : Library) (design : List Record) (names more : List (List ℕ
         sum_by-cons (λ (m : Net). near_shapes s (plain (shapes_of_net m))) n nets,
       )
 
-  near_some : (s : Shape) → sum_by (λ (name : List ℕ). near_shapes s (own_of name)) names ≤ near s
+  pub near_some : (s : Shape) → sum_by (λ (name : List ℕ). near_shapes s (own_of name)) names ≤ near s
   near_some s =
       let v = λ (n : Net). near_shapes s (plain (shapes_of_net n)) in
       let u = λ (name : List ℕ). near_shapes s (own_of name) in
       let whole = near_nets_of s (all_nets library design (scale design)) ∙ all_are.sums v in
       omega (arith, whole, sum_by-append v (nets_of library design (names ++ more)) stay, sums_mapped v (net_named library design (scale design)) (names ++ more), sum_by-append u names more)
 
-  near_each_own : (some : List (List ℕ)) → ((s : Shape) → sum_by (λ (name : List ℕ). near_shapes s (own_of name)) some ≤ near s)
+  pub near_each_own : (some : List (List ℕ)) → ((s : Shape) → sum_by (λ (name : List ℕ). near_shapes s (own_of name)) some ≤ near s)
       → sum_by (λ (name : List ℕ). near_themselves (own_of name)) some ≤ sum_by (λ (name : List ℕ). sum_by near (own_of name)) some
   near_each_own [] low = omega arith
   near_each_own (name ∷ some) low =
@@ -80,7 +80,7 @@ module _ (library : Library) (design : List Record) (names more : List (List ℕ
       let later = near_each_own some (λ s. let l = low s in let c = one s in omega (arith, l, c)) in
       omega (arith, here, later, sum_by-cons (λ (n : List ℕ). near_themselves (own_of n)) name some, sum_by-cons (λ (n : List ℕ). sum_by near (own_of n)) name some)
 
-  own_told : (bars : List Barrier) (ts : List Told) → AreToldIn library bars design ts → near_own ts ≡ sum_by (λ (name : List ℕ). near_themselves (own_of name)) (map name_of ts)
+  pub own_told : (bars : List Barrier) (ts : List Told) → AreToldIn library bars design ts → near_own ts ≡ sum_by (λ (name : List ℕ). near_themselves (own_of name)) (map name_of ts)
   own_told bars [] told = refl
   own_told bars (t ∷ ts) told =
       let here = ap near_themselves (shapes_told library design bars t told.0) in
@@ -99,5 +99,5 @@ module _ (library : Library) (design : List Record) (names more : List (List ℕ
 pub told_few : (start gone come gone_tests come_tests told then_told : ℕ) → start ≤ gone + come → gone ≤ gone_tests → come ≤ come_tests → gone_tests ≤ told → come_tests ≤ then_told → start ≤ told + then_told
 told_few start gone come gone_tests come_tests told then_told begun a b c d = omega (arith, begun, a, b, c, d)
 
-pub twice : (n start out put old new told then_told : ℕ) → n ≤ start + (out + put) → start ≤ told + then_told → out ≤ old → put ≤ new → told ≤ old → then_told ≤ new → n ≤ 2 * (old + new)
-twice n start out put old new told then_told few begun a b c d = omega (arith, few, begun, a, b, c, d)
+pub twice : (n start out put old new : ℕ) → n ≤ start + (out + put) → start ≤ old + new → out ≤ old → put ≤ new → n ≤ 2 * (old + new)
+twice n start out put old new few begun a b = omega (arith, few, begun, a, b)

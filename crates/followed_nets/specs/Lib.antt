@@ -10,6 +10,7 @@ pub mod Pieces
 pub mod StarExchanges
 pub mod StarHeadViews
 pub mod StarHeads
+pub mod StarTests
 pub mod Stars
 pub mod SubjectViews
 pub mod Tests

@@ -81,12 +81,13 @@ pub(crate) fn without_same<A: Allocator + Copy>(
 ) -> Result<ToldExchange<A>, AllocError>
     ensures { IfOk result (λ e. LackTheSame (map told_view e.gone.items) (map told_view e.come.items) (map told_view told.gone.items) (map told_view told.come.items)) }
 {
-    let ToldExchange { gone, come } = told;
+    let ToldExchange { gone, come, tests } = told;
     let mut gone = gone;
     let mut come = come;
     let mut changed = ToldExchange {
         gone: Vec::new(alloc),
         come: Vec::new(alloc),
+        tests,
     };
     while let Some(out) = gone.pop() {
         match come.pop() {

@@ -193,7 +193,11 @@ pub(crate) fn exchange_nets<A: Allocator + Copy>(
 {
     short_is_symmetric();
     same_lines_sort_alike();
-    let ToldExchange { gone, come } = without_same(alloc, told)?;
+    let ToldExchange {
+        gone,
+        come,
+        tests: _,
+    } = without_same(alloc, told)?;
     let Some(left) = take_out_nets(alloc, layers, shapes, gone, start)? else {
         return Ok(None);
     };

@@ -23,6 +23,7 @@ ghost use Rattle.followed_nets.specs.Noted.{AreCommon, said};
 ghost use Rattle.followed_nets.specs.Pieces.{AreOnPieces, ArePieces, Piece};
 ghost use Rattle.followed_nets.specs.StarExchanges.{AwaitsOwn, HaveComponent};
 ghost use Rattle.followed_nets.specs.Stars.{IsStar, names_of};
+ghost use Rattle.followed_nets.specs.StarTests.{FewForStars};
 ghost use Rattle.followed_nets.specs.SubjectViews.{subject_view};
 ghost use Rattle.followed_nets.specs.Tests.{FewBarred, FewTests, near_barred, near_pairs, near_told};
 ghost use Rattle.followed_nets.specs.ToldViews.{star_view, stars_of, told_view};
@@ -332,6 +333,7 @@ impl<A: Allocator + Copy> FollowedNets<A> {
         ensures heads { self.new.heads ≡ self.old.heads }
         ensures own { (old : List Record) (stars : List Net) → self.old.stars ≡ Some stars → AwaitsOwn library.now old (said (records_in text.now)) own.name stars (map star_view own.stars.items)
             → IfOk result (λ found. IfSome found (λ e. HaveComponent library.now old (said (records_in text.now)) own.name (names_of stars) (map told_view told.gone.items) (map told_view told.come.items) self.new.stars (map told_view e.gone.items) (map told_view e.come.items))) }
+        ensures few { (stars : List Net) → self.old.stars ≡ Some stars → IfOk result (λ found. IfSome found (λ e. FewForStars stars self.new.stars told.tests e.tests)) }
     {
         text.statements_are_kept();
         let Some(stars) = self.stars.take() else {
@@ -346,9 +348,14 @@ impl<A: Allocator + Copy> FollowedNets<A> {
         let Some(exchanged) = exchange_stars(alloc, stars, own.stars, after)? else {
             return Ok(None);
         };
-        let ExchangedStars { stars, gone, come } = exchanged;
+        let ExchangedStars {
+            stars,
+            gone,
+            come,
+            tests,
+        } = exchanged;
         self.stars = Some(stars);
-        let all = with_more(told, gone, come)?;
+        let all = with_more(told, gone, come, tests)?;
         Ok(Some(all))
     }
 
@@ -370,6 +377,7 @@ impl<A: Allocator + Copy> FollowedNets<A> {
         ensures none { IfNone component (self.new.stars ≡ self.old.stars × IfOk result (λ found. IfSome found (λ e. e ≡ told))) }
         ensures own { IfSome component (λ own. (old : List Record) (stars : List Net) → self.old.stars ≡ Some stars → AwaitsOwn library.now old (said (records_in text.now)) own.name stars (map star_view own.stars.items)
             → IfOk result (λ found. IfSome found (λ e. HaveComponent library.now old (said (records_in text.now)) own.name (names_of stars) (map told_view told.gone.items) (map told_view told.come.items) self.new.stars (map told_view e.gone.items) (map told_view e.come.items)))) }
+        ensures few { IfSome component (λ _. (stars : List Net) → self.old.stars ≡ Some stars → IfOk result (λ found. IfSome found (λ e. FewForStars stars self.new.stars told.tests e.tests))) }
     {
         match component {
             Some(own) => self.exchange_own(alloc, library, text, own, told),
@@ -469,11 +477,15 @@ impl<A: Allocator + Copy> FollowedNets<A> {
         let told = ToldExchange {
             gone: before,
             come: after,
+            tests,
         };
         let Some(all) = self.exchange_stars(alloc, library, text, component, told)? else {
             return Ok(None);
         };
-        let start = FollowedOnNets { lines: kept, tests };
+        let start = FollowedOnNets {
+            lines: kept,
+            tests: all.tests,
+        };
         let Some(followed) = self.exchange(alloc, library, all, start)? else {
             return Ok(None);
         };

@@ -1,5 +1,5 @@
 -- What is known of the parts of a net, of which one goes or comes.
-use Rattle.std.proofs.Common.{◌≡◌, ◌∙◌, List, [], ◌∷◌, ◌++◌, Option, Some, sym, ap, arith, map, subst, sum_by}
+use Rattle.std.proofs.Common.{◌≡◌, ◌∙◌, List, [], ◌∷◌, ◌++◌, Option, Some, None, sym, ap, arith, map, subst, sum_by}
 use Rattle.std.specs.Prelude.{IfSome}
 use Rattle.std.proofs.lemmas.List.{map-append}
 use Rattle.std.proofs.lemmas.List.Sums.{sum_by-append, sum_by-cons}
@@ -8,6 +8,10 @@ use Rattle.line_laws.specs.Lines.{SameThings}
 -- what holds of a thing that may be there, where it is
 pub at_some : {X : Type 0} (P : X → Type 0) (o : Option X) (x : X) → o ≡ Some x → IfSome o P → P x
 at_some P o x is h = subst (λ o. IfSome o P) is h
+
+-- and where it isn't there
+pub at_none : {X : Type 0} (P : X → Type 0) (o : Option X) → o ≡ None → IfSome o P
+at_none P o is = subst (λ o. IfSome o P) (sym is) tt
 
 -- one is put behind others
 pub pushed_behind : {A B : Type 0} (f : A → B) (xs new : List A) (x : A) → new ≡ xs ++ x ∷ [] → SameThings (map f new) (f x ∷ map f xs)

@@ -7,6 +7,7 @@ ghost use Rattle.kept_nets.specs.Kept.{AreShapesOf};
 ghost use Rattle.kept_nets.specs.Parts.{part_view};
 
 use crate::listing::{classes_at, classes_with};
+use crate::looks::{Looks, touched_within};
 use crate::near::further;
 use crate::part::KeptPart;
 use class_laws::{alone_is_a_class, few_tell};
@@ -27,17 +28,37 @@ pub(crate) enum Joint {
 /// How often parts are looked at, each time some more of them.
 const ROUNDS: usize = 6;
 
-/// Whether a pin is in a class, with another pin, of the parts at some places.
+/// How many shapes the parts at some places have.
+fn count_at<A: Allocator + Copy>(parts: &[KeptPart<A>], places: &[usize]) -> u64 {
+    let mut count: u64 = 0;
+    for place in places {
+        if let Some(part) = parts.get(*place) {
+            count = count.saturating_add(part.shapes.len() as u64);
+        }
+    }
+    count
+}
+
+/// Whether a pin is in a class, with another pin, of the parts at some places; no where too many shapes would be compared.
 fn is_within<A: Allocator + Copy>(
     alloc: A,
     part: &KeptPart<A>,
     parts: &[KeptPart<A>],
     places: &[usize],
+    looks: &mut Looks,
 ) -> Result<bool, AllocError>
     ensures { IfOk result (λ yes. IsTrue yes → IsInAClass (part_view part.now) (parts_at (map part_view parts.now) places.now)) }
 {
-    let without = classes_at(alloc, parts, places)?.counts;
-    let with = classes_with(alloc, part, parts, places)?.counts;
+    let count = count_at(parts, places).saturating_add(part.shapes.len() as u64);
+    if !looks.have_room(count.saturating_mul(count).saturating_mul(2)) {
+        return Ok(false);
+    }
+    let without = classes_at(alloc, parts, places)?;
+    let with = classes_with(alloc, part, parts, places)?;
+    looks.add(without.tests);
+    looks.add(with.tests);
+    let without = without.classes.counts;
+    let with = with.classes.counts;
     Ok(with.holding == without.holding && with.bare == without.bare)
 }
 
@@ -63,6 +84,7 @@ fn joint_by<A: Allocator + Copy>(
     parts: &[KeptPart<A>],
     shapes: &PlacedShapes<A>,
     near: &[usize],
+    looks: &mut Looks,
 ) -> Result<Joint, AllocError>
     requires pin { part.now.is_pin ≡ true }
     requires near { AreJoinedAt (part_view part.now) (map part_view parts.now) near.now }
@@ -72,10 +94,10 @@ fn joint_by<A: Allocator + Copy>(
     let mut more = Vec::new(alloc);
     for round in 0..ROUNDS {
         let places = with_more(alloc, near, more)?;
-        if is_within(alloc, part, parts, &places)? {
+        if is_within(alloc, part, parts, &places, looks)? {
             return Ok(Joint::Within);
         }
-        more = further(alloc, part, parts, shapes, &places, round)?;
+        more = further(alloc, part, parts, shapes, &places, round, looks)?;
     }
     Ok(Joint::Open)
 }
@@ -86,6 +108,7 @@ pub(crate) fn joint_of<A: Allocator + Copy>(
     part: &KeptPart<A>,
     parts: &[KeptPart<A>],
     shapes: &PlacedShapes<A>,
+    looks: &mut Looks,
 ) -> Result<Joint, AllocError>
     requires { AreShapesOf (map part_view parts.now) shapes.now }
     ensures { IfOk result (λ j. HangsBy j (part_view part.now) (map part_view parts.now)) }
@@ -94,9 +117,11 @@ pub(crate) fn joint_of<A: Allocator + Copy>(
     if !part.is_pin {
         return Ok(Joint::Open);
     }
-    let near = shapes.touched(alloc, part.shapes.as_slice())?;
+    let Some(near) = touched_within(alloc, shapes, part.shapes.as_slice(), looks)? else {
+        return Ok(Joint::Open);
+    };
     if near.is_empty() {
         return Ok(Joint::Alone);
     }
-    joint_by(alloc, part, parts, shapes, &near)
+    joint_by(alloc, part, parts, shapes, &near, looks)
 }

@@ -1,16 +1,17 @@
 //! Parts as a net of a list.
 
-ghost use Rattle.std.specs.Prelude.{◌≡◌, ◌<◌, ◌^◌, ◌∷◌, ◌++◌, [], IfOk, List, OnOk, length, map};
+ghost use Rattle.std.specs.Prelude.{◌≡◌, ◌<◌, ◌≤◌, ◌∷◌, ◌++◌, [], IfOk, List, OnOk, length, map};
 ghost use Rattle.connection_rules.specs.NetParts.{Net};
-ghost use Rattle.connection_rules.specs.PartClasses.{with_pins, without_pins};
 ghost use Rattle.net_lists.specs.Building.{last_parts, with_parts, with_shapes};
 ghost use Rattle.net_lists.specs.PartCuts.{shape_view};
 ghost use Rattle.class_laws.specs.OneMore.{parts_at};
 ghost use Rattle.kept_nets.specs.Kept.{HangAs};
+ghost use Rattle.kept_nets.specs.NearParts.{near_in_parts};
 ghost use Rattle.kept_nets.specs.Parts.{part_view};
 
+use crate::counted::{CountedClasses, classes_of_net};
 use crate::part::KeptPart;
-use net_classes::{NetClasses, net_classes_of};
+use net_classes::NetClasses;
 use net_lists::{NetList, NetShape, building_a_net};
 use part_classes::Counts;
 use std::alloc::{AllocError, Allocator};
@@ -79,19 +80,22 @@ fn put_parts_at<A: Allocator + Copy>(
 fn classes_in<A: Allocator + Copy>(
     alloc: A,
     nets: &NetList<'_, A>,
-) -> Result<NetClasses, AllocError>
-    ensures classes { (net : Net) → nets.now ≡ net ∷ [] → IfOk result (HangAs net.parts) }
-    ensures few { IfOk result (λ c. (c.counts.holding < 2 ^ 63) × (c.counts.bare < 2 ^ 63)) }
+) -> Result<CountedClasses, AllocError>
+    ensures classes { (net : Net) → nets.now ≡ net ∷ [] → IfOk result (λ c. HangAs net.parts c.classes) }
+    ensures tests { (net : Net) → nets.now ≡ net ∷ [] → IfOk result (λ c. c.tests ≤ near_in_parts net.parts) }
 {
     let mut left = nets.nets();
     match left.next() {
-        Some(net) => net_classes_of(alloc, &net),
-        None => Ok(NetClasses {
-            counts: Counts {
-                holding: 0,
-                bare: 0,
+        Some(net) => classes_of_net(alloc, &net),
+        None => Ok(CountedClasses {
+            classes: NetClasses {
+                counts: Counts {
+                    holding: 0,
+                    bare: 0,
+                },
+                is_drawn: false,
             },
-            is_drawn: false,
+            tests: 0,
         }),
     }
 }
@@ -100,9 +104,9 @@ fn classes_in<A: Allocator + Copy>(
 pub(crate) fn classes_of_parts<A: Allocator + Copy>(
     alloc: A,
     parts: &[KeptPart<A>],
-) -> Result<NetClasses, AllocError>
-    ensures classes { IfOk result (HangAs (map part_view parts.now)) }
-    ensures few { IfOk result (λ c. (c.counts.holding < 2 ^ 63) × (c.counts.bare < 2 ^ 63)) }
+) -> Result<CountedClasses, AllocError>
+    ensures classes { IfOk result (λ c. HangAs (map part_view parts.now) c.classes) }
+    ensures tests { IfOk result (λ c. c.tests ≤ near_in_parts (map part_view parts.now)) }
 {
     building_a_net();
     let mut nets = NetList::new(alloc);
@@ -116,8 +120,8 @@ pub(crate) fn classes_at<A: Allocator + Copy>(
     alloc: A,
     parts: &[KeptPart<A>],
     places: &[usize],
-) -> Result<NetClasses, AllocError>
-    ensures { IfOk result (HangAs (parts_at (map part_view parts.now) places.now)) }
+) -> Result<CountedClasses, AllocError>
+    ensures { IfOk result (λ c. HangAs (parts_at (map part_view parts.now) places.now) c.classes) }
 {
     building_a_net();
     let mut nets = NetList::new(alloc);
@@ -132,8 +136,8 @@ pub(crate) fn classes_with<A: Allocator + Copy>(
     part: &KeptPart<A>,
     parts: &[KeptPart<A>],
     places: &[usize],
-) -> Result<NetClasses, AllocError>
-    ensures { IfOk result (HangAs (part_view part.now ∷ parts_at (map part_view parts.now) places.now)) }
+) -> Result<CountedClasses, AllocError>
+    ensures { IfOk result (λ c. HangAs (part_view part.now ∷ parts_at (map part_view parts.now) places.now) c.classes) }
 {
     building_a_net();
     let mut nets = NetList::new(alloc);

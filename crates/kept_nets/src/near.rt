@@ -1,6 +1,7 @@
 //! Which parts are looked at next, near those that were looked at. It is a guess, which nothing hangs on but how soon it is found how a pin
 //! hangs together with others.
 
+use crate::looks::{Looks, touched_within};
 use crate::part::KeptPart;
 use design_model::geometry::{Point, Rect};
 use net_lists::NetShape;
@@ -55,7 +56,11 @@ fn touching_one<A: Allocator + Copy>(
     own: &NetShape,
     window: Option<Rect>,
     other: Option<usize>,
+    looks: &mut Looks,
 ) -> Option<usize> {
+    if !looks.have_room(0) {
+        return other;
+    }
     let seen = match window {
         Some(window) => common(window, own.rect),
         None => Some(own.rect),
@@ -63,11 +68,12 @@ fn touching_one<A: Allocator + Copy>(
     let Some(rect) = seen else {
         return other;
     };
-    let (pin, _) = shapes
+    let (pin, tests) = shapes
         .tiles()
         .for_met(own.layer, rect, other, |pin, _, met| {
             pin_or(parts, met.net, pin)
         });
+    looks.add(tests);
     pin
 }
 
@@ -77,10 +83,11 @@ fn touching_pin<A: Allocator + Copy>(
     shapes: &PlacedShapes<A>,
     own: &[NetShape],
     window: Option<Rect>,
+    looks: &mut Looks,
 ) -> Option<usize> {
     let mut pin = None;
     for shape in own {
-        pin = touching_one(parts, shapes, shape, window, pin);
+        pin = touching_one(parts, shapes, shape, window, pin, looks);
     }
     pin
 }
@@ -92,11 +99,13 @@ fn touching_pins<A: Allocator + Copy>(
     shapes: &PlacedShapes<A>,
     places: &[usize],
     window: Option<Rect>,
+    looks: &mut Looks,
 ) -> Result<Vec<usize, A>, AllocError> {
     let mut pins = Vec::new(alloc);
     for place in places {
         if let Some(part) = parts.get(*place) {
-            if let Some(pin) = touching_pin(parts, shapes, part.shapes.as_slice(), window) {
+            let own = part.shapes.as_slice();
+            if let Some(pin) = touching_pin(parts, shapes, own, window, looks) {
                 pins.push(pin)?;
             }
         }
@@ -111,13 +120,16 @@ fn push_touching<A: Allocator + Copy>(
     shapes: &PlacedShapes<A>,
     place: usize,
     found: &mut Vec<usize, A>,
+    looks: &mut Looks,
 ) -> Result<(), AllocError> {
     if found.len() >= MANY {
         return Ok(());
     }
     if let Some(part) = parts.get(place) {
-        let mut more = shapes.touched(alloc, part.shapes.as_slice())?;
-        found.append(&mut more)?;
+        if let Some(more) = touched_within(alloc, shapes, part.shapes.as_slice(), looks)? {
+            let mut more = more;
+            found.append(&mut more)?;
+        }
     }
     Ok(())
 }
@@ -128,10 +140,11 @@ fn all_touching<A: Allocator + Copy>(
     parts: &[KeptPart<A>],
     shapes: &PlacedShapes<A>,
     places: &[usize],
+    looks: &mut Looks,
 ) -> Result<Vec<usize, A>, AllocError> {
     let mut found = Vec::new(alloc);
     for place in places {
-        push_touching(alloc, parts, shapes, *place, &mut found)?;
+        push_touching(alloc, parts, shapes, *place, &mut found, looks)?;
     }
     found.sort_unstable();
     found.dedup();
@@ -147,10 +160,11 @@ pub(crate) fn further<A: Allocator + Copy>(
     shapes: &PlacedShapes<A>,
     places: &[usize],
     round: usize,
+    looks: &mut Looks,
 ) -> Result<Vec<usize, A>, AllocError> {
     match round {
-        0 => touching_pins(alloc, parts, shapes, places, window_of(pin)),
-        1 => touching_pins(alloc, parts, shapes, places, None),
-        _ => all_touching(alloc, parts, shapes, places),
+        0 => touching_pins(alloc, parts, shapes, places, window_of(pin), looks),
+        1 => touching_pins(alloc, parts, shapes, places, None, looks),
+        _ => all_touching(alloc, parts, shapes, places, looks),
     }
 }

@@ -1,16 +1,19 @@
 //! A net with parts of its own.
 
-ghost use Rattle.std.specs.Prelude.{◌≡◌, ◌∷◌, ◌++◌, [], IfOk, IsTrue, OnOk, flat_map, map};
+ghost use Rattle.std.specs.Prelude.{◌≡◌, ◌≤◌, ◌∷◌, ◌++◌, [], IfOk, IfSome, IsTrue, List, OnOk, flat_map, map};
 ghost use Rattle.connection_rules.specs.NetLines.{class_lines, routeblock_of, shapes_of_net, shapes_of_part};
+ghost use Rattle.connection_rules.specs.NetParts.{Part};
 ghost use Rattle.design_model.specs.Families.{cross_lines};
 ghost use Rattle.line_laws.specs.Lines.{SameThings};
 ghost use Rattle.net_lists.specs.NetViews.{net_view, net_with};
 ghost use Rattle.net_touches.specs.Barriers.{barrier_view, name_at};
+ghost use Rattle.kept_nets.specs.NearParts.{near_in_parts};
 ghost use Rattle.kept_nets.specs.Parts.{part_view};
 
 use crate::joined::{with_pin, without_pin};
 use crate::joint::joint_of;
 use crate::listing::classes_of_parts;
+use crate::looks::{Looks, sure_in, sure_in_all};
 use crate::part::KeptPart;
 use crate::places::{place_of, placed_parts, with_last, without_part};
 use class_laws::{classes_are_few, same_parts_are_alike};
@@ -34,6 +37,15 @@ pub struct KeptNet<A: Allocator = Global> {
     shapes: Option<PlacedShapes<A>>,
     // How the parts hang together; none where that is to be found from all of them.
     classes: Option<NetClasses>,
+    // So many shapes of the parts at least are near themselves: all of them, unless some are turned inside out.
+    sure: u64,
+}
+
+/// How many pairs of shapes were compared where parts of a net are exchanged: for what hung together before it, and for what does then.
+#[derive(Clone, Copy)]
+pub struct ExchangeTests {
+    pub before: u64,
+    pub after: u64,
 }
 
 impl<A: Allocator> Model for KeptNet<A> {
@@ -46,7 +58,7 @@ impl<A: Allocator> Model for KeptNet<A> {
 
     ghost view = { λ n. record { name = n.name; is_power = n.is_power; parts = map part_view n.parts.items } };
 
-    ghost invariant = { λ n. AreKnown (map part_view n.parts.items) n.shapes n.classes };
+    ghost invariant = { λ n. AreKnown (map part_view n.parts.items) n.shapes n.classes n.sure };
 }
 
 /// Copies of the parts of a net.
@@ -93,12 +105,14 @@ impl<A: Allocator + Copy> KeptNet<A> {
         let parts = copied_parts(alloc, net)?;
         let shapes = placed_parts(alloc, &parts)?;
         let classes = net_classes_of(alloc, net)?;
+        let sure = sure_in_all(&parts);
         Ok(KeptNet {
             name,
             is_power: net.head.is_power,
             parts,
             shapes: Some(shapes),
             classes: Some(classes),
+            sure,
         })
     }
 
@@ -110,39 +124,40 @@ impl<A: Allocator + Copy> KeptNet<A> {
     }
 
     /// Takes a part out, and says whether it was there.
-    fn take_one(&mut self, part: &KeptPart<A>) -> Result<bool, AllocError>
+    fn take_one(&mut self, part: &KeptPart<A>, looks: &mut Looks) -> Result<bool, AllocError>
         ensures out { IfOk result (λ there. IsTrue there → SameThings self.old.parts (part_view part.now ∷ self.new.parts)) }
         ensures name { self.new.name ≡ self.old.name }
         ensures power { self.new.is_power ≡ self.old.is_power }
     {
         same_parts_are_alike();
         let alloc = *self.parts.allocator();
-        let Some(place) = place_of(&self.parts, self.shapes.as_ref(), part) else {
+        let Some(place) = place_of(&self.parts, self.shapes.as_ref(), part, looks) else {
             return Ok(false);
         };
         let shapes = self.shapes.take();
         let classes = self.classes.take();
         let gone = self.parts.swap_remove(place);
+        self.sure = self.sure.saturating_sub(gone.shapes.len() as u64);
         let Some(shapes) = shapes else {
             return Ok(true);
         };
         let Some(shapes) = without_part(shapes, place, &gone, &self.parts)? else {
             return Ok(true);
         };
-        let joint = joint_of(alloc, &gone, &self.parts, &shapes)?;
+        let joint = joint_of(alloc, &gone, &self.parts, &shapes, looks)?;
         self.classes = without_pin(classes, joint);
         self.shapes = Some(shapes);
         Ok(true)
     }
 
     /// Takes parts out, each once, and says whether all of them were there. Where they weren't, some may be gone.
-    pub fn take_out(&mut self, parts: &[KeptPart<A>]) -> Result<bool, AllocError>
+    fn take_out(&mut self, parts: &[KeptPart<A>], looks: &mut Looks) -> Result<bool, AllocError>
         ensures out { IfOk result (λ there. IsTrue there → SameThings self.old.parts (map part_view parts.now ++ self.new.parts)) }
         ensures name { self.new.name ≡ self.old.name }
         ensures power { self.new.is_power ≡ self.old.is_power }
     {
         for part in parts {
-            if !self.take_one(part)? {
+            if !self.take_one(part, looks)? {
                 return Ok(false);
             }
         }
@@ -150,7 +165,7 @@ impl<A: Allocator + Copy> KeptNet<A> {
     }
 
     /// Puts a part in.
-    fn put_one(&mut self, part: KeptPart<A>) -> Result<(), AllocError>
+    fn put_one(&mut self, part: KeptPart<A>, looks: &mut Looks) -> Result<(), AllocError>
         ensures put { OnOk result (SameThings self.new.parts (part_view part ∷ self.old.parts)) }
         ensures name { self.new.name ≡ self.old.name }
         ensures power { self.new.is_power ≡ self.old.is_power }
@@ -158,52 +173,83 @@ impl<A: Allocator + Copy> KeptNet<A> {
         same_parts_are_alike();
         let alloc = *self.parts.allocator();
         let classes = self.classes.take();
+        let sure = self.sure.saturating_add(sure_in(&part));
         let Some(shapes) = self.shapes.take() else {
             self.parts.push(part)?;
             return Ok(());
         };
-        let joint = joint_of(alloc, &part, &self.parts, &shapes)?;
+        let joint = joint_of(alloc, &part, &self.parts, &shapes, looks)?;
         let shapes = with_last(shapes, self.parts.len(), &part)?;
         self.parts.push(part)?;
+        self.sure = sure;
         self.classes = with_pin(classes, joint);
         self.shapes = Some(shapes);
         Ok(())
     }
 
-    /// Finds from all parts how these hang together, unless that is known.
-    fn settle(&mut self) -> Result<(), AllocError>
-        ensures { self.new ≡ self.old }
+    /// Finds from all parts how these hang together, unless that is known, and says how many pairs of shapes were compared for it.
+    fn settle(&mut self) -> Result<u64, AllocError>
+        ensures same { self.new ≡ self.old }
+        ensures tests { IfOk result (λ n. n ≤ near_in_parts self.new.parts) }
     {
-        if self.classes.is_none() {
-            let classes = classes_of_parts(*self.parts.allocator(), &self.parts)?;
-            self.classes = Some(classes);
+        if self.classes.is_some() {
+            return Ok(0);
         }
-        Ok(())
+        let found = classes_of_parts(*self.parts.allocator(), &self.parts)?;
+        self.classes = Some(found.classes);
+        Ok(found.tests)
     }
 
-    /// Puts parts in.
-    pub fn put_in(&mut self, parts: Vec<KeptPart<A>, A>) -> Result<(), AllocError>
+    /// Puts parts in, and says how many pairs of shapes were compared where it was found from all parts how these hang together then.
+    fn put_in(&mut self, parts: Vec<KeptPart<A>, A>, looks: &mut Looks) -> Result<u64, AllocError>
         ensures put { OnOk result (SameThings self.new.parts (map part_view parts.items ++ self.old.parts)) }
         ensures name { self.new.name ≡ self.old.name }
         ensures power { self.new.is_power ≡ self.old.is_power }
+        ensures tests { IfOk result (λ n. n ≤ near_in_parts self.new.parts) }
     {
         let mut parts = parts;
         while let Some(part) = parts.pop() {
-            self.put_one(part)?;
+            self.put_one(part, looks)?;
         }
         self.settle()
     }
 
-    /// Puts the lines on how it hangs together behind others.
-    pub fn put_class_lines(&self, alloc: A, lines: &mut Lines<A>) -> Result<(), AllocError>
-        ensures { OnOk result (lines.new ≡ lines.old ++ class_lines self.now) }
+    /// Takes parts out, each once, puts others in, and says how many pairs of shapes were compared to find how all hang together then;
+    /// `None` where those that go weren't all there, or where more shapes near them were compared than are near each other at least.
+    pub fn exchange(
+        &mut self,
+        out: &[KeptPart<A>],
+        put: Vec<KeptPart<A>, A>,
+    ) -> Result<Option<ExchangeTests>, AllocError>
+        ensures parts { IfOk result (λ found. IfSome found (λ _. (stay : List Part) × SameThings self.old.parts (map part_view out.now ++ stay) × SameThings self.new.parts (map part_view put.items ++ stay))) }
+        ensures name { self.new.name ≡ self.old.name }
+        ensures power { self.new.is_power ≡ self.old.is_power }
+        ensures before { IfOk result (λ found. IfSome found (λ t. t.before ≤ near_in_parts self.old.parts)) }
+        ensures after { IfOk result (λ found. IfSome found (λ t. t.after ≤ near_in_parts self.new.parts)) }
+    {
+        let most = self.sure;
+        let mut looks = Looks { tests: 0, most };
+        if !self.take_out(out, &mut looks)? {
+            return Ok(None);
+        }
+        let after = self.put_in(put, &mut looks)?;
+        let before = looks.tests;
+        if before > most {
+            return Ok(None);
+        }
+        Ok(Some(ExchangeTests { before, after }))
+    }
+
+    /// Puts the lines on how it hangs together behind others, if that is known, and says whether it is.
+    pub fn put_class_lines(&self, lines: &mut Lines<A>) -> Result<bool, AllocError>
+        ensures { IfOk result (λ known. IsTrue known → lines.new ≡ lines.old ++ class_lines self.now) }
     {
         classes_are_few();
-        let classes = match self.classes {
-            Some(classes) => classes,
-            None => classes_of_parts(alloc, &self.parts)?,
+        let Some(classes) = self.classes else {
+            return Ok(false);
         };
-        put_lines_of_classes(self.name.bytes(), classes, lines)
+        put_lines_of_classes(self.name.bytes(), classes, lines)?;
+        Ok(true)
     }
 
     /// Puts the lines of its shapes with rectangles where routing is blocked behind others, in an order that is left open. `names` are

@@ -6,6 +6,7 @@ ghost use Rattle.connection_rules.specs.NetParts.{Part};
 ghost use Rattle.kept_nets.specs.Kept.{AreShapesOf};
 ghost use Rattle.kept_nets.specs.Parts.{part_view};
 
+use crate::looks::Looks;
 use crate::part::KeptPart;
 use placed_shapes::{PlacedShapes, push_placed};
 use shape_index::ShapeSet;
@@ -78,18 +79,23 @@ fn place_or<A: Allocator + Copy>(
     }
 }
 
-/// Some place of a part by its first shape, if it has one.
+/// Some place of a part by its first shape, if it has one and not too many shapes would be compared.
 fn near_place<A: Allocator + Copy>(
     parts: &[KeptPart<A>],
     shapes: &PlacedShapes<A>,
     part: &KeptPart<A>,
+    looks: &mut Looks,
 ) -> Option<usize> {
+    if !looks.have_room(0) {
+        return None;
+    }
     let shape = part.shapes.first()?;
-    let (found, _) = shapes
+    let (found, tests) = shapes
         .tiles()
         .for_met(shape.layer, shape.rect, None, |found, _, met| {
             place_or(parts, part, met.net, found)
         });
+    looks.add(tests);
     found
 }
 
@@ -110,11 +116,12 @@ pub(crate) fn place_of<A: Allocator + Copy>(
     parts: &[KeptPart<A>],
     shapes: Option<&PlacedShapes<A>>,
     part: &KeptPart<A>,
+    looks: &mut Looks,
 ) -> Option<usize>
     ensures { IfSome result (λ n. (n < length parts.now) × ((d : _) → part_view (get_or parts.now n d) ≡ part_view part.now)) }
 {
     if let Some(shapes) = shapes {
-        if let Some(place) = near_place(parts, shapes, part) {
+        if let Some(place) = near_place(parts, shapes, part, looks) {
             return place_or(parts, part, place, None);
         }
     }

@@ -1,4 +1,4 @@
-use Rattle.std.proofs.Common.{◌≡◌, ◌∙◌, List, ℕ, Some, ap, map, refl, subst, sym}
+use Rattle.std.proofs.Common.{◌≡◌, ◌∙◌, List, ℕ, Some, ap, arith, map, refl, subst, sym}
 use Rattle.std.proofs.lemmas.List.{map-append}
 use Rattle.std.specs.List.{AllByRecursion}
 use Rattle.def_grammar.specs.Records.{Record}
@@ -27,7 +27,7 @@ returns-clause-own g c = λ old stars is own.
     let then_pins = subst (λ (d : List Record). ArePinsBy library d c.args.own.name (map star_view c.in-Some-2.after.items)) (sym c.statements_are_kept.ensures.said) pins in
     let awaits = own (map star_view c.in-Some-2.after.items) (named ∙ ap names_of (c.deref-3.ensures.value ∙ same)) then_pins in
     let these = rw (← same) at awaits in
-    let then = rw (c.in-Some-3.is) at (c.in_ok-exchanged.ensures library old new c.args.own.name these) in
+    let then = rw (c.in-Some-3.is) at (c.in_ok-exchanged.ensures.stars library old new c.args.own.name these) in
     let exchanged = c.in-Some-3.exchanged in
     record {
       stars = exchanged.stars.items;
@@ -38,3 +38,12 @@ returns-clause-own g c = λ old stars is own.
       come_are = ap (map told_view) c.in_ok-all.ensures.come ∙ map-append told_view c.args.told.come.items exchanged.come.items;
       own = rw (← same) then;
     }
+
+pub returns-clause-few : goal.returns-clause-few
+returns-clause-few g c = λ stars is.
+    let there : c.self.inside.stars ≡ Some c.in-Some.stars = sym c.take.ensures.value ∙ c.in-Some.is in
+    let seen = rw there at (rw (← c.self.view_is) at is) in
+    let same : c.in-Some.stars.items ≡ stars = cc in
+    let few = rw (c.in-Some-3.is) at c.in_ok-exchanged.ensures.tests in
+    let more = c.in_ok-all.ensures.tests in
+    rw (← same) (omega (arith, few, more))

@@ -15,7 +15,7 @@ use Rattle.followed_nets.specs.declared.exchanging.FollowedOnNets.{FollowedOnNet
 use Rattle.followed_nets.specs.declared.star_exchange.ToldExchange.{ToldExchange}
 use Rattle.followed_nets.specs.declared.touched.TouchedComponent.{TouchedComponent}
 use Rattle.followed_nets.proofs.BarredNets.{told_alike}
-use Rattle.followed_nets.proofs.FollowLemmas.{all_exchanged, if_none_so, own_few, then_own_few}
+use Rattle.followed_nets.proofs.FollowLemmas.{all_exchanged, all_few, if_none_so}
 use Rattle.followed_nets.proofs.HeadsStay.{heads_stay}
 use Rattle.followed_nets.proofs.OwnPairs.{told_few, twice}
 use Rattle.followed_nets.proofs.followed.FollowedNets.follow_nets.Goals as goal
@@ -137,15 +137,17 @@ returns-clause-tests g c = λ old exchanges touched followed.
     (c.in_ok-followed.ensures.lines p.bars p.out p.put p.rest p.goes p.comes had) in
     let tests = rw (c.in-Some-4.is, c.in_ok-all.ensures.shapes) at c.in_ok-followed.ensures.tests in
     let then_few = p.then_few c.exchange.new.self.shapes (p.then_shapes c.exchange.new.self.shapes c.in-Some-4.followed.lines.lines on) in
-    let own =
-    own_few library old last _ c.args.kept _ _ c.told_nets_are_exchanged.ensures c.one_entry_tells.ensures c.same_lines_sort_alike.ensures c.short_is_symmetric.ensures t f both.0 fits then_told named in
-    let then_own =
-    then_own_few library old last _ c.args.kept _ _ c.told_nets_are_exchanged.ensures c.one_entry_tells.ensures c.same_lines_sort_alike.ensures c.short_is_symmetric.ensures t f both.0 fits then_told named in
     let gone = rw (c.deref-4.ensures.value) at c.tests_told.ensures in
     let come = rw (c.deref-5.ensures.value) at c.tests_told-2.ensures in
     let come_few = rw (c.in-Some-2.is) at c.in_ok-after.ensures.few in
     let start = told_few _ _ _ _ _ _ _ counted gone come t.few come_few in
-    rw (← c.touched.view_is) (twice _ _ _ _ _ _ _ _ tests start p.few then_few own then_own)
+    let same = if_none_so c.touched.inside.component (λ h. ap (λ (e : ToldExchange _). e.tests) h.1) (rw (c.in-Some-3.is) at c.in_ok-all.ensures.none) in
+    let all_told =
+    all_few library old last _ c.args.kept _ _ c.told_nets_are_exchanged.ensures c.one_entry_tells.ensures c.same_lines_sort_alike.ensures c.short_is_symmetric.ensures t f both.0 fits then_told named
+    c.touched.inside.component (λ (x : TouchedComponent _). x.name) (λ (x : TouchedComponent _). map star_view x.stars.items) refl (λ own is. ap (λ (x : Option (TouchedComponent _)). stars_of x) is)
+    c.pin_lines_follow.ensures c.one_component_exchanged.ensures (map told_view c.in-Some-3.all.gone.items) (map told_view c.in-Some-3.all.come.items) c.exchange_stars.new.self.stars c.saturating_add-tests.result c.in-Some-3.all.tests same
+    (rw (c.in-Some-3.is) at c.in_ok-all.ensures.own) (rw (c.in-Some-3.is) at c.in_ok-all.ensures.few) start in
+    rw (← c.touched.view_is) (twice _ _ _ _ _ _ tests all_told p.few then_few)
 
 -- (where memory is refused, nothing is said)
 pub returns-in_err-after-clause-lines : goal.returns-in_err-after-clause-lines

@@ -1,10 +1,11 @@
-use Rattle.std.proofs.Common.{rules, ◌≡◌, ◌∙◌, subst, sym, length, map, ◌∷◌}
+use Rattle.std.proofs.Common.{rules, ◌≡◌, ◌∙◌, arith, subst, sym, length, map, ◌∷◌}
 use Rattle.std.specs.Prelude.{IfSome}
 use Rattle.std.proofs.lemmas.List.{length-map, map-append}
 use Rattle.kept_nets.specs.Kept.{AreShapesOf, HangAs}
 use Rattle.kept_nets.specs.Parts.{part_view}
 use Rattle.kept_nets.proofs.Hanging.{known_alike}
 use Rattle.kept_nets.proofs.Known.{at_some, pushed_behind, turned}
+use Rattle.kept_nets.proofs.SureShapes.{more}
 use Rattle.kept_nets.proofs.net.KeptNet.put_one.Goals as goal
 
 pub invariant_of-self-2 : goal.invariant_of-self-2
@@ -23,6 +24,7 @@ invariant_of-self-2 g c =
       classes_are =
           known_alike c.same_parts_are_alike.ensures (part ∷ map part_view old) (map part_view new) c.with_pin-self-inside.result (turned (map part_view new) (part ∷ map part_view old) behind)
           (c.with_pin-self-inside.ensures part (map part_view old) (rw c.deref.ensures.value at c.in_ok-joint.ensures) classes);
+      sure_are = more part (map part_view old) (map part_view new) c.self.inside.sure c.sure_in.result c.saturating_add-sure.result behind c.self.invariant.sure_are c.sure_in.ensures (let sum = c.saturating_add-sure.ensures in omega (arith, sum));
     }
 
 pub returns-clause-put : goal.returns-clause-put

@@ -1,9 +1,10 @@
-use Rattle.std.proofs.Common.{◌∙◌, refl, sym, subst, map, ◌∷◌}
+use Rattle.std.proofs.Common.{rules, ◌≡◌, ◌≤◌, ◌-◌, ◌∙◌, arith, length, refl, sym, subst, map, ◌∷◌}
 use Rattle.std.specs.Prelude.{IfSome}
 use Rattle.kept_nets.specs.Kept.{AreShapesOf, HangAs}
 use Rattle.kept_nets.specs.Parts.{part_view}
 use Rattle.kept_nets.proofs.Hanging.{known_alike}
-use Rattle.kept_nets.proofs.Known.{at_some}
+use Rattle.kept_nets.proofs.Known.{at_none, at_some}
+use Rattle.kept_nets.proofs.SureShapes.{sure_left}
 use Rattle.kept_nets.proofs.Taken.{swapped, swapped_like}
 use Rattle.kept_nets.proofs.net.KeptNet.take_one.Goals as goal
 
@@ -33,6 +34,8 @@ invariant_of-self-2 g c =
     let old = c.self.inside.parts.items in
     let gone = c.swap_remove-gone in
     let part = part_view gone.result in
+    let size : c.len.result ≡ length gone.result.shapes.items = search rules in
+    let less : c.saturating_sub-self-inside.result ≤ c.self.inside.sure - length gone.result.shapes.items = omega (arith, c.saturating_sub-self-inside.ensures, size) in
     let new = map part_view gone.new.self.items in
     let found = rw c.deref.ensures.value at c.in-Some.ensures in
     let shapes = at_some (AreShapesOf (map part_view old)) c.self.inside.shapes c.in-Some-shapes.shapes (sym c.take-shapes.ensures.value ∙ c.in-Some-shapes.is) c.self.invariant.shapes_are in
@@ -44,6 +47,55 @@ invariant_of-self-2 g c =
       classes_are =
           c.without_pin-self-inside.ensures part new (rw c.deref-3.ensures.value at c.in_ok-joint.ensures)
           (known_alike c.same_parts_are_alike.ensures (map part_view old) (part ∷ new) c.take-classes.result (rw (gone.ensures.items) same) classes);
+      sure_are = sure_left c.self.inside.parts.items gone.new.self.items c.in-Some.place gone.result c.self.inside.sure c.saturating_sub-self-inside.result found.0 gone.ensures.value gone.ensures.items c.self.invariant.sure_are less;
+    }
+
+pub invariant_of-self : goal.invariant_of-self
+invariant_of-self g c =
+    let found = rw c.deref.ensures.value at c.in-Some.ensures in
+    let gone = c.swap_remove-gone in
+    let size : c.len.result ≡ length gone.result.shapes.items = search rules in
+    let less : c.saturating_sub-self-inside.result ≤ c.self.inside.sure - length gone.result.shapes.items = omega (arith, c.saturating_sub-self-inside.ensures, size) in
+    record {
+      shapes_are = at_none _ c.take-shapes.new.self c.take-shapes.ensures.after;
+      classes_are = at_none _ c.take-classes.new.self c.take-classes.ensures.after;
+      sure_are = sure_left c.self.inside.parts.items gone.new.self.items c.in-Some.place gone.result c.self.inside.sure c.saturating_sub-self-inside.result found.0 gone.ensures.value gone.ensures.items c.self.invariant.sure_are less;
+    }
+
+pub invariant_of-self-in_err-shapes : goal.invariant_of-self-in_err-shapes
+invariant_of-self-in_err-shapes g c =
+    let found = rw c.deref.ensures.value at c.in-Some.ensures in
+    let gone = c.swap_remove-gone in
+    let size : c.len.result ≡ length gone.result.shapes.items = search rules in
+    let less : c.saturating_sub-self-inside.result ≤ c.self.inside.sure - length gone.result.shapes.items = omega (arith, c.saturating_sub-self-inside.ensures, size) in
+    record {
+      shapes_are = at_none _ c.take-shapes.new.self c.take-shapes.ensures.after;
+      classes_are = at_none _ c.take-classes.new.self c.take-classes.ensures.after;
+      sure_are = sure_left c.self.inside.parts.items gone.new.self.items c.in-Some.place gone.result c.self.inside.sure c.saturating_sub-self-inside.result found.0 gone.ensures.value gone.ensures.items c.self.invariant.sure_are less;
+    }
+
+pub invariant_of-self-in_default-2 : goal.invariant_of-self-in_default-2
+invariant_of-self-in_default-2 g c =
+    let found = rw c.deref.ensures.value at c.in-Some.ensures in
+    let gone = c.swap_remove-gone in
+    let size : c.len.result ≡ length gone.result.shapes.items = search rules in
+    let less : c.saturating_sub-self-inside.result ≤ c.self.inside.sure - length gone.result.shapes.items = omega (arith, c.saturating_sub-self-inside.ensures, size) in
+    record {
+      shapes_are = at_none _ c.take-shapes.new.self c.take-shapes.ensures.after;
+      classes_are = at_none _ c.take-classes.new.self c.take-classes.ensures.after;
+      sure_are = sure_left c.self.inside.parts.items gone.new.self.items c.in-Some.place gone.result c.self.inside.sure c.saturating_sub-self-inside.result found.0 gone.ensures.value gone.ensures.items c.self.invariant.sure_are less;
+    }
+
+pub invariant_of-self-in_err-joint : goal.invariant_of-self-in_err-joint
+invariant_of-self-in_err-joint g c =
+    let found = rw c.deref.ensures.value at c.in-Some.ensures in
+    let gone = c.swap_remove-gone in
+    let size : c.len.result ≡ length gone.result.shapes.items = search rules in
+    let less : c.saturating_sub-self-inside.result ≤ c.self.inside.sure - length gone.result.shapes.items = omega (arith, c.saturating_sub-self-inside.ensures, size) in
+    record {
+      shapes_are = at_none _ c.take-shapes.new.self c.take-shapes.ensures.after;
+      classes_are = at_none _ c.take-classes.new.self c.take-classes.ensures.after;
+      sure_are = sure_left c.self.inside.parts.items gone.new.self.items c.in-Some.place gone.result c.self.inside.sure c.saturating_sub-self-inside.result found.0 gone.ensures.value gone.ensures.items c.self.invariant.sure_are less;
     }
 
 pub returns-clause-out : goal.returns-clause-out

@@ -1,0 +1,22 @@
+-- How many shapes of parts are near each other.
+use Rattle.std.specs.Prelude.{ℕ, Bool, List, cond, sum_by}
+use Rattle.lef_grammar.specs.Measures.{Shape}
+use Rattle.connection_rules.specs.NetParts.{Part}
+use Rattle.shape_index.specs.Near.{near_shape, near_shapes}
+use Rattle.kept_nets.specs.Parts.{shapes_in}
+
+-- how many shapes of parts are near each of these shapes, itself among them
+abbrev pub near_in_parts : List Part → ℕ
+near_in_parts ps = sum_by (λ (s : Shape). near_shapes s (shapes_in ps)) (shapes_in ps)
+
+-- whether a shape is near itself
+abbrev pub is_near_itself : Shape → Bool
+is_near_itself s = near_shape s s
+
+-- 1 for such a shape, and 0 for others
+abbrev pub near_one : Shape → ℕ
+near_one s = cond (is_near_itself s) 1 0
+
+-- how many shapes of parts are such ones
+abbrev pub near_themselves : List Part → ℕ
+near_themselves ps = sum_by near_one (shapes_in ps)
