@@ -1,14 +1,15 @@
 //! The lines on the nets of a text, which follow its edits.
 //!
 //! Begin with `FollowedNets::of`, which notes the nets of a text. Before an edit, `touched_by_net`, `touched_by_component` and
-//! `touched_by_pin` tell which nets it is about to change; after it, `follow` gives the lines from those before, where it changed no others, and how many pairs of shapes
-//! were compared for them (`specs/Tests`). What is noted follows then, too, and else isn't to be used any more.
+//! `touched_by_pin` tell which nets it is about to change; after it, `follow` gives the lines from those before, where it changed no
+//! others, and how many pairs of shapes were compared for them (`specs/Tests`). What is noted follows then, too, and else isn't to be
+//! used any more.
 //!
 //! A net is told by few statements of the text (`told`), and exchanged as a whole. Its shapes are compared with each other to find how its
 //! parts hang together, and with those of other nets; both is counted. A net that lists a pin of all components is kept with its parts, and an
 //! edit of a component exchanges its pins of that component (`star_pins`, `star_exchange`); of its entry only the name and the terminals are
-//! read then, which are kept without the wiring (`heads`), and what is compared to find how its parts hang together isn't counted. Both are
-//! pieces of `specs/Pieces`: first all that go are taken out, then all that come are put in (`exchanging`).
+//! read then, which are kept without the wiring (`heads`). What is compared there is counted too (`specs/StarTests`). Both are pieces of
+//! `specs/Pieces`: first all that go are taken out, then all that come are put in (`exchanging`).
 //!
 //! Pins of the design are read for each net that is told, with what any net may be made of, by numbers that are noted; after an edit of one
 //! the numbers are exchanged, too (`numbers`).

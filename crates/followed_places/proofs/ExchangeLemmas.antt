@@ -1,5 +1,5 @@
 -- Components that go out of those whose boxes are kept, and others that come in.
-use Rattle.std.proofs.Common.{◌≡◌, ◌≤◌, ◌+◌, ℕ, List, [], ◌∷◌, ◌++◌, map, sum_by, Option, refl, sym, ap, arith}
+use Rattle.std.proofs.Common.{◌≡◌, ◌≤◌, ◌+◌, ◌-◌, ◌^◌, ℕ, min, List, [], ◌∷◌, ◌++◌, map, sum_by, Option, refl, sym, ap, arith}
 use Rattle.std.proofs.lemmas.List.Sums.{sum_by-append}
 use Rattle.design_model.specs.declared.identifier.StmtId.{StmtId}
 use Rattle.design_model.specs.Geometry.{Rectangle}
@@ -17,9 +17,9 @@ use Rattle.text_pieces.specs.Tables.{Kept}
 use Rattle.followed_places.specs.Lines.{AreBoxesOf, Awaits, AwaitsRectangles, boxed_under}
 use Rattle.followed_places.specs.Placed.{component_of, placed_view}
 use Rattle.followed_places.specs.Places.{components_under, place_under}
-use Rattle.followed_places.specs.Tests.{near_sum}
+use Rattle.followed_places.specs.Tests.{met_sum, near_sum}
 use Rattle.followed_places.specs.declared.components.Placed.{Placed}
-use Rattle.followed_places.proofs.NearSums.{near_sum_same}
+use Rattle.followed_places.proofs.NearSums.{both_least, met_sum_same, near_sum_same}
 
 same_components : (ps : List Placed) → map (λ (x : StmtId × Boxed). x.1) (map placed_view ps) ≡ map component_of ps
 same_components [] = refl
@@ -43,6 +43,14 @@ few_compared library u slots went came stay left out put tests are out_few put_f
       near_sum_same left these (map place_under (map placed_view went)) are.boxes_are,
       near_sum_same left these (map place_under (map placed_view came)) are.boxes_are,
     )
+
+-- and with all of them that it meets
+pub met_compared : (library : Library) (u : ℕ) (slots : List (Option Kept)) (went came : List Placed) (stay : List StmtId) (left : List (StmtId × Rectangle)) (out put tests : ℕ) → AreBoxesOf library u slots stay left
+    → min (met_sum left (map place_under (map placed_view went))) (2 ^ 64 - 1) ≤ out → min (met_sum left (map place_under (map placed_view came))) (2 ^ 64 - 1) ≤ put → min (out + put) (2 ^ 64 - 1) ≤ tests
+    → min (met_sum (map place_under (components_under library u (records_under slots stay))) (map place_under (map placed_view went)) + met_sum (map place_under (components_under library u (records_under slots stay))) (map place_under (map placed_view came))) (2 ^ 64 - 1) ≤ tests
+met_compared library u slots went came stay left out put tests are out_some put_some sum =
+    let these = map place_under (components_under library u (records_under slots stay)) in
+    rw (← met_sum_same left these (map place_under (map placed_view went)) are.boxes_are, ← met_sum_same left these (map place_under (map placed_view came)) are.boxes_are) (both_least _ _ out put tests out_some put_some sum)
 
 module _ (library : Library) (u : ℕ) (slots : List (Option Kept)) (stay : List StmtId) (s : Surroundings) (outs : List Rectangle)
     (went came : List Placed) (boxes : List (StmtId × Rectangle)) (kept after : List (List ℕ))

@@ -1,5 +1,5 @@
 -- What is noted of a text whose statements are exchanged.
-use Rattle.std.proofs.Common.{◌≡◌, ◌<◌, ◌≤◌, ◌+◌, ◌||◌, ℕ, Bool, true, false, List, [], ◌∷◌, ◌++◌, filter, flat_map, map, sum_by, Option, Some, None, Result, Ok, Err, refl, sym, subst, ap, ap₂, ◌∙◌, arith, if◌then◌else◌}
+use Rattle.std.proofs.Common.{◌≡◌, ◌<◌, ◌≤◌, ◌+◌, ◌-◌, ◌^◌, ◌||◌, ℕ, min, Bool, true, false, List, [], ◌∷◌, ◌++◌, filter, flat_map, map, sum_by, Option, Some, None, Result, Ok, Err, refl, sym, subst, ap, ap₂, ◌∙◌, arith, if◌then◌else◌}
 use Rattle.std.specs.Prelude.{IfOk, IfSome}
 use Rattle.std.specs.List.{cons_option, filter_map, list_any}
 use Rattle.std.specs.Option.{option_map}
@@ -30,10 +30,10 @@ use Rattle.text_pieces.specs.Tables.{Kept, kept_at}
 use Rattle.kept_lines.specs.Kept.{Kept as KeptLines}
 use Rattle.design_text.specs.Exchanges.{Exchanged, IsExchange}
 use Rattle.design_text.proofs.KeptExchanges.{pieces-append}
-use Rattle.followed_places.specs.Lines.{AreBoxesOf, Awaits, AwaitsRectangles, boxed_under}
+use Rattle.followed_places.specs.Lines.{Awaits, AwaitsRectangles, boxed_under}
 use Rattle.followed_places.specs.Places.{AreFollowed, Places, component_under, components_under, place_under, said}
-use Rattle.followed_places.specs.Tests.{near_pairs, near_rectangles, near_sum, places_in}
-use Rattle.followed_places.proofs.NearSums.{near_rectangles_same, near_sum_part}
+use Rattle.followed_places.specs.Tests.{met_among, met_pairs, met_rectangles, met_sum, near_pairs, near_rectangles, near_sum, places_in}
+use Rattle.followed_places.proofs.NearSums.{met_parted, met_rectangles_same, near_rectangles_same, near_sum_part}
 
 abbrev surrounds : StmtId × Record → Bool
 surrounds x = is_surrounding x.1
@@ -232,6 +232,13 @@ module _ (library : Library) (slots : List (Option Kept)) (old new : List (StmtI
   with_more : (n a b c d : ℕ) → n ≤ a + b → n ≤ (a + c) + (b + d)
   with_more n a b c d h = omega (arith, h)
 
+  -- where nothing but what stays was compared
+  some_of_stay : (n so sn ao an po pn ro rn : ℕ) → min (so + sn) (2 ^ 64 - 1) ≤ n → po ≡ ao + so → pn ≡ an + sn → ro ≡ 0 → rn ≡ 0 → min ((po + ro) + (pn + rn)) (2 ^ 64 - 1) ≤ n + (ao + an)
+  some_of_stay n so sn ao an po pn ro rn some old_is new_is no_outs no_puts = omega (arith, some, old_is, new_is, no_outs, no_puts)
+
+  some_of_outs : (n ao an po pn ro rn : ℕ) → min (ro + rn) (2 ^ 64 - 1) ≤ n → po ≡ 0 → pn ≡ 0 → min ((po + ro) + (pn + rn)) (2 ^ 64 - 1) ≤ n + (ao + an)
+  some_of_outs n ao an po pn ro rn some none_went none_came = omega (arith, some, none_went, none_came)
+
   more_before : (n a b c d : ℕ) → n ≤ a + b → n ≤ (c + a) + (d + b)
   more_before n a b c d h = omega (arith, h)
 
@@ -361,6 +368,34 @@ module _ (library : Library) (slots : List (Option Kept)) (old new : List (StmtI
             let new_pairs : near_sum (boxes_of new) (map place_under came) ≡ near_sum (places_in library new) (map place_under (components_under library (scale (said new)) (these x.came))) = rw (came_are, f.places.scale_is, follow.scale) refl in
             with_more n _ _ (near_rectangles (places_in library old) (keep_outs (say x.went))) (near_rectangles (places_in library new) (keep_outs (say x.came))) (omega (arith, few, before, after, old_pairs, new_pairs))
 
+        pub some_tests : (n : ℕ) → min (met_sum (map place_under (components_under library u (these stay))) (map place_under went) + met_sum (map place_under (components_under library u (these stay))) (map place_under came)) (2 ^ 64 - 1) ≤ n
+            → min (met_pairs library old (these x.went) + met_pairs library new (these x.came)) (2 ^ 64 - 1) ≤ n + (met_among library old (these x.went) + met_among library new (these x.came))
+        some_tests n some =
+            let boxes_of = λ (rs : List (StmtId × Record)). map place_under (components_under library u rs) in
+            let before = met_parted (boxes_of old) (boxes_of (these x.went)) (boxes_of (these stay)) (map place_under went) (places_parted u old x.went e.old_is) in
+            let after = met_parted (boxes_of new) (boxes_of (these x.came)) (boxes_of (these stay)) (map place_under came) (places_parted u new x.came e.new_is) in
+            let old_pairs : met_sum (boxes_of old) (map place_under went) ≡ met_sum (places_in library old) (map place_under (components_under library (scale (said old)) (these x.went))) = rw (went_are, f.places.scale_is) refl in
+            let new_pairs : met_sum (boxes_of new) (map place_under came) ≡ met_sum (places_in library new) (map place_under (components_under library (scale (said new)) (these x.came))) = rw (came_are, f.places.scale_is, follow.scale) refl in
+            let old_own : met_sum (boxes_of (these x.went)) (map place_under went) ≡ met_among library old (these x.went) = rw (went_are, f.places.scale_is) refl in
+            let new_own : met_sum (boxes_of (these x.came)) (map place_under came) ≡ met_among library new (these x.came) = rw (came_are, f.places.scale_is, follow.scale) refl in
+            let old_rest = met_sum (boxes_of (these stay)) (map place_under went) in
+            let new_rest = met_sum (boxes_of (these stay)) (map place_under came) in
+            some_of_stay
+            n
+            old_rest
+            new_rest
+            (met_among library old (these x.went))
+            (met_among library new (these x.came))
+            (met_sum (places_in library old) (map place_under (components_under library (scale (said old)) (these x.went))))
+            (met_sum (places_in library new) (map place_under (components_under library (scale (said new)) (these x.came))))
+            (met_rectangles (places_in library old) (keep_outs (say x.went)))
+            (met_rectangles (places_in library new) (keep_outs (say x.came)))
+            some
+            (sym old_pairs ∙ before ∙ ap (λ m. m + old_rest) old_own)
+            (sym new_pairs ∙ after ∙ ap (λ m. m + new_rest) new_own)
+            (ap (met_rectangles (places_in library old)) (sym none_went))
+            (ap (met_rectangles (places_in library new)) (sym none_came))
+
       -- by the rectangles where those that went, and those that came, keep components out, where no component is among them
       module _ (went came : List Rectangle) (went_are : went ≡ keep_outs (say x.went)) (came_are : came ≡ keep_outs (say x.came))
           (none_went : [] ≡ components_under library u (these x.went)) (none_came : [] ≡ components_under library u (these x.came)) where
@@ -449,3 +484,27 @@ module _ (library : Library) (slots : List (Option Kept)) (old new : List (StmtI
             (near_sum (places_in library old) (map place_under (components_under library (scale (said old)) (these x.went))))
             (near_sum (places_in library new) (map place_under (components_under library (scale (said new)) (these x.came))))
             (subst (λ m. n ≤ near_rectangles (places_in library old) (keep_outs (say x.went)) + m) after (subst (λ m. n ≤ m + near_rectangles places.boxes came) before few))
+
+        pub some_tests_near : (n : ℕ) → min (met_rectangles places.boxes went + met_rectangles places.boxes came) (2 ^ 64 - 1) ≤ n
+            → min (met_pairs library old (these x.went) + met_pairs library new (these x.came)) (2 ^ 64 - 1) ≤ n + (met_among library old (these x.went) + met_among library new (these x.came))
+        some_tests_near n some =
+            let before : met_rectangles places.boxes went ≡ met_rectangles (places_in library old) (keep_outs (say x.went)) =
+            met_rectangles_same places.boxes (places_in library old) went f.places.boxes_are ∙ ap (met_rectangles (places_in library old)) went_are
+            in
+            let same_new : SameThings places.boxes (places_in library new) = subst (λ v. SameThings places.boxes (map place_under (components_under library v new))) (f.places.scale_is ∙ follow.scale) boxes_new in
+            let after : met_rectangles places.boxes came ≡ met_rectangles (places_in library new) (keep_outs (say x.came)) =
+            met_rectangles_same places.boxes (places_in library new) came same_new ∙ ap (met_rectangles (places_in library new)) came_are
+            in
+            let no_old : [] ≡ components_under library (scale (said old)) (these x.went) = subst (λ v. [] ≡ components_under library v (these x.went)) f.places.scale_is none_went in
+            let no_new : [] ≡ components_under library (scale (said new)) (these x.came) = subst (λ v. [] ≡ components_under library v (these x.came)) (f.places.scale_is ∙ follow.scale) none_came in
+            some_of_outs
+            n
+            (met_among library old (these x.went))
+            (met_among library new (these x.came))
+            (met_sum (places_in library old) (map place_under (components_under library (scale (said old)) (these x.went))))
+            (met_sum (places_in library new) (map place_under (components_under library (scale (said new)) (these x.came))))
+            (met_rectangles (places_in library old) (keep_outs (say x.went)))
+            (met_rectangles (places_in library new) (keep_outs (say x.came)))
+            (subst (λ m. min (met_rectangles (places_in library old) (keep_outs (say x.went)) + m) (2 ^ 64 - 1) ≤ n) after (subst (λ m. min (m + met_rectangles places.boxes came) (2 ^ 64 - 1) ≤ n) before some))
+            (ap (λ (cs : List (StmtId × Boxed)). met_sum (places_in library old) (map place_under cs)) (sym no_old))
+            (ap (λ (cs : List (StmtId × Boxed)). met_sum (places_in library new) (map place_under cs)) (sym no_new))

@@ -1,5 +1,5 @@
 -- The lines on components are those of each half by itself, and those of the lower half with the upper one.
-use Rattle.std.proofs.Common.{◌≡◌, ◌+◌, ◌≤ℤ◌, ℕ, ℤ, Bool, true, false, not, List, [], ◌∷◌, ◌++◌, cond, filter, flat_map, map, sum_by, refl, sym, ap, ap₂, subst, ◌∙◌, arith, ⊎_elim, if◌then◌else◌}
+use Rattle.std.proofs.Common.{◌≡◌, ◌+◌, ◌≤ℤ◌, ℕ, ℤ, Bool, true, false, not, List, [], ◌∷◌, ◌++◌, cond, filter, flat_map, map, sum_by, refl, sym, ap, ap₂, ◌∙◌, arith, ⊎_elim, if◌then◌else◌}
 use Rattle.std.specs.Prelude.{int_lt}
 use Rattle.std.proofs.lemmas.Bool.{cases_Bool as cases}
 use Rattle.std.proofs.lemmas.Grind.{flat_map-append}

@@ -1,14 +1,16 @@
 -- Boxes near others, in whatever order, and in part.
-use Rattle.std.proofs.Common.{◌≡◌, ◌≤◌, ◌<◌, ◌+◌, ℕ, cond, List, ◌∷◌, ◌++◌, length, get_or, drop, map, subst, arith}
+use Rattle.std.proofs.Common.{◌≡◌, ◌∙◌, ◌≤◌, ◌<◌, ◌+◌, ◌-◌, ◌^◌, ℕ, min, cond, List, [], ◌∷◌, ◌++◌, length, get_or, drop, map, subst, sum_by, refl, sym, ap, arith}
+use Rattle.std.proofs.lemmas.List.{drop_all, drop_more}
 use Rattle.std.proofs.lemmas.List.Sums.{sum_by-append, sum_by-cons, sum_by-le-sum_by}
 use Rattle.line_laws.specs.Lines.{SameThings}
 use Rattle.line_laws.proofs.PairSums.{sum_by-same}
 use Rattle.design_model.specs.Geometry.{Rectangle}
 use Rattle.design_model.specs.declared.identifier.StmtId.{StmtId}
-use Rattle.statement_boxes.specs.Boxes.{is_near, near_count}
+use Rattle.shape_rules.specs.Meeting.{meets}
+use Rattle.statement_boxes.specs.Boxes.{is_near, met_count, near_count}
 use Rattle.followed_places.specs.Placed.{placed_view}
 use Rattle.followed_places.specs.Places.{place_under}
-use Rattle.followed_places.specs.Tests.{near_rectangles, near_sum}
+use Rattle.followed_places.specs.Tests.{met_rectangles, met_sum, near_rectangles, near_sum}
 use Rattle.followed_places.specs.declared.components.Placed.{Placed}
 use Rattle.followed_places.proofs.OthersMet.{left_from}
 
@@ -40,3 +42,38 @@ one_counted boxes components i x old new compared all below is few added so_far 
     let rest = drop (i + 1) components in
     let here : old + near_sum boxes (places (x ∷ rest)) ≤ all = subst (λ (ps : List Placed). old + near_sum boxes (places ps) ≤ all) (left_from components i x below is) so_far in
     omega (arith, here, few, added, sum_by-cons (λ (b : StmtId × Rectangle). near_count b.1 boxes) (place_under (placed_view x)) (places rest))
+
+-- of the same as many meet
+pub met_sum_same : (xs ys some : List (StmtId × Rectangle)) → SameThings xs ys → met_sum xs some ≡ met_sum ys some
+met_sum_same xs ys some same =
+    sum_by-same (λ (b : StmtId × Rectangle). met_count b.1 xs) (λ (b : StmtId × Rectangle). met_count b.1 ys) (λ b. same.sums (λ x. cond (meets x.1 b.1) 1 0)) some
+
+pub met_rectangles_same : (xs ys : List (StmtId × Rectangle)) (some : List Rectangle) → SameThings xs ys → met_rectangles xs some ≡ met_rectangles ys some
+met_rectangles_same xs ys some same = sum_by-same (λ r. met_count r xs) (λ r. met_count r ys) (λ r. same.sums (λ x. cond (meets x.1 r) 1 0)) some
+
+-- and of two parts as many as of each
+pub met_parted : (all part rest some : List (StmtId × Rectangle)) → SameThings all (part ++ rest) → met_sum all some ≡ met_sum part some + met_sum rest some
+met_parted all part rest [] same = refl
+met_parted all part rest (b ∷ bs) same =
+    let w : StmtId × Rectangle → ℕ = λ x. cond (meets x.1 b.1) 1 0 in
+    let here : met_count b.1 all ≡ met_count b.1 part + met_count b.1 rest = same.sums w ∙ sum_by-append w part rest in
+    let more : (boxes : List (StmtId × Rectangle)) → met_sum boxes (b ∷ bs) ≡ met_count b.1 boxes + met_sum boxes bs = λ boxes. sum_by-cons (λ (x : StmtId × Rectangle). met_count x.1 boxes) b bs in
+    omega (arith, here, met_parted all part rest bs same, more all, more part, more rest)
+
+-- what is counted at least, where a count ends at 2 ^ 64 - 1: one thing more of a list, of which something is seen
+module _ {X Y : Type 0} (weigh : Y → ℕ) (see : X → Y) (seen : List X → List Y) (none : seen [] ≡ []) (each : (x : X) (xs : List X) → seen (x ∷ xs) ≡ see x ∷ seen xs) where
+  pub next_least : (xs : List X) (i : ℕ) (x : X) (old new compared all : ℕ) → i < length xs → x ≡ get_or xs i x → weigh (see x) ≤ compared → min (old + compared) (2 ^ 64 - 1) ≤ new
+      → min all (2 ^ 64 - 1) ≤ old + sum_by weigh (seen (drop i xs)) → min all (2 ^ 64 - 1) ≤ new + sum_by weigh (seen (drop (i + 1) xs))
+  next_least xs i x old new compared all below is some added so_far =
+      let left : drop i xs ≡ x ∷ drop (i + 1) xs = drop_more xs i x below ∙ ap (λ (y : X). y ∷ drop (i + 1) xs) (sym is) in
+      let sum : sum_by weigh (seen (drop i xs)) ≡ weigh (see x) + sum_by weigh (seen (drop (i + 1) xs)) =
+      ap (λ (l : List X). sum_by weigh (seen l)) left ∙ ap (sum_by weigh) (each x (drop (i + 1) xs)) ∙ sum_by-cons weigh (see x) (seen (drop (i + 1) xs)) in
+      omega (arith, sum, some, added, so_far)
+
+  pub all_least : (xs : List X) (i now all : ℕ) → length xs ≤ i → min all (2 ^ 64 - 1) ≤ now + sum_by weigh (seen (drop i xs)) → min all (2 ^ 64 - 1) ≤ now
+  all_least xs i now all past so_far =
+      let nothing : sum_by weigh (seen (drop i xs)) ≡ 0 = ap (λ (l : List X). sum_by weigh (seen l)) (drop_all i xs past) ∙ ap (sum_by weigh) none in
+      omega (arith, nothing, so_far)
+
+pub both_least : (a b out put tests : ℕ) → min a (2 ^ 64 - 1) ≤ out → min b (2 ^ 64 - 1) ≤ put → min (out + put) (2 ^ 64 - 1) ≤ tests → min (a + b) (2 ^ 64 - 1) ≤ tests
+both_least a b out put tests h k sum = omega (arith, h, k, sum)

@@ -1,13 +1,13 @@
 //! The lines on components that lie on rectangles which keep them out.
 
-ghost use Rattle.std.specs.Prelude.{◌≡◌, ◌<◌, ◌≤◌, IfOk, List, map};
+ghost use Rattle.std.specs.Prelude.{◌≡◌, ◌<◌, ◌≤◌, ◌-◌, ◌^◌, IfOk, List, map, min};
 ghost use Rattle.design_model.specs.declared.identifier.StmtId.{StmtId as Number};
 ghost use Rattle.design_model.specs.Families.{cross_lines};
 ghost use Rattle.design_model.specs.Views.{rectangle_of};
 ghost use Rattle.design_rules.specs.PlaceLines.{blocked_of};
 ghost use Rattle.line_laws.specs.Lines.{SameLines};
 ghost use Rattle.followed_places.specs.Lines.{AreBoxesOf, boxed_under};
-ghost use Rattle.followed_places.specs.Tests.{near_rectangles};
+ghost use Rattle.followed_places.specs.Tests.{met_rectangles, near_rectangles};
 
 use crate::own_lines::met;
 use cell_library::library::Library;
@@ -35,6 +35,7 @@ pub(crate) fn blocked_near<'t, A: Allocator + Copy>(
     ensures lines { (ids : List Number) → AreBoxesOf library.now scale text.now.pieces.table.slots ids boxes.now
         → IfOk result (λ c. SameLines c.lines (cross_lines blocked_of (boxed_under library.now scale text.now.pieces.table.slots ids) (map rectangle_of rects.now))) }
     ensures tests { IfOk result (λ c. c.tests ≤ near_rectangles boxes.now (map rectangle_of rects.now)) }
+    ensures least { IfOk result (λ c. min (met_rectangles boxes.now (map rectangle_of rects.now)) (2 ^ 64 - 1) ≤ c.tests) }
 {
     crosses_turn();
     let mut lines = Lines::new(alloc);

@@ -1,6 +1,6 @@
 //! The components of a text that are noted, and the lines on them that follow.
 
-ghost use Rattle.std.specs.Prelude.{◌≡◌, ◌<◌, ◌≤◌, ◌+◌, ◌++◌, [], IfOk, IfSome, IsTrue, List, OnOk, false, filter, map};
+ghost use Rattle.std.specs.Prelude.{◌≡◌, ◌<◌, ◌≤◌, ◌+◌, ◌-◌, ◌^◌, ◌++◌, [], IfOk, IfSome, IsTrue, List, OnOk, false, filter, map, min};
 ghost use Rattle.std.specs.List.{list_any};
 ghost use Rattle.design_model.specs.declared.identifier.StmtId.{StmtId as Number};
 ghost use Rattle.design_model.specs.Order.{sorted_by_bytes};
@@ -18,7 +18,7 @@ ghost use Rattle.design_text.specs.Exchanges.{IsExchange, exchange_view, records
 ghost use Rattle.followed_places.specs.Lines.{Awaits, AwaitsRectangles};
 ghost use Rattle.followed_places.specs.Placed.{placed_view};
 ghost use Rattle.followed_places.specs.Places.{AreFollowed, HasPlaces, components_under, place_under, said};
-ghost use Rattle.followed_places.specs.Tests.{near_pairs, near_rectangles, near_sum};
+ghost use Rattle.followed_places.specs.Tests.{met_among, met_pairs, met_rectangles, met_sum, near_pairs, near_rectangles, near_sum};
 
 use crate::around::{Around, KeptAround, is_any_surrounding, numbers_around};
 use crate::blocked_lines::blocked_near;
@@ -192,6 +192,8 @@ fn exchanged<'t, A: Allocator + Copy>(
         → IfOk result (λ found. IfSome found (λ _. SameThings boxes.new (map place_under (map placed_view change.now.came.items) ++ map place_under (components_under library.now change.now.around.scale (records_under text.now.pieces.table.slots stay))))) }
     ensures tests { (stay : List Number) (after : List _) → Awaits library.now change.now.around.scale text.now.pieces.table.slots stay (surroundings_view change.now.around.surroundings) (map rectangle_of change.now.around.keep_outs.now) (map placed_view change.now.went.items) (map placed_view change.now.came.items) boxes.old kept.lines after
         → IfOk result (λ found. IfSome found (λ f. f.tests ≤ near_sum (map place_under (components_under library.now change.now.around.scale (records_under text.now.pieces.table.slots stay))) (map place_under (map placed_view change.now.went.items)) + near_sum (map place_under (components_under library.now change.now.around.scale (records_under text.now.pieces.table.slots stay))) (map place_under (map placed_view change.now.came.items)))) }
+    ensures least { (stay : List Number) (after : List _) → Awaits library.now change.now.around.scale text.now.pieces.table.slots stay (surroundings_view change.now.around.surroundings) (map rectangle_of change.now.around.keep_outs.now) (map placed_view change.now.went.items) (map placed_view change.now.came.items) boxes.old kept.lines after
+        → IfOk result (λ found. IfSome found (λ f. min (met_sum (map place_under (components_under library.now change.now.around.scale (records_under text.now.pieces.table.slots stay))) (map place_under (map placed_view change.now.went.items)) + met_sum (map place_under (components_under library.now change.now.around.scale (records_under text.now.pieces.table.slots stay))) (map place_under (map placed_view change.now.came.items))) (2 ^ 64 - 1) ≤ f.tests)) }
 {
     same_lines_follow();
     if !remove_all(boxes, &change.went) {
@@ -227,6 +229,7 @@ fn exchanged_keep_outs<'t, A: Allocator + Copy>(
     ensures keep_outs { IfOk result (λ found. IfSome found (λ _.
         SameThings (map rectangle_of keep_outs.old.items ++ map rectangle_of change.now.came.now) (map rectangle_of change.now.went.now ++ map rectangle_of keep_outs.new.items))) }
     ensures tests { IfOk result (λ found. IfSome found (λ f. f.tests ≤ near_rectangles boxes.now (map rectangle_of change.now.went.now) + near_rectangles boxes.now (map rectangle_of change.now.came.now))) }
+    ensures least { IfOk result (λ found. IfSome found (λ f. min (met_rectangles boxes.now (map rectangle_of change.now.went.now) + met_rectangles boxes.now (map rectangle_of change.now.came.now)) (2 ^ 64 - 1) ≤ f.tests)) }
 {
     same_lines_follow();
     let scale = change.scale;
@@ -276,6 +279,8 @@ impl<A: Allocator + Copy> FollowedPlaces<A> {
             → IfOk result (λ found. IfSome found (λ f. AreFollowed library.entry.now new self.new f.lines)) }
         ensures tests { (old new : List (Number × Record)) → IsExchange text.entry.now.pieces.table.slots old new (exchange_view exchange.entry) → AreFollowed library.entry.now old self.old kept
             → IfOk result (λ found. IfSome found (λ f. f.tests ≤ near_pairs library.entry.now old (records_under text.entry.now.pieces.table.slots (exchange_view exchange.entry).went) + near_pairs library.entry.now new (records_under text.entry.now.pieces.table.slots (exchange_view exchange.entry).came))) }
+        ensures least { (old new : List (Number × Record)) → IsExchange text.entry.now.pieces.table.slots old new (exchange_view exchange.entry) → AreFollowed library.entry.now old self.old kept
+            → IfOk result (λ found. IfSome found (λ f. min (met_pairs library.entry.now old (records_under text.entry.now.pieces.table.slots (exchange_view exchange.entry).went) + met_pairs library.entry.now new (records_under text.entry.now.pieces.table.slots (exchange_view exchange.entry).came)) (2 ^ 64 - 1) ≤ f.tests + (met_among library.entry.now old (records_under text.entry.now.pieces.table.slots (exchange_view exchange.entry).went) + met_among library.entry.now new (records_under text.entry.now.pieces.table.slots (exchange_view exchange.entry).came)))) }
     {
         components_are_exchanged();
         same_lines_follow();

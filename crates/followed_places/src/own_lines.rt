@@ -1,6 +1,6 @@
 //! The lines on components among those whose boxes are kept.
 
-ghost use Rattle.std.specs.Prelude.{◌≡◌, ◌<◌, ◌≤◌, ◌++◌, [], IfOk, List, OnOk, filter, map};
+ghost use Rattle.std.specs.Prelude.{◌≡◌, ◌<◌, ◌≤◌, ◌-◌, ◌^◌, ◌++◌, [], IfOk, List, OnOk, filter, map, min};
 ghost use Rattle.design_model.specs.declared.identifier.StmtId.{StmtId as Number};
 ghost use Rattle.design_model.specs.Views.{rectangle_of};
 ghost use Rattle.following_laws.specs.DesignLaws.{lines_of_components};
@@ -8,11 +8,11 @@ ghost use Rattle.line_laws.specs.Lines.{SameLines, SameThings};
 ghost use Rattle.place_checks.specs.IndexViews.{surroundings_view};
 ghost use Rattle.place_checks.specs.Views.{boxed_view};
 ghost use Rattle.shape_rules.specs.Meeting.{meets};
-ghost use Rattle.statement_boxes.specs.Boxes.{near_count};
+ghost use Rattle.statement_boxes.specs.Boxes.{met_count, near_count};
 ghost use Rattle.followed_places.specs.Lines.{AreBoxesOf, boxed_under};
 ghost use Rattle.followed_places.specs.Placed.{component_of, placed_view};
 ghost use Rattle.followed_places.specs.Places.{place_under};
-ghost use Rattle.followed_places.specs.Tests.{near_sum};
+ghost use Rattle.followed_places.specs.Tests.{met_sum, near_sum};
 
 use crate::around::Around;
 use crate::components::Placed;
@@ -49,6 +49,7 @@ pub(crate) fn met<'t, A: Allocator + Copy>(
     ensures components { (ids : List Number) → AreBoxesOf library.now scale text.now.pieces.table.slots ids boxes.now
         → IfOk result (λ m. SameThings (map boxed_view m.components.items) (filter (λ b. meets b.box (rectangle_of rect)) (boxed_under library.entry.now scale text.entry.now.pieces.table.slots ids))) }
     ensures compared { IfOk result (λ m. m.compared ≤ near_count (rectangle_of rect) boxes.now) }
+    ensures least { IfOk result (λ m. met_count (rectangle_of rect) boxes.now ≤ m.compared) }
 {
     let found = boxes.met(alloc, rect)?;
     let statements = text.kept(alloc, &found.ids)?;
@@ -89,6 +90,7 @@ pub(crate) fn lines_of<'t, A: Allocator + Copy>(
     ensures lines { (ids : List Number) → AreBoxesOf library.now around.now.scale text.now.pieces.table.slots ids boxes.now
         → IfOk result (λ c. SameLines c.lines (lines_of_components (surroundings_view around.now.surroundings) (map component_of components.now) (boxed_under library.now around.now.scale text.now.pieces.table.slots ids) (map rectangle_of around.now.keep_outs.now) [])) }
     ensures tests { IfOk result (λ c. c.tests ≤ near_sum boxes.now (map place_under (map placed_view components.now))) }
+    ensures least { IfOk result (λ c. min (met_sum boxes.now (map place_under (map placed_view components.now))) (2 ^ 64 - 1) ≤ c.tests) }
 {
     let scale = around.scale;
     let mut lines = Lines::new(alloc);

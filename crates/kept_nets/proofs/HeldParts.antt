@@ -1,4 +1,4 @@
--- The shapes of a net's parts in a set by tiles, and how many of them are near each other.
+-- The shapes of a net's parts in a set by tiles, and how many of them are near each other and meet.
 use Rattle.std.proofs.Common.{◌≡◌, ◌∙◌, ◌≤◌, ◌<◌, ◌+◌, ◌-◌, ℕ, suc, Bool, true, cond, List, [], ◌∷◌, ◌++◌, map, filter, length, refl, sym, ap, arith, sum_by}
 use Rattle.std.specs.Prelude.{flat_map}
 use Rattle.std.proofs.lemmas.List.{append_assoc, map-append}
@@ -15,10 +15,11 @@ use Rattle.net_lists.proofs.ShapeLemmas.{shapes_in, shapes_in_parts}
 use Rattle.net_queries.specs.Held.{HoldsParts, held_from, is_among, shape_of, shapes_from}
 use Rattle.net_queries.proofs.Sums.{sums_mapped, sums_same, sums_tested}
 use Rattle.placed_shapes.specs.Placed.{placed_shape, placed_shapes, stored}
-use Rattle.shape_index.specs.Near.{near_shape, near_shapes}
+use Rattle.shape_index.specs.Near.{met_shape, near_shape}
+use Rattle.shape_index.specs.Shapes.{met_count}
 use Rattle.shape_index.specs.Tiles.{near_count}
 use Rattle.shape_index.specs.declared.shape.Shape.{Shape as Stored}
-use Rattle.kept_nets.specs.NearParts.{near_in_parts}
+use Rattle.kept_nets.specs.NearParts.{met_in_parts, near_in_parts}
 
 abbrev Placed : Type 0
 Placed = ℕ × Shape
@@ -72,35 +73,46 @@ holds_parts ps es same = record {
   same = record { sums = λ w. held (length ps) w es ∙ same.sums (among (length ps) w) ∙ of_all (length ps) w 0 ps (omega arith) };
 }
 
--- 1 for a shape that is near another
-abbrev near_one : Shape → Shape → ℕ
-near_one s t = cond (near_shape s t) 1 0
+-- shapes of a set that pass a test with another
+module _ (test : Shape → Shape → Bool) where
+  abbrev one : Shape → Shape → ℕ
+  one s t = cond (test s t) 1 0
 
--- as many are near as were stored
-stored_near : (s : NetShape) (es : List (ShapeId × Stored)) → near_count s.layer s.rect es ≡ sum_by (λ (p : Placed). near_one (shape_view s) p.1) (placed_shapes es)
-stored_near s es = sym (sums_mapped (λ (p : Placed). near_one (shape_view s) p.1) (λ (e : ShapeId × Stored). placed_shape e.1) es)
+  -- as many as were stored
+  as_stored : (s : NetShape) (es : List (ShapeId × Stored)) → sum_by (λ (e : ShapeId × Stored). one (shape_view s) (placed_shape e.1).1) es ≡ sum_by (λ (p : Placed). one (shape_view s) p.1) (placed_shapes es)
+  as_stored s es = sym (sums_mapped (λ (p : Placed). one (shape_view s) p.1) (λ (e : ShapeId × Stored). placed_shape e.1) es)
 
-shapes_near : (s : Shape) (n : ℕ) (ps : List Part) → sum_by (λ (p : Placed). near_one s p.1) (shapes_from n ps) ≡ near_shapes s (flat_map shapes_in ps)
-shapes_near s n [] = refl
-shapes_near s n (p ∷ ps) =
-    let later = shapes_near s (suc n) ps in
-    let here = sums_mapped (λ (q : Placed). near_one s q.1) (λ (t : Shape). (n, t)) p.shapes in
-    omega (
-      arith,
-      here,
-      later,
-      sum_by-append (λ (q : Placed). near_one s q.1) (map (λ t. (n, t)) p.shapes) (shapes_from (suc n) ps),
-      sum_by-append (near_one s) p.shapes (flat_map shapes_in ps),
-    )
+  in_parts : (s : Shape) (n : ℕ) (ps : List Part) → sum_by (λ (p : Placed). one s p.1) (shapes_from n ps) ≡ sum_by (one s) (flat_map shapes_in ps)
+  in_parts s n [] = refl
+  in_parts s n (p ∷ ps) =
+      let later = in_parts s (suc n) ps in
+      let here = sums_mapped (λ (q : Placed). one s q.1) (λ (t : Shape). (n, t)) p.shapes in
+      omega (
+        arith,
+        here,
+        later,
+        sum_by-append (λ (q : Placed). one s q.1) (map (λ t. (n, t)) p.shapes) (shapes_from (suc n) ps),
+        sum_by-append (one s) p.shapes (flat_map shapes_in ps),
+      )
 
--- and no more than these are compared
+  each_with_all : (hs : List PartHead) (ss : List NetShape) (es : List (ShapeId × Stored)) → sum_by shape_count hs ≡ length ss → SameThings (placed_shapes es) (shapes_from 0 (parts_of hs ss))
+      → sum_by (λ (s : NetShape). sum_by (λ (e : ShapeId × Stored). one (shape_view s) (placed_shape e.1).1) es) ss
+      ≡ sum_by (λ (s : Shape). sum_by (one s) (flat_map shapes_in (parts_of hs ss))) (flat_map shapes_in (parts_of hs ss))
+  each_with_all hs ss es whole same =
+      let own = map shape_view ss in
+      let ps = parts_of hs ss in
+      let all : flat_map shapes_in ps ≡ own = shapes_in_parts hs ss whole in
+      sums_same (λ (s : NetShape). sum_by (λ (e : ShapeId × Stored). one (shape_view s) (placed_shape e.1).1) es) (λ (s : NetShape). sum_by (one (shape_view s)) own)
+      (λ s. as_stored s es ∙ same.sums (λ (p : Placed). one (shape_view s) p.1) ∙ in_parts (shape_view s) 0 ps ∙ ap (sum_by (one (shape_view s))) all) ss
+      ∙ sym (sums_mapped (λ (s : Shape). sum_by (one s) own) shape_view ss)
+      ∙ sym (ap (λ (l : List Shape). sum_by (λ (s : Shape). sum_by (one s) l) l) all)
+
+-- no more are compared than are near each other
 pub few_compared : (hs : List PartHead) (ss : List NetShape) (es : List (ShapeId × Stored)) → sum_by shape_count hs ≡ length ss
     → SameThings (placed_shapes es) (shapes_from 0 (parts_of hs ss)) → sum_by (λ (s : NetShape). near_count s.layer s.rect es) ss ≡ near_in_parts (parts_of hs ss)
-few_compared hs ss es whole same =
-    let own = map shape_view ss in
-    let ps = parts_of hs ss in
-    let all : flat_map shapes_in ps ≡ own = shapes_in_parts hs ss whole in
-    sums_same (λ (s : NetShape). near_count s.layer s.rect es) (λ (s : NetShape). near_shapes (shape_view s) own)
-    (λ s. stored_near s es ∙ same.sums (λ (p : Placed). near_one (shape_view s) p.1) ∙ shapes_near (shape_view s) 0 ps ∙ ap (near_shapes (shape_view s)) all) ss
-    ∙ sym (sums_mapped (λ (s : Shape). near_shapes s own) shape_view ss)
-    ∙ sym (ap (λ (l : List Shape). sum_by (λ (s : Shape). near_shapes s l) l) all)
+few_compared hs ss es whole same = each_with_all near_shape hs ss es whole same
+
+-- and no fewer than meet
+pub met_compared : (hs : List PartHead) (ss : List NetShape) (es : List (ShapeId × Stored)) → sum_by shape_count hs ≡ length ss
+    → SameThings (placed_shapes es) (shapes_from 0 (parts_of hs ss)) → sum_by (λ (s : NetShape). met_count s.layer s.rect es) ss ≡ met_in_parts (parts_of hs ss)
+met_compared hs ss es whole same = each_with_all met_shape hs ss es whole same

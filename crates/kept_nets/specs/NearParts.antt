@@ -1,13 +1,17 @@
--- How many shapes of parts are near each other.
+-- How many shapes of parts are near each other, and how many meet.
 use Rattle.std.specs.Prelude.{ℕ, Bool, List, cond, sum_by}
 use Rattle.lef_grammar.specs.Measures.{Shape}
 use Rattle.connection_rules.specs.NetParts.{Part}
-use Rattle.shape_index.specs.Near.{near_shape, near_shapes}
+use Rattle.shape_index.specs.Near.{met_shapes, near_shape, near_shapes}
 use Rattle.kept_nets.specs.Parts.{shapes_in}
 
 -- how many shapes of parts are near each of these shapes, itself among them
 abbrev pub near_in_parts : List Part → ℕ
 near_in_parts ps = sum_by (λ (s : Shape). near_shapes s (shapes_in ps)) (shapes_in ps)
+
+-- and how many meet it, itself among them
+abbrev pub met_in_parts : List Part → ℕ
+met_in_parts ps = sum_by (λ (s : Shape). met_shapes s (shapes_in ps)) (shapes_in ps)
 
 -- whether a shape is near itself
 abbrev pub is_near_itself : Shape → Bool

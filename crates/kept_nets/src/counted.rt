@@ -1,6 +1,6 @@
 //! How the parts of a net hang together, with a count of the comparisons by which it is found.
 
-ghost use Rattle.std.specs.Prelude.{◌≡◌, ◌≤◌, IfOk, map};
+ghost use Rattle.std.specs.Prelude.{◌≡◌, ◌≤◌, ◌-◌, ◌^◌, IfOk, map, min};
 ghost use Rattle.connection_rules.specs.NetLines.{is_drawn};
 ghost use Rattle.connection_rules.specs.PartClasses.{with_pins, without_pins};
 ghost use Rattle.line_laws.specs.Lines.{SameThings};
@@ -8,7 +8,7 @@ ghost use Rattle.net_lists.specs.NetViews.{net_view};
 ghost use Rattle.net_queries.specs.Held.{shapes_from};
 ghost use Rattle.placed_shapes.specs.Placed.{placed_shape};
 ghost use Rattle.kept_nets.specs.Kept.{HangAs};
-ghost use Rattle.kept_nets.specs.NearParts.{near_in_parts};
+ghost use Rattle.kept_nets.specs.NearParts.{met_in_parts, near_in_parts};
 
 use net_classes::NetClasses;
 use net_lists::NetView;
@@ -53,11 +53,13 @@ fn placed_net<A: Allocator + Copy>(
     PlacedShapes::of(alloc, &shapes)
 }
 
-/// How the parts of a net hang together, and how many pairs of its shapes were compared to find it: those near each other by tiles.
+/// How the parts of a net hang together, and how many pairs of its shapes were compared to find it: those that meet, and others that are
+/// near each other by tiles.
 fn state_of<A: Allocator + Copy>(alloc: A, net: &NetView<'_, '_>) -> Result<NetState, AllocError>
     ensures classes { IfOk result (λ s. s.classes ≡ with_pins (net_view net.now).parts) }
     ensures floating { IfOk result (λ s. s.floating ≡ without_pins (net_view net.now).parts) }
     ensures tests { IfOk result (λ s. s.tests ≤ near_in_parts (net_view net.now).parts) }
+    ensures least { IfOk result (λ s. min (met_in_parts (net_view net.now).parts) (2 ^ 64 - 1) ≤ s.tests) }
 {
     let placed = placed_net(alloc, net)?;
     pieces_of(alloc, 0, net, placed.tiles())
@@ -77,6 +79,7 @@ pub(crate) fn classes_of_net<A: Allocator + Copy>(
 ) -> Result<CountedClasses, AllocError>
     ensures classes { IfOk result (λ c. HangAs (net_view net.now).parts c.classes) }
     ensures tests { IfOk result (λ c. c.tests ≤ near_in_parts (net_view net.now).parts) }
+    ensures least { IfOk result (λ c. min (met_in_parts (net_view net.now).parts) (2 ^ 64 - 1) ≤ c.tests) }
 {
     let state = state_of(alloc, net)?;
     let classes = NetClasses {

@@ -1,9 +1,10 @@
 //! How one more pin hangs together with the parts of a net, by those near it.
 
-ghost use Rattle.std.specs.Prelude.{◌≡◌, ◌++◌, IfOk, IsTrue, map, true};
+ghost use Rattle.std.specs.Prelude.{◌≡◌, ◌≤◌, ◌+◌, ◌-◌, ◌^◌, ◌∷◌, ◌++◌, IfOk, IsTrue, map, min, true};
 ghost use Rattle.class_laws.specs.OneMore.{AreJoinedAt, IsInAClass, parts_at};
 ghost use Rattle.kept_nets.specs.Joints.{HangsBy};
 ghost use Rattle.kept_nets.specs.Kept.{AreShapesOf};
+ghost use Rattle.kept_nets.specs.NearParts.{met_in_parts};
 ghost use Rattle.kept_nets.specs.Parts.{part_view};
 
 use crate::listing::{classes_at, classes_with};
@@ -47,7 +48,8 @@ fn is_within<A: Allocator + Copy>(
     places: &[usize],
     looks: &mut Looks,
 ) -> Result<bool, AllocError>
-    ensures { IfOk result (λ yes. IsTrue yes → IsInAClass (part_view part.now) (parts_at (map part_view parts.now) places.now)) }
+    ensures within { IfOk result (λ yes. IsTrue yes → IsInAClass (part_view part.now) (parts_at (map part_view parts.now) places.now)) }
+    ensures least { IfOk result (λ yes. IsTrue yes → min (looks.old.tests + met_in_parts (part_view part.now ∷ parts_at (map part_view parts.now) places.now)) (2 ^ 64 - 1) ≤ looks.new.tests) }
 {
     let count = count_at(parts, places).saturating_add(part.shapes.len() as u64);
     if !looks.have_room(count.saturating_mul(count).saturating_mul(2)) {

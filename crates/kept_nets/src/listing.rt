@@ -1,12 +1,12 @@
 //! Parts as a net of a list.
 
-ghost use Rattle.std.specs.Prelude.{◌≡◌, ◌<◌, ◌≤◌, ◌∷◌, ◌++◌, [], IfOk, List, OnOk, length, map};
+ghost use Rattle.std.specs.Prelude.{◌≡◌, ◌<◌, ◌≤◌, ◌-◌, ◌^◌, ◌∷◌, ◌++◌, [], IfOk, List, OnOk, length, map, min};
 ghost use Rattle.connection_rules.specs.NetParts.{Net};
 ghost use Rattle.net_lists.specs.Building.{last_parts, with_parts, with_shapes};
 ghost use Rattle.net_lists.specs.PartCuts.{shape_view};
 ghost use Rattle.class_laws.specs.OneMore.{parts_at};
 ghost use Rattle.kept_nets.specs.Kept.{HangAs};
-ghost use Rattle.kept_nets.specs.NearParts.{near_in_parts};
+ghost use Rattle.kept_nets.specs.NearParts.{met_in_parts, near_in_parts};
 ghost use Rattle.kept_nets.specs.Parts.{part_view};
 
 use crate::counted::{CountedClasses, classes_of_net};
@@ -83,6 +83,7 @@ fn classes_in<A: Allocator + Copy>(
 ) -> Result<CountedClasses, AllocError>
     ensures classes { (net : Net) → nets.now ≡ net ∷ [] → IfOk result (λ c. HangAs net.parts c.classes) }
     ensures tests { (net : Net) → nets.now ≡ net ∷ [] → IfOk result (λ c. c.tests ≤ near_in_parts net.parts) }
+    ensures least { (net : Net) → nets.now ≡ net ∷ [] → IfOk result (λ c. min (met_in_parts net.parts) (2 ^ 64 - 1) ≤ c.tests) }
 {
     let mut left = nets.nets();
     match left.next() {
@@ -107,6 +108,7 @@ pub(crate) fn classes_of_parts<A: Allocator + Copy>(
 ) -> Result<CountedClasses, AllocError>
     ensures classes { IfOk result (λ c. HangAs (map part_view parts.now) c.classes) }
     ensures tests { IfOk result (λ c. c.tests ≤ near_in_parts (map part_view parts.now)) }
+    ensures least { IfOk result (λ c. min (met_in_parts (map part_view parts.now)) (2 ^ 64 - 1) ≤ c.tests) }
 {
     building_a_net();
     let mut nets = NetList::new(alloc);
@@ -121,7 +123,8 @@ pub(crate) fn classes_at<A: Allocator + Copy>(
     parts: &[KeptPart<A>],
     places: &[usize],
 ) -> Result<CountedClasses, AllocError>
-    ensures { IfOk result (λ c. HangAs (parts_at (map part_view parts.now) places.now) c.classes) }
+    ensures classes { IfOk result (λ c. HangAs (parts_at (map part_view parts.now) places.now) c.classes) }
+    ensures least { IfOk result (λ c. min (met_in_parts (parts_at (map part_view parts.now) places.now)) (2 ^ 64 - 1) ≤ c.tests) }
 {
     building_a_net();
     let mut nets = NetList::new(alloc);
@@ -137,7 +140,8 @@ pub(crate) fn classes_with<A: Allocator + Copy>(
     parts: &[KeptPart<A>],
     places: &[usize],
 ) -> Result<CountedClasses, AllocError>
-    ensures { IfOk result (λ c. HangAs (part_view part.now ∷ parts_at (map part_view parts.now) places.now) c.classes) }
+    ensures classes { IfOk result (λ c. HangAs (part_view part.now ∷ parts_at (map part_view parts.now) places.now) c.classes) }
+    ensures least { IfOk result (λ c. min (met_in_parts (part_view part.now ∷ parts_at (map part_view parts.now) places.now)) (2 ^ 64 - 1) ≤ c.tests) }
 {
     building_a_net();
     let mut nets = NetList::new(alloc);

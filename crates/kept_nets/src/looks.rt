@@ -1,9 +1,10 @@
 //! How many shapes are compared while parts near some are looked at.
 
-ghost use Rattle.std.specs.Prelude.{◌≡◌, ◌≤◌, ◌∷◌, [], IfOk, IfSome, IsTrue, flat_map, map, true};
+ghost use Rattle.std.specs.Prelude.{◌≡◌, ◌≤◌, ◌+◌, ◌-◌, ◌^◌, ◌∷◌, [], IfOk, IfSome, IsTrue, flat_map, map, min, sum_by, true};
 ghost use Rattle.line_laws.specs.Lines.{SameThings};
 ghost use Rattle.net_lists.specs.PartCuts.{shape_view};
 ghost use Rattle.placed_shapes.specs.Placed.{touched_by};
+ghost use Rattle.shape_index.specs.Near.{met_shapes};
 ghost use Rattle.kept_nets.specs.NearParts.{is_near_itself, near_one, near_themselves};
 ghost use Rattle.kept_nets.specs.Parts.{part_view};
 
@@ -28,6 +29,7 @@ impl Looks {
     /// So many more were compared.
     pub(crate) fn add(&mut self, tests: u64)
         ensures more { self.old.tests ≤ self.new.tests }
+        ensures all { min (self.old.tests + tests) (2 ^ 64 - 1) ≤ self.new.tests }
         ensures most { self.new.most ≡ self.old.most }
     {
         self.tests = self.tests.saturating_add(tests);
@@ -49,7 +51,8 @@ pub(crate) fn touched_within<A: Allocator + Copy>(
     own: &[NetShape],
     looks: &mut Looks,
 ) -> Result<Option<Vec<usize, A>>, AllocError>
-    ensures { IfOk result (λ found. IfSome found (λ v. SameThings v.items (flat_map (touched_by shapes.now) (map shape_view own.now)))) }
+    ensures places { IfOk result (λ found. IfSome found (λ v. SameThings v.items (flat_map (touched_by shapes.now) (map shape_view own.now)))) }
+    ensures least { IfOk result (λ found. IfSome found (λ _. min (looks.old.tests + sum_by (λ s. met_shapes s (map (λ p. p.1) shapes.now)) (map shape_view own.now)) (2 ^ 64 - 1) ≤ looks.new.tests)) }
 {
     let mut places = Vec::new(alloc);
     for shape in own {

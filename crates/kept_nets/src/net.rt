@@ -1,13 +1,13 @@
 //! A net with parts of its own.
 
-ghost use Rattle.std.specs.Prelude.{◌≡◌, ◌≤◌, ◌∷◌, ◌++◌, [], IfOk, IfSome, IsTrue, List, OnOk, flat_map, map};
+ghost use Rattle.std.specs.Prelude.{◌≡◌, ◌≤◌, ◌-◌, ◌^◌, ◌∷◌, ◌++◌, ◌⊎◌, [], IfOk, IfSome, IsTrue, List, OnOk, flat_map, map, min};
 ghost use Rattle.connection_rules.specs.NetLines.{class_lines, routeblock_of, shapes_of_net, shapes_of_part};
 ghost use Rattle.connection_rules.specs.NetParts.{Part};
 ghost use Rattle.design_model.specs.Families.{cross_lines};
 ghost use Rattle.line_laws.specs.Lines.{SameThings};
 ghost use Rattle.net_lists.specs.NetViews.{net_view, net_with};
 ghost use Rattle.net_touches.specs.Barriers.{barrier_view, name_at};
-ghost use Rattle.kept_nets.specs.NearParts.{near_in_parts};
+ghost use Rattle.kept_nets.specs.NearParts.{met_in_parts, near_in_parts};
 ghost use Rattle.kept_nets.specs.Parts.{part_view};
 
 use crate::joined::{with_pin, without_pin};
@@ -41,7 +41,8 @@ pub struct KeptNet<A: Allocator = Global> {
     sure: u64,
 }
 
-/// How many pairs of shapes were compared where parts of a net are exchanged: for what hung together before it, and for what does then.
+/// How many pairs of shapes were compared where parts of a net are exchanged: near those that go and come, and then of all parts, where
+/// the first don't tell how they hang together; else 0.
 #[derive(Clone, Copy)]
 pub struct ExchangeTests {
     pub before: u64,
@@ -187,17 +188,27 @@ impl<A: Allocator + Copy> KeptNet<A> {
         Ok(())
     }
 
-    /// Finds from all parts how these hang together, unless that is known, and says how many pairs of shapes were compared for it.
+    /// Finds from all parts how these hang together, and says how many pairs of shapes were compared for it: those that meet at least.
+    fn find_classes(&mut self) -> Result<u64, AllocError>
+        ensures same { self.new ≡ self.old }
+        ensures tests { IfOk result (λ n. n ≤ near_in_parts self.new.parts) }
+        ensures least { IfOk result (λ n. min (met_in_parts self.new.parts) (2 ^ 64 - 1) ≤ n) }
+    {
+        let found = classes_of_parts(*self.parts.allocator(), &self.parts)?;
+        self.classes = Some(found.classes);
+        Ok(found.tests)
+    }
+
+    /// The same, unless it is known: then 0.
     fn settle(&mut self) -> Result<u64, AllocError>
         ensures same { self.new ≡ self.old }
         ensures tests { IfOk result (λ n. n ≤ near_in_parts self.new.parts) }
+        ensures least { IfOk result (λ n. (n ≡ 0) ⊎ (min (met_in_parts self.new.parts) (2 ^ 64 - 1) ≤ n)) }
     {
         if self.classes.is_some() {
             return Ok(0);
         }
-        let found = classes_of_parts(*self.parts.allocator(), &self.parts)?;
-        self.classes = Some(found.classes);
-        Ok(found.tests)
+        self.find_classes()
     }
 
     /// Puts parts in, and says how many pairs of shapes were compared where it was found from all parts how these hang together then.
@@ -206,6 +217,7 @@ impl<A: Allocator + Copy> KeptNet<A> {
         ensures name { self.new.name ≡ self.old.name }
         ensures power { self.new.is_power ≡ self.old.is_power }
         ensures tests { IfOk result (λ n. n ≤ near_in_parts self.new.parts) }
+        ensures least { IfOk result (λ n. (n ≡ 0) ⊎ (min (met_in_parts self.new.parts) (2 ^ 64 - 1) ≤ n)) }
     {
         let mut parts = parts;
         while let Some(part) = parts.pop() {
@@ -226,6 +238,7 @@ impl<A: Allocator + Copy> KeptNet<A> {
         ensures power { self.new.is_power ≡ self.old.is_power }
         ensures before { IfOk result (λ found. IfSome found (λ t. t.before ≤ near_in_parts self.old.parts)) }
         ensures after { IfOk result (λ found. IfSome found (λ t. t.after ≤ near_in_parts self.new.parts)) }
+        ensures least { IfOk result (λ found. IfSome found (λ t. (t.after ≡ 0) ⊎ (min (met_in_parts self.new.parts) (2 ^ 64 - 1) ≤ t.after))) }
     {
         let most = self.sure;
         let mut looks = Looks { tests: 0, most };

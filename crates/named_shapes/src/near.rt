@@ -1,9 +1,9 @@
 //! The nets that have shapes which touch others.
 
-ghost use Rattle.std.specs.Prelude.{◌≡◌, ◌==◌, ◌≤◌, ℕ, Bool, false, true, not, IfOk, IfSome, OnOk, map, sum_by};
+ghost use Rattle.std.specs.Prelude.{◌≡◌, ◌==◌, ◌≤◌, ◌-◌, ◌^◌, ℕ, Bool, false, true, not, IfOk, IfSome, OnOk, map, min, sum_by};
 ghost use Rattle.std.specs.List.{list_any};
 ghost use Rattle.net_lists.specs.PartCuts.{shape_view};
-ghost use Rattle.shape_index.specs.Near.{near_shapes};
+ghost use Rattle.shape_index.specs.Near.{met_shapes, near_shapes};
 ghost use Rattle.named_shapes.specs.Touching.{AreTouching, is_known};
 
 use crate::names::NetNames;
@@ -96,7 +96,7 @@ fn names_at<A: Allocator + Copy>(
 
 impl<A: Allocator + Copy> NamedShapes<A> {
     /// The names of the nets that have shapes which touch some of these, unless they are more than so many, and how many pairs of shapes
-    /// were compared to find them.
+    /// were compared to find them: those that touch at least, up to 2^64 - 1.
     pub fn nets_touching(
         &self,
         alloc: A,
@@ -105,6 +105,7 @@ impl<A: Allocator + Copy> NamedShapes<A> {
     ) -> Result<Option<TouchingNets<A>>, AllocError>
         ensures all { IfOk result (λ found. IfSome found (λ t. AreTouching self.now (map shape_view shapes.now) t.names.items)) }
         ensures tests { IfOk result (λ found. IfSome found (λ t. t.tests ≤ sum_by (λ s. near_shapes s (map (λ n. n.shape) self.now)) (map shape_view shapes.now))) }
+        ensures least { IfOk result (λ found. IfSome found (λ t. min (sum_by (λ s. met_shapes s (map (λ n. n.shape) self.now)) (map shape_view shapes.now)) (2 ^ 64 - 1) ≤ t.tests)) }
     {
         let TouchedPlaces { places, tests } = self.placed.touched_places(alloc, shapes)?;
         let Some(once) = each_once(alloc, &places, most)? else {

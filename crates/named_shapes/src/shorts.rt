@@ -1,12 +1,12 @@
 //! The lines of a net's shapes with those of other nets.
 
-ghost use Rattle.std.specs.Prelude.{◌≡◌, ◌++◌, ◌≤◌, IfOk, flat_map, map, sum_by};
+ghost use Rattle.std.specs.Prelude.{◌≡◌, ◌++◌, ◌≤◌, ◌-◌, ◌^◌, IfOk, flat_map, map, min, sum_by};
 ghost use Rattle.connection_rules.specs.NetLines.{short_of};
 ghost use Rattle.design_model.specs.Families.{cross_lines};
 ghost use Rattle.line_laws.specs.Lines.{SameLines};
 ghost use Rattle.net_lists.specs.PartCuts.{shape_view};
 ghost use Rattle.net_touches.specs.Barriers.{name_at};
-ghost use Rattle.shape_index.specs.Near.{near_shapes};
+ghost use Rattle.shape_index.specs.Near.{met_shapes, near_shapes};
 ghost use Rattle.named_shapes.specs.Named.{named};
 
 use crate::shapes::NamedShapes;
@@ -28,6 +28,7 @@ impl<A: Allocator + Copy> NamedShapes<A> {
     ) -> Result<Checked<A>, AllocError>
         ensures lines { IfOk result (λ c. SameLines c.lines (lines ++ flat_map (short_of (name_at (map (λ w. w.now) layers.now)) (named net.now (shape_view shape.now))) self.now)) }
         ensures tests { IfOk result (λ c. c.tests ≤ near_shapes (shape_view shape.now) (map (λ n. n.shape) self.now)) }
+        ensures least { IfOk result (λ c. met_shapes (shape_view shape.now) (map (λ n. n.shape) self.now) ≤ c.tests) }
     {
         let head = NetHead {
             name: net,
@@ -43,8 +44,8 @@ impl<A: Allocator + Copy> NamedShapes<A> {
     }
 
     /// Puts the lines of shapes of a net with the shapes of other nets that touch them behind others, in an order that is left open, and
-    /// says how many pairs of shapes were compared for them. `layers` are the names of all layers, from the bottom up. Two shapes of one
-    /// net have no line.
+    /// says how many pairs of shapes were compared for them: those that touch at least, of one net too, up to 2^64 - 1. `layers` are the
+    /// names of all layers, from the bottom up. Two shapes of one net have no line.
     pub fn put_shorts(
         &self,
         layers: &[&[u8]],
@@ -54,6 +55,7 @@ impl<A: Allocator + Copy> NamedShapes<A> {
     ) -> Result<Checked<A>, AllocError>
         ensures lines { IfOk result (λ c. SameLines c.lines (lines ++ cross_lines (short_of (name_at (map (λ w. w.now) layers.now))) (map (named net.now) (map shape_view shapes.now)) self.now)) }
         ensures tests { IfOk result (λ c. c.tests ≤ sum_by (λ s. near_shapes s (map (λ n. n.shape) self.now)) (map shape_view shapes.now)) }
+        ensures least { IfOk result (λ c. min (sum_by (λ s. met_shapes s (map (λ n. n.shape) self.now)) (map shape_view shapes.now)) (2 ^ 64 - 1) ≤ c.tests) }
     {
         let mut lines = lines;
         let mut tests: u64 = 0;

@@ -1,6 +1,6 @@
 //! The lines on the nets of a design, with a count of the comparisons by which it is found how the parts of each hang together.
 
-ghost use Rattle.std.specs.Prelude.{◌≡◌, ◌≤◌, ◌++◌, IfOk, List, OnOk, flat_map, map};
+ghost use Rattle.std.specs.Prelude.{◌≡◌, ◌≤◌, ◌-◌, ◌^◌, ◌++◌, IfOk, List, OnOk, flat_map, map, min};
 ghost use Rattle.def_grammar.specs.Records.{Record};
 ghost use Rattle.lef_grammar.specs.Library.{Library as TheLibrary};
 ghost use Rattle.design_rules.specs.Boxes.{scale};
@@ -12,7 +12,7 @@ ghost use Rattle.net_lists.specs.NetViews.{net_view};
 ghost use Rattle.net_queries.specs.Held.{shapes_from};
 ghost use Rattle.placed_shapes.specs.Placed.{placed_shape};
 ghost use Rattle.net_checks.specs.Drawings.{IsBarredDrawing, lines_of_nets};
-ghost use Rattle.net_checks.specs.NearWithin.{near_in_net, near_within};
+ghost use Rattle.net_checks.specs.NearWithin.{met_in_net, met_within, near_in_net, near_within};
 
 use crate::net_lines::NetDrawing;
 use line_laws::same::same_lines_append;
@@ -54,11 +54,13 @@ fn placed_parts<A: Allocator + Copy>(
     PlacedShapes::of(alloc, &shapes)
 }
 
-/// How the parts of a net hang together, and how many pairs of its shapes were compared to find it: those near each other by tiles.
+/// How the parts of a net hang together, and how many pairs of its shapes were compared to find it: those that meet, and others that are
+/// near each other by tiles.
 fn state_of<A: Allocator + Copy>(alloc: A, net: &NetView<'_, '_>) -> Result<NetState, AllocError>
     ensures classes { IfOk result (λ s. s.classes ≡ with_pins (net_view net.now).parts) }
     ensures floating { IfOk result (λ s. s.floating ≡ without_pins (net_view net.now).parts) }
     ensures tests { IfOk result (λ s. s.tests ≤ near_in_net (net_view net.now)) }
+    ensures least { IfOk result (λ s. min (met_in_net (net_view net.now)) (2 ^ 64 - 1) ≤ s.tests) }
 {
     let placed = placed_parts(alloc, net)?;
     pieces_of(alloc, 0, net, placed.tiles())
@@ -80,6 +82,7 @@ fn put_counted_net<A: Allocator + Copy>(
 ) -> Result<u64, AllocError>
     ensures lines { OnOk result (lines.new ≡ lines.old ++ class_lines (net_view net.now)) }
     ensures tests { IfOk result (λ n. n ≤ near_in_net (net_view net.now)) }
+    ensures least { IfOk result (λ n. min (met_in_net (net_view net.now)) (2 ^ 64 - 1) ≤ n) }
 {
     let state = state_of(alloc, net)?;
     let classes = NetClasses {
@@ -101,6 +104,7 @@ fn put_counted_nets<A: Allocator + Copy>(
 ) -> Result<Checked<A>, AllocError>
     ensures lines { IfOk result (λ c. c.lines ≡ lines ++ flat_map class_lines nets.now) }
     ensures tests { IfOk result (λ c. c.tests ≤ near_within nets.now) }
+    ensures least { IfOk result (λ c. min (met_within nets.now) (2 ^ 64 - 1) ≤ c.tests) }
 {
     let mut lines = lines;
     let mut tests: u64 = 0;
@@ -120,6 +124,7 @@ impl<'l, 't, A: Allocator + Copy> NetDrawing<'l, 't, A> {
         ensures lines { (library : TheLibrary) (design : List Record) (bars : List NetBarrier) → IsBarredDrawing library design bars self.now
             → IfOk result (λ c. SameLines c.lines (lines ++ lines_of_nets (layer_name library.layers) (all_nets library design (scale design)) bars)) }
         ensures tests { IfOk result (λ c. c.tests ≤ near_within self.now.nets) }
+        ensures least { IfOk result (λ c. min (met_within self.now.nets) (2 ^ 64 - 1) ≤ c.tests) }
     {
         layers_have_their_names();
         same_lines_append();

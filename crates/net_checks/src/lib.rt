@@ -7,8 +7,8 @@
 //! `net_classes`.
 //!
 //! `put_counted_lines` puts the same lines, and says how many pairs of shapes were compared to find how the parts of each net hang together,
-//! by tiles (`net_queries`): no more than are near each other (`specs/NearWithin`). What is compared with shapes of other nets and with
-//! rectangles isn't counted there.
+//! by tiles (`net_queries`): no more than are near each other, and no fewer than meet (`specs/NearWithin`). What is compared with shapes of
+//! other nets and with rectangles isn't counted there.
 //!
 //! A `NetDrawing` holds the design's nets with all their shapes, and its blockages on layers; while it is made, the design's vias too.
 //! It borrows names from the texts, and nothing from the `Names` that it is made from. The one error is `AllocError`.

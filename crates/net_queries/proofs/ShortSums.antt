@@ -111,12 +111,3 @@ module _ (owner : ℕ → Option (PartOwner × Head)) where
           ∙ ap (λ k. times q start + k) (times_met q)
           ∙ sym (times-append q start (flat_map (short_of name_of a) (net_shapes_of owner entries)));
     }
-
--- lines with barriers behind those with shapes
-pub and_barred : (start lines ends shorts barred : Lists) → start ≡ [] → SameLines lines (start ++ shorts) → ends ≡ lines ++ barred → SameLines ends (shorts ++ barred)
-and_barred start lines ends shorts barred none same is = record {
-  often = λ q.
-      ap (times q) is ∙ times-append q lines barred
-      ∙ ap (λ k. k + times q barred) (same.often q ∙ ap (λ ls. times q (ls ++ shorts)) none)
-      ∙ sym (times-append q shorts barred);
-}

@@ -1,8 +1,8 @@
 -- The steps of joining the parts of a net: another shape of the set, of a part, and another part.
-use Rattle.std.proofs.Common.{◌≡◌, ◌≤◌, ◌<◌, ◌+◌, ◌-◌, ℕ, suc, add-one, Bool, true, ◌&&◌, cond, List, [], ◌∷◌, ◌++◌, map, filter, length, take, drop, get_or, refl, sym, ap, subst, ◌∙◌, arith, sum_by}
+use Rattle.std.proofs.Common.{◌≡◌, ◌≤◌, ◌<◌, ◌+◌, ◌-◌, ◌^◌, ℕ, suc, add-one, min, Bool, true, ◌&&◌, cond, List, [], ◌∷◌, ◌++◌, map, filter, length, take, drop, get_or, refl, sym, ap, subst, ◌∙◌, arith, sum_by}
 use Rattle.std.specs.Prelude.{nat_lt, if◌then◌else◌}
 use Rattle.std.specs.List.{flat_map}
-use Rattle.std.proofs.lemmas.List.{append-nil, append_assoc, drop_all, drop_more, length-drop, map-append, take_more}
+use Rattle.std.proofs.lemmas.List.{append-nil, append_assoc, drop_all, drop_more, length-drop, map-append, take_all, take_more}
 use Rattle.std.proofs.lemmas.List.Sums.{sum_by-drop_more, sum_by-take-drop, sum_by-take-le, sum_by_more}
 use Rattle.design_model.specs.declared.identifier.ShapeId.{ShapeId}
 use Rattle.lef_grammar.specs.Measures.{Shape}
@@ -119,6 +119,35 @@ tested_more most own i s before now next below is few all =
 
 pub tested_all : (most : NetShape → ℕ) (own : List NetShape) (i before now : ℕ) → now ≤ before + sum_by most (take i own) → now ≤ before + sum_by most own
 tested_all most own i before now few = let l = sum_by-take-le most own i in omega (arith, l, few)
+
+-- and what it counts at least, where a count stops at 2 ^ 64 - 1
+pub least_on : (met : NetShape → ℕ) (left own later : List NetShape) (k all now next : ℕ) → own ≡ take k left → later ≡ drop k left → min (now + sum_by met own) (2 ^ 64 - 1) ≤ next
+    → min all (2 ^ 64 - 1) ≤ now + sum_by met left → min all (2 ^ 64 - 1) ≤ next + sum_by met later
+least_on met left own later k all now next front back most least =
+    let s = sum_by-take-drop met left k in
+    let a = ap (λ xs. sum_by met xs) front in
+    let b = ap (λ xs. sum_by met xs) back in
+    omega (arith, s, a, b, most, least)
+
+pub least_more : (met : NetShape → ℕ) (own : List NetShape) (i : ℕ) (s : NetShape) (before now next : ℕ) → i < length own → s ≡ get_or own i s → min (now + met s) (2 ^ 64 - 1) ≤ next
+    → min (before + sum_by met (take i own)) (2 ^ 64 - 1) ≤ now → min (before + sum_by met (take (i + 1) own)) (2 ^ 64 - 1) ≤ next
+least_more met own i s before now next below is most least =
+    let m = sum_by_more met own i s below in
+    let e = ap met is in
+    omega (arith, m, e, most, least)
+
+pub least_all : (met : NetShape → ℕ) (own : List NetShape) (i before now : ℕ) → length own ≤ i → min (before + sum_by met (take i own)) (2 ^ 64 - 1) ≤ now → min (before + sum_by met own) (2 ^ 64 - 1) ≤ now
+least_all met own i before now past least = omega (arith, ap (sum_by met) (take_all i own past), least)
+
+none_left : (met : NetShape → ℕ) (left : List NetShape) → length left ≡ 0 → sum_by met left ≡ 0
+none_left met [] h = refl
+none_left met (s ∷ ss) h = absurd (omega (arith, h))
+
+pub least_past : (met : NetShape → ℕ) (ps : List PartHead) (i : ℕ) (left : List NetShape) (all now : ℕ) → length ps ≤ i → sum_by shape_count (drop i ps) ≡ length left
+    → min all (2 ^ 64 - 1) ≤ now + sum_by met left → min all (2 ^ 64 - 1) ≤ now
+least_past met ps i left all now past whole least =
+    let none : sum_by shape_count (drop i ps) ≡ 0 = ap (sum_by shape_count) (drop_all i ps past) in
+    omega (arith, none_left met left (sym whole ∙ none), least)
 
 -- no part is left
 pub nothing_left : (f : ℕ × Shape → List (ℕ × ℕ)) (n : ℕ) (ls : List ℕ) (i : ℕ) (ps : List PartHead) (left : List NetShape) → length ps ≤ i → JoinedBy ls (flat_map f (shapes_from n (parts_of (drop i ps) left))) ls

@@ -1,9 +1,10 @@
 //! Parts of a net that are joined by the shapes of a set.
 
-ghost use Rattle.std.specs.Prelude.{◌≡◌, ◌≤◌, ◌<◌, ◌+◌, ◌-◌, ◌&&◌, nat_lt, length, map, flat_map, sum_by, if◌then◌else◌};
+ghost use Rattle.std.specs.Prelude.{◌≡◌, ◌≤◌, ◌<◌, ◌+◌, ◌-◌, ◌^◌, ◌&&◌, nat_lt, length, map, flat_map, min, sum_by, if◌then◌else◌};
 ghost use Rattle.shape_rules.specs.Classes.{joined};
 ghost use Rattle.net_lists.specs.NetViews.{net_view};
 ghost use Rattle.net_lists.specs.PartCuts.{shape_view};
+ghost use Rattle.shape_index.specs.Shapes.{met_count};
 ghost use Rattle.net_queries.specs.Held.{is_among, shapes_from};
 ghost use Rattle.net_queries.specs.Joining.{JoinedBy, joins_of};
 
@@ -47,6 +48,7 @@ fn join_touched<A: Allocator, S: ShapeSet>(
     requires { part < length joining.classes }
     ensures joined { JoinedBy joining.classes (joins_of first (length joining.classes) (S.shapes shapes.now).entries (part, shape_view own.now)) result.classes }
     ensures tests { result.tests ≤ joining.tests + S.most shapes.now own.now.layer own.now.rect }
+    ensures least { min (joining.tests + met_count own.now.layer own.now.rect (S.shapes shapes.now).entries) (2 ^ 64 - 1) ≤ result.tests }
 {
     let (classes, compared) = shapes.for_met(
         own.layer,
@@ -71,6 +73,7 @@ fn join_part<A: Allocator, S: ShapeSet>(
     requires { part < length joining.classes }
     ensures joined { JoinedBy joining.classes (flat_map (joins_of first (length joining.classes) (S.shapes shapes.now).entries) (map (λ s. (part, shape_view s)) own.now)) result.classes }
     ensures tests { result.tests ≤ joining.tests + sum_by (λ s. S.most shapes.now s.layer s.rect) own.now }
+    ensures least { min (joining.tests + sum_by (λ s. met_count s.layer s.rect (S.shapes shapes.now).entries) own.now) (2 ^ 64 - 1) ≤ result.tests }
 {
     let mut joining = joining;
     for shape in own {
@@ -89,6 +92,7 @@ pub(crate) fn join_parts<A: Allocator, S: ShapeSet>(
     requires { length net.now.parts.now ≡ length joining.classes }
     ensures joined { JoinedBy joining.classes (flat_map (joins_of first (length joining.classes) (S.shapes shapes.now).entries) (shapes_from 0 (net_view net.now).parts)) result.classes }
     ensures tests { result.tests ≤ joining.tests + sum_by (λ s. S.most shapes.now s.layer s.rect) net.now.shapes.now }
+    ensures least { min (joining.tests + sum_by (λ s. met_count s.layer s.rect (S.shapes shapes.now).entries) net.now.shapes.now) (2 ^ 64 - 1) ≤ result.tests }
 {
     let mut joining = joining;
     let mut left = net.shapes;

@@ -1,9 +1,10 @@
 //! How a net's parts hang together.
 
-ghost use Rattle.std.specs.Prelude.{◌≡◌, ◌≤◌, IfOk, map, sum_by};
+ghost use Rattle.std.specs.Prelude.{◌≡◌, ◌≤◌, ◌-◌, ◌^◌, IfOk, map, min, sum_by};
 ghost use Rattle.connection_rules.specs.PartClasses.{with_pins, without_pins};
 ghost use Rattle.net_lists.specs.NetViews.{net_view};
 ghost use Rattle.net_queries.specs.Held.{HoldsParts};
+ghost use Rattle.shape_index.specs.Shapes.{met_count};
 
 use crate::joining::{Joining, join_parts};
 use net_lists::{NetView, PartHead};
@@ -27,7 +28,8 @@ fn marks_of<A: Allocator>(alloc: A, parts: &[PartHead]) -> Result<Vec<bool, A>, 
     parts.iter().map(|part| part.is_pin).collect(alloc)
 }
 
-/// How the parts of a net hang together, where a set holds their shapes under the numbers from the first on.
+/// How the parts of a net hang together, where a set holds their shapes under the numbers from the first on. Each of its shapes is
+/// compared with all that touch it, itself too, and with others near it; the count ends at 2^64 - 1.
 pub fn pieces_of<A: Allocator + Copy, S: ShapeSet>(
     alloc: A,
     first: usize,
@@ -37,6 +39,7 @@ pub fn pieces_of<A: Allocator + Copy, S: ShapeSet>(
     ensures classes { IfOk result (λ s. HoldsParts first (net_view net.now).parts (S.shapes shapes.now).entries → s.classes ≡ with_pins (net_view net.now).parts) }
     ensures floating { IfOk result (λ s. HoldsParts first (net_view net.now).parts (S.shapes shapes.now).entries → s.floating ≡ without_pins (net_view net.now).parts) }
     ensures tests { IfOk result (λ s. s.tests ≤ sum_by (λ x. S.most shapes.now x.layer x.rect) net.now.shapes.now) }
+    ensures least { IfOk result (λ s. min (sum_by (λ x. met_count x.layer x.rect (S.shapes shapes.now).entries) net.now.shapes.now) (2 ^ 64 - 1) ≤ s.tests) }
 {
     let marks = marks_of(alloc, net.parts)?;
     let classes = Classes::new(alloc, net.parts.len())?;

@@ -5,6 +5,7 @@ ghost use Rattle.connection_rules.specs.NetLines.{routeblock_of, short_of};
 ghost use Rattle.line_laws.specs.Lines.{SameLines};
 ghost use Rattle.net_touches.specs.Barriers.{barrier_view, name_at};
 ghost use Rattle.net_touches.specs.ShapeViews.{shape_view};
+ghost use Rattle.shape_index.specs.Shapes.{met_count};
 ghost use Rattle.net_queries.specs.OwnedShapes.{Adds, lines_of, net_shapes_of};
 
 use crate::owner::PartOwners;
@@ -70,7 +71,7 @@ pub(crate) fn put_barred<A: Allocator + Copy>(
 }
 
 /// Puts the lines of a shape with those of a set that are of another net and touch it behind others, in an order that is left open, and
-/// says how many shapes of the set were compared for them.
+/// says how many shapes of the set were compared for them: all that touch it, and others near it.
 pub fn put_touching<A: Allocator + Copy, S: ShapeSet, O: PartOwners>(
     names: &[&[u8]],
     shape: &ShapeOfNet<'_, '_>,
@@ -81,6 +82,7 @@ pub fn put_touching<A: Allocator + Copy, S: ShapeSet, O: PartOwners>(
     ensures lines { IfOk result (λ c. SameLines c.lines
         (lines ++ flat_map (short_of (name_at (map (λ w. w.now) names.now)) (shape_view shape.now)) (net_shapes_of (O.owner owners.now) (S.shapes shapes.now).entries))) }
     ensures tests { IfOk result (λ c. c.tests ≤ S.most shapes.now shape.now.shape.now.layer shape.now.shape.now.rect) }
+    ensures least { IfOk result (λ c. met_count shape.now.shape.now.layer shape.now.shape.now.rect (S.shapes shapes.now).entries ≤ c.tests) }
 {
     let own = shape.shape;
     let (found, tests) = shapes.for_met(own.layer, own.rect, Ok(lines), |lines, _, met| {
@@ -88,24 +90,4 @@ pub fn put_touching<A: Allocator + Copy, S: ShapeSet, O: PartOwners>(
     });
     let lines = found?;
     Ok(Checked { lines, tests })
-}
-
-/// The lines of a shape with those of a set that are of another net and touch it, and with barriers, in an order that is left
-/// open; and how many shapes of the set were compared for them.
-pub fn shorts_of<A: Allocator + Copy, S: ShapeSet, O: PartOwners>(
-    alloc: A,
-    names: &[&[u8]],
-    shape: &ShapeOfNet<'_, '_>,
-    shapes: &S,
-    owners: &O,
-    barriers: &[Barrier],
-) -> Result<Checked<A>, AllocError>
-    ensures lines { IfOk result (λ c. SameLines c.lines
-        (flat_map (short_of (name_at (map (λ w. w.now) names.now)) (shape_view shape.now)) (net_shapes_of (O.owner owners.now) (S.shapes shapes.now).entries)
-        ++ flat_map (routeblock_of (name_at (map (λ w. w.now) names.now)) (shape_view shape.now)) (map barrier_view barriers.now))) }
-    ensures tests { IfOk result (λ c. c.tests ≤ S.most shapes.now shape.now.shape.now.layer shape.now.shape.now.rect) }
-{
-    let mut checked = put_touching(names, shape, shapes, owners, Lines::new(alloc))?;
-    put_barred(names, shape, barriers, &mut checked.lines)?;
-    Ok(checked)
 }

@@ -1,3 +1,3 @@
-mod NearPlaces
+pub mod NearPlaces
 mod PlacedLists
 mod TouchedLists

@@ -1,7 +1,7 @@
 //! The owners of shapes that touch others.
 
-ghost use Rattle.std.specs.Prelude.{◌≡◌, ◌++◌, ◌+◌, ◌≤◌, IfOk, flat_map, map, sum_by};
-ghost use Rattle.shape_index.specs.Near.{near_shapes};
+ghost use Rattle.std.specs.Prelude.{◌≡◌, ◌++◌, ◌+◌, ◌-◌, ◌≤◌, ◌^◌, IfOk, flat_map, map, min, sum_by};
+ghost use Rattle.shape_index.specs.Near.{met_shapes, near_shapes};
 ghost use Rattle.shape_index.specs.Pushing.{Pushes};
 ghost use Rattle.line_laws.specs.Lines.{SameThings};
 ghost use Rattle.net_lists.specs.PartCuts.{shape_view};
@@ -40,6 +40,7 @@ impl<A: Allocator + Copy> PlacedShapes<A> {
     ) -> Result<TouchedPlaces<A>, AllocError>
         ensures places { IfOk result (λ t. SameThings t.places.items (places.items ++ touched_by self.now (shape_view shape.now))) }
         ensures tests { IfOk result (λ t. t.tests ≤ near_shapes (shape_view shape.now) (map (λ p. p.1) self.now)) }
+        ensures least { IfOk result (λ t. met_shapes (shape_view shape.now) (map (λ p. p.1) self.now) ≤ t.tests) }
     {
         let (found, tests) = self
             .tiles()
@@ -51,7 +52,7 @@ impl<A: Allocator + Copy> PlacedShapes<A> {
     }
 
     /// The places of the owners of shapes that touch some of these, in an order that is left open, and how many pairs of shapes were
-    /// compared for them; one may stand several times.
+    /// compared for them: those that touch at least, up to 2^64 - 1. A place may stand several times.
     pub fn touched_places(
         &self,
         alloc: A,
@@ -59,6 +60,7 @@ impl<A: Allocator + Copy> PlacedShapes<A> {
     ) -> Result<TouchedPlaces<A>, AllocError>
         ensures places { IfOk result (λ t. SameThings t.places.items (flat_map (touched_by self.now) (map shape_view shapes.now))) }
         ensures tests { IfOk result (λ t. t.tests ≤ sum_by (λ s. near_shapes s (map (λ p. p.1) self.now)) (map shape_view shapes.now)) }
+        ensures least { IfOk result (λ t. min (sum_by (λ s. met_shapes s (map (λ p. p.1) self.now)) (map shape_view shapes.now)) (2 ^ 64 - 1) ≤ t.tests) }
     {
         let mut places = Vec::new(alloc);
         let mut tests: u64 = 0;

@@ -13,7 +13,7 @@ use Rattle.design_model.specs.declared.identifier.LayerId.{LayerId}
 use Rattle.design_model.specs.declared.identifier.ShapeId.{ShapeId}
 use Rattle.shape_index.specs.declared.shape.Shape.{Shape}
 use Rattle.shape_index.specs.declared.tile.TileKey.{TileKey}
-use Rattle.shape_index.specs.Shapes.{at, numbered, met_by, is_met}
+use Rattle.shape_index.specs.Shapes.{at, numbered, met_by, met_count, is_met}
 use Rattle.shape_index.specs.Tiles.{key, near_count, is_near}
 use Rattle.shape_index.specs.GapOrder.{IsRun}
 use Rattle.shape_index.specs.TileOrder.{Before, entry_of, listed, once, AreAllThere, AreInOrder, IsOrderOf}
@@ -31,6 +31,9 @@ same_filtered p xs ys h = record { sums = λ w. sum_filter w p xs ∙ h.sums (λ
 
 pub same_met : (layer : LayerId) (r : Rect) (xs ys : List Entry) → SameThings xs ys → SameThings (met_by layer r xs) (met_by layer r ys)
 same_met layer r xs ys h = same_filtered (is_met layer r) xs ys h
+
+pub same_count : (layer : LayerId) (r : Rect) (xs ys : List Entry) → SameThings xs ys → met_count layer r xs ≡ met_count layer r ys
+same_count layer r xs ys h = h.sums (λ e. cond (is_met layer r e) 1 0)
 
 pub same_near : (layer : LayerId) (r : Rect) (xs ys : List Entry) → SameThings xs ys → near_count layer r xs ≡ near_count layer r ys
 same_near layer r xs ys h = h.sums (λ e. cond (is_near layer r e) 1 0)

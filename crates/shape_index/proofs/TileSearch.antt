@@ -17,6 +17,7 @@ use Rattle.shape_index.specs.Tiles.{key, is_near, is_within, near_count, offset,
 use Rattle.shape_index.specs.TileOrder.{Before, AreInOrder, IsNear, Leads, once}
 use Rattle.orient_geom.proofs.SharedPoints.{bounds}
 use Rattle.shape_index.proofs.Listed.{OneKey}
+use Rattle.shape_index.proofs.MetSteps.{met_fewer as fewer}
 use Rattle.shape_index.proofs.Repeats.{Changes, IsEntryRun, once_at_run, skipped, fewer_later}
 use Rattle.shape_index.proofs.TileSizes.{offset_rises, offset_below, least_some, lower, ends_next}
 
@@ -81,18 +82,13 @@ behind (x ∷ xs) zero h = cc
 behind (x ∷ xs) (suc i) h = behind xs i h
 
 -- a place among entries of which those of one number side by side are one
-module _ {B : Type 0} (R : B → Entry → B → Type 0) (layer : LayerId) (r : Rect) (es : List Entry) where
-  abbrev Rest : B → ℕ → B → Type 0
-  Rest a i last = FoldsTo R a (filter (is_met layer r) (once (drop i es))) last
+module _ (layer : LayerId) (r : Rect) (es : List Entry) where
+  -- those behind it that are met
+  abbrev met_from : ℕ → List Entry
+  met_from i = filter (is_met layer r) (once (drop i es))
 
   at_run : (i j : ℕ) (e : Entry) → Some e ≡ slice_get es i → IsEntryRun es i j → once (drop i es) ≡ e ∷ once (drop j es)
   at_run i j e at run = once_at_run es i j e run ∙ ap (λ (x : Entry). x ∷ once (drop j es)) (get_or_from_slice_get es i e e (sym at))
-
-  pub met_here : (i j : ℕ) (e : Entry) (a b last : B) → Some e ≡ slice_get es i → IsEntryRun es i j → is_met layer r e ≡ true → R a e b → Rest b j last → Rest a i last
-  met_here i j e a b last at run test step k = rw (at_run i j e at run, test) (b, step, k)
-
-  pub not_here : (i j : ℕ) (e : Entry) (a last : B) → Some e ≡ slice_get es i → IsEntryRun es i j → is_met layer r e ≡ false → Rest a j last → Rest a i last
-  not_here i j e a last at run test k = rw (at_run i j e at run, test) k
 
   here : (i : ℕ) (e d : Entry) → Some e ≡ slice_get es i → get_or es i d ≡ e
   here i e d at = get_or_from_slice_get es i e d (sym at)
@@ -100,28 +96,51 @@ module _ {B : Type 0} (R : B → Entry → B → Type 0) (layer : LayerId) (r : 
   not_before : (i n : ℕ) (e d : Entry) → AreInOrder es → Some e ≡ slice_get es i → i ≤ n → n < length es → ¬ Before (key (get_or es n d)) (key e)
   not_before i n e d sorted at from to = rw (here i e d at) at (sorted i n d from to)
 
-  pub met_later : (i m j : ℕ) (e : Entry) (t next : TileKey) (a last : B) → AreInOrder es → Some e ≡ slice_get es i → t ≡ key e → Leads layer r t (From next) → IsEntryRun es i m → OneKey es
-      → m ≤ j → j ≤ length es → ((k : ℕ) (d : Entry) → m ≤ k → k < j → Before (key (get_or es k d)) next) → Changes es j → Rest a j last → Rest a i last
-  met_later i m j e t next a last sorted at same_key of_key run one_key low high passed changes k =
+  -- at most one fewer is left behind an entry
+  pub met_fewer : (i j : ℕ) (e : Entry) → Some e ≡ slice_get es i → IsEntryRun es i j → length (met_from i) ≤ 1 + length (met_from j)
+  met_fewer i j e at run = fewer (is_met layer r) (once (drop i es)) e (once (drop j es)) (at_run i j e at run)
+
+  -- as many are left where a search goes on
+  pub met_later : (i m j : ℕ) (e : Entry) (t next : TileKey) → AreInOrder es → Some e ≡ slice_get es i → t ≡ key e → Leads layer r t (From next) → IsEntryRun es i m → OneKey es
+      → m ≤ j → j ≤ length es → ((k : ℕ) (d : Entry) → m ≤ k → k < j → Before (key (get_or es k d)) next) → Changes es j → met_from i ≡ met_from j
+  met_later i m j e t next sorted at same_key of_key run one_key low high passed changes =
       let leads = subst (λ (u : TileKey). Leads layer r u (From next)) same_key of_key in
       let some = run.some in
-      rw (skipped (is_met layer r) es i j e (omega (arith, low, some)) high (λ n d from to. elim (cases_lt n m) [
+      skipped (is_met layer r) es i j e (omega (arith, low, some)) high (λ n d from to. elim (cases_lt n m) [
         | inl h ↦
             let below : n < length es = omega (arith, to, high) in
             let there : i < length es = inside es i e at in
             let same : key (get_or es n d) ≡ key e = one_key n i d below there (run.same n d from h) ∙ ap key (here i e d at) in
             far layer r (get_or es n d) (subst (λ (u : TileKey). ¬ IsNear layer r u) (sym same) leads.0)
         | inr h ↦ far layer r (get_or es n d) (leads.1 (key (get_or es n d)) (not_before i n e d sorted at from (omega (arith, to, high))) (passed n d h to))
-      ]) changes) k
+      ]) changes
 
-  pub met_end : (i : ℕ) (e : Entry) (t : TileKey) (a : B) → AreInOrder es → Some e ≡ slice_get es i → t ≡ key e → Leads layer r t End → Rest a i a
-  met_end i e t a sorted at same_key of_key =
+  -- none is left where it ends, or behind all
+  pub met_end : (i : ℕ) (e : Entry) (t : TileKey) → AreInOrder es → Some e ≡ slice_get es i → t ≡ key e → Leads layer r t End → met_from i ≡ []
+  met_end i e t sorted at same_key of_key =
       let leads = subst (λ (u : TileKey). Leads layer r u End) same_key of_key in
       let below = inside es i e at in
       rw (skipped (is_met layer r) es i (length es) e below (omega arith) (λ n d from to. far layer r (get_or es n d) (leads (key (get_or es n d)) (not_before i n e d sorted at from to))) (λ d over. absurd (omega (arith, over))), drop_all es) refl
 
-  pub met_past : (i : ℕ) (a : B) → None ≡ slice_get es i → Rest a i a
-  met_past i a at = rw (behind es i at) refl
+  pub met_past : (i : ℕ) → None ≡ slice_get es i → met_from i ≡ []
+  met_past i at = rw (behind es i at) refl
+
+  -- a fold over what is left
+  module _ {B : Type 0} (R : B → Entry → B → Type 0) where
+    abbrev Rest : B → ℕ → B → Type 0
+    Rest a i last = FoldsTo R a (met_from i) last
+
+    pub met_here : (i j : ℕ) (e : Entry) (a b last : B) → Some e ≡ slice_get es i → IsEntryRun es i j → is_met layer r e ≡ true → R a e b → Rest b j last → Rest a i last
+    met_here i j e a b last at run test step k = rw (at_run i j e at run, test) (b, step, k)
+
+    pub not_here : (i j : ℕ) (e : Entry) (a last : B) → Some e ≡ slice_get es i → IsEntryRun es i j → is_met layer r e ≡ false → Rest a j last → Rest a i last
+    not_here i j e a last at run test k = rw (at_run i j e at run, test) k
+
+    pub over_same : (i j : ℕ) (a last : B) → met_from i ≡ met_from j → Rest a j last → Rest a i last
+    over_same i j a last same k = rw same k
+
+    pub over_none : (i : ℕ) (a : B) → met_from i ≡ [] → Rest a i a
+    over_none i a none = rw none refl
 
 -- where a search goes on, another number stands than before it
 pub changes_at : (es : List Entry) (i m j : ℕ) (next : TileKey) → IsEntryRun es i m → OneKey es → m ≤ j → j ≤ length es
@@ -154,3 +173,14 @@ counted_here layer r es i j e t at run same_key of_key =
 -- no more are left later
 pub counted_later : (layer : LayerId) (r : Rect) (es : List Entry) (i j : ℕ) (d : Entry) → i < j → j ≤ length es → Changes es j → near_count layer r (once (drop j es)) ≤ near_count layer r (once (drop i es))
 counted_later layer r es i j d low high changes = fewer_later (hit layer r) es i j d low high changes
+
+-- no more are near than there are
+pub near_few : (layer : LayerId) (r : Rect) (es : List Entry) → near_count layer r es ≤ length es
+near_few layer r [] = omega arith
+near_few layer r (e ∷ es) =
+    let sum = sum_by-cons (hit layer r) e es in
+    let one : hit layer r e ≤ 1 = elim (is_near layer r e) as (λ b. cond {A = ℕ} b 1 0 ≤ 1) [
+      | true ↦ omega arith
+      | false ↦ omega arith
+    ] in
+    omega (arith, sum, one, near_few layer r es)

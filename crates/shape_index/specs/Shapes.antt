@@ -1,5 +1,5 @@
 -- A set of shapes as its contracts see it.
-use Rattle.std.specs.Prelude.{◌≡◌, ℕ, ◌-◌, Bool, ◌&&◌, ◌==◌, List, [], ◌∷◌, Option, Some, None, filter, map, if◌then◌else◌}
+use Rattle.std.specs.Prelude.{◌≡◌, ℕ, ◌-◌, Bool, ◌&&◌, ◌==◌, List, [], ◌∷◌, Option, Some, None, count_by, filter, map, if◌then◌else◌}
 use Rattle.design_model.specs.declared.geometry.Rect.{Rect}
 use Rattle.design_model.specs.declared.identifier.LayerId.{LayerId}
 use Rattle.design_model.specs.declared.identifier.ShapeId.{ShapeId}
@@ -31,6 +31,10 @@ is_met layer rect e = (e.1.layer.0 == layer.0) && meets (rectangle_of e.1.rect) 
 -- the entries whose shapes are on a layer and meet a rectangle
 abbrev pub met_by : LayerId → Rect → List (ShapeId × Shape) → List (ShapeId × Shape)
 met_by layer rect es = filter (is_met layer rect) es
+
+-- how many they are
+abbrev pub met_count : LayerId → Rect → List (ShapeId × Shape) → ℕ
+met_count layer rect es = count_by (is_met layer rect) es
 
 -- values under plain numbers as entries
 abbrev pub numbered : List (ℕ × Shape) → List (ShapeId × Shape)

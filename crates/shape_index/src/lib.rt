@@ -6,8 +6,8 @@
 //! looks a shape's number up. `met_of` lists the shapes on a layer that meet a rectangle, and `for_met` folds over them. Rectangles
 //! meet that share a point (`orient_geom::meets`), where touching is enough.
 //!
-//! What a set holds is `Shapes` of `specs/Shapes`, what a search finds `met_by` there, and how many shapes it compares
-//! `near_count` of `specs/Tiles`, or all. The laws of `specs/TileLaws` say what tiles mean.
+//! What a set holds is `Shapes` of `specs/Shapes`, and what a search finds `met_by` there. It compares at least as many shapes as
+//! it finds (`met_count`), and at most `near_count` of `specs/Tiles`, or all. The laws of `specs/TileLaws` say what tiles mean.
 //!
 //! Shapes and rectangles are copied, and nothing is lent but to the closure of `for_met`. Coordinates are in database units, any
 //! that 64 bits hold. Want of memory is `AllocError`, of `of`, `reserve` and `met_of`, and leaves the shapes as they were.

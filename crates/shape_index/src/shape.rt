@@ -3,7 +3,7 @@
 ghost use Rattle.std.specs.Prelude.{◌≡◌, ◌+◌, ◌≤◌, ◌<◌, ◌∷◌, ◌↔◌, IsTrue, ℕ, List, None, OnOk, IfSome, IfNone};
 ghost use Rattle.std.specs.List.{FoldsTo};
 ghost use Rattle.line_laws.specs.Lines.{SameThings};
-ghost use Rattle.shape_index.specs.Shapes.{AreSame, Shapes, at, is_met, met_by};
+ghost use Rattle.shape_index.specs.Shapes.{AreSame, Shapes, at, is_met, met_by, met_count};
 
 use design_model::geometry::Rect;
 use design_model::identifier::{LayerId, ShapeId};
@@ -67,7 +67,7 @@ pub trait ShapeSet {
         ensures { result ≡ at id (shapes self.now).entries };
 
     /// Folds `f` over the shapes on a layer that meet a rectangle, each once, in an order that is left open. Also answers
-    /// how many shapes it compared.
+    /// how many shapes it compared: those that meet it at least.
     fn for_met<B, F: Fn(B, ShapeId, &Shape) -> B>(
         &self,
         layer: LayerId,
@@ -78,5 +78,6 @@ pub trait ShapeSet {
         requires { F.IsAlwaysCallable f }
         ensures folded { (met : List _) × SameThings met (met_by layer rect (shapes self.now).entries)
             × FoldsTo (λ a e b. (shown : _) × (shown.now ≡ e.1) × F.post f a e.0 shown b) acc met result.0 }
-        ensures compared { result.1 ≤ most self.now layer rect };
+        ensures compared { result.1 ≤ most self.now layer rect }
+        ensures least { met_count layer rect (shapes self.now).entries ≤ result.1 };
 }

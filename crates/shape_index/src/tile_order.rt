@@ -148,6 +148,7 @@ pub(crate) fn search<A: Allocator + Copy, B, F: Fn(B, ShapeId, &Shape) -> B>(
     requires in_order { AreInOrder (listed shapes.now order.now) }
     ensures folded { FoldsTo (λ a e b. (shown : _) × (shown.now ≡ e.1) × F.post f a e.0 shown b) acc (met_by layer rect (once (listed shapes.now order.now))) result.0 }
     ensures compared { result.1 ≤ near_count layer rect (once (listed shapes.now order.now)) }
+    ensures least { length (met_by layer rect (once (listed shapes.now order.now))) ≤ result.1 }
 {
     let mut acc = acc;
     let mut compared = 0u64;

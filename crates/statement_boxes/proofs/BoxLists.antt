@@ -16,12 +16,12 @@ use Rattle.design_model.specs.declared.identifier.StmtId.{StmtId}
 use Rattle.shape_rules.specs.Meeting.{meets}
 use Rattle.shape_index.specs.declared.shape.Shape.{Shape}
 use Rattle.shape_index.specs.Pushing.{Pushes}
-use Rattle.shape_index.specs.Shapes.{AreSame, at, met_by as shapes_met}
+use Rattle.shape_index.specs.Shapes.{AreSame, at, met_by as shapes_met, met_count as count_met}
 use Rattle.shape_index.specs.Tiles.{near_count as shapes_near}
 use Rattle.shape_index.proofs.Pushed.{Holds, pushed}
 use Rattle.shape_index.proofs.TileFloors.{met_is_near}
 use Rattle.statement_boxes.specs.declared.statement_box.StatementBox.{StatementBox}
-use Rattle.statement_boxes.specs.Boxes.{box_view, met_by, is_near, near_count}
+use Rattle.statement_boxes.specs.Boxes.{box_view, met_by, met_count, is_near, near_count}
 use Rattle.statement_boxes.specs.BoxLaws.{MetBoxesAreNear}
 use Rattle.statement_boxes.specs.BoxShapes.{AreOnTheLayer, box_of, number_of, shape_of}
 
@@ -140,6 +140,22 @@ pub met_as : (r : Rect) (es met : List Entry) (boxes : List (StmtId × Rectangle
     → SameThings (map (λ e. number_of e.1) met) (map (λ b. b.0) (met_by (rectangle_of r) boxes))
 met_as r es met boxes is o h =
     rw (← is, ← met_numbers r es o) (maps_are_same Entry StmtId (λ e. number_of e.1) met (shapes_met the_layer r es) h)
+
+-- how many they are
+met_boxes : (r : Rect) (es : List Entry) → AreOnTheLayer es → count_met the_layer r es ≡ met_count (rectangle_of r) (map box_of es)
+met_boxes r [] o = refl
+met_boxes r (e ∷ es) o =
+    let one : cond {A = ℕ} ((e.1.layer.0 == 0) && meets (rectangle_of e.1.rect) (rectangle_of r)) 1 0 ≡ cond {A = ℕ} (meets (rectangle_of e.1.rect) (rectangle_of r)) 1 0 = rw (first_on e es o) refl in
+    omega (
+      arith,
+      one,
+      met_boxes r es (on_layer_less e es o),
+      sum_by-cons (λ (e : Entry). cond {A = ℕ} ((e.1.layer.0 == 0) && meets (rectangle_of e.1.rect) (rectangle_of r)) 1 0) e es,
+      sum_by-cons (λ (b : StmtId × Rectangle). cond {A = ℕ} (meets b.1 (rectangle_of r)) 1 0) (box_of e) (map box_of es),
+    )
+
+pub met_compared : (r : Rect) (es : List Entry) (boxes : List (StmtId × Rectangle)) (n : ℕ) → map box_of es ≡ boxes → AreOnTheLayer es → count_met the_layer r es ≤ n → met_count (rectangle_of r) boxes ≤ n
+met_compared r es boxes n is o h = rw (← is) (omega (arith, h, met_boxes r es o))
 
 and_less : (a b : Bool) → cond (a && b) 1 0 ≤ cond b 1 0
 and_less true b = omega arith

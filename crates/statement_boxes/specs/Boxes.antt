@@ -14,6 +14,10 @@ box_view b = (b.id, rectangle_of b.rect)
 abbrev pub met_by : Rectangle → List (StmtId × Rectangle) → List (StmtId × Rectangle)
 met_by r boxes = filter (λ b. meets b.1 r) boxes
 
+-- how many they are
+abbrev pub met_count : Rectangle → List (StmtId × Rectangle) → ℕ
+met_count r boxes = count_by (λ b. meets b.1 r) boxes
+
 -- a box's tile is one of those that a rectangle meets, or one lower in x or in y
 abbrev pub is_near : Rectangle → StmtId × Rectangle → Bool
 is_near r b = are_near r b.1

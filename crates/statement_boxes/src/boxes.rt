@@ -4,7 +4,7 @@ ghost use Rattle.std.specs.Prelude.{◌≡◌, ◌≢◌, ◌≤◌, ◌∷◌, 
 ghost use Rattle.line_laws.specs.Lines.{SameThings};
 ghost use Rattle.design_model.specs.Views.{rectangle_of};
 ghost use Rattle.shape_index.specs.Pushing.{Pushes};
-ghost use Rattle.statement_boxes.specs.Boxes.{box_view, met_by, near_count};
+ghost use Rattle.statement_boxes.specs.Boxes.{box_view, met_by, met_count, near_count};
 ghost use Rattle.statement_boxes.specs.BoxShapes.{number_of};
 
 use crate::statement_box::{LAYER, StatementBox, shape_of};
@@ -26,7 +26,7 @@ pub struct StatementBoxes<A: Allocator = Global> {
 pub struct MetStatements<A: Allocator = Global> {
     /// Their numbers, in an order that is left open.
     pub ids: Vec<StmtId, A>,
-    /// How many boxes were compared.
+    /// How many boxes were compared: these at least.
     pub compared: u64,
 }
 
@@ -81,6 +81,7 @@ impl<A: Allocator + Copy> StatementBoxes<A> {
     pub fn met(&self, alloc: A, rect: Rect) -> Result<MetStatements<A>, AllocError>
         ensures those { IfOk result (λ m. SameThings m.ids.items (map (λ b. b.0) (met_by (rectangle_of rect) self.now))) }
         ensures compared { IfOk result (λ m. m.compared ≤ near_count (rectangle_of rect) self.now) }
+        ensures least { IfOk result (λ m. met_count (rectangle_of rect) self.now ≤ m.compared) }
     {
         let (ids, compared) = self.tiles.for_met(
             LAYER,

@@ -4,8 +4,9 @@
 //! rectangle, where touching is enough; `insert` puts a box in, and `remove` takes one out by its statement and its rectangle.
 //! A box that is put in twice is held twice.
 //!
-//! A set is the list of its boxes, in an order that is left open. What `met` lists is `met_by` of `specs/Boxes`, and how many boxes
-//! it compares `near_count` there. The law of `specs/BoxLaws` says that each box that meets a rectangle is near it.
+//! A set is the list of its boxes, in an order that is left open. What `met` lists is `met_by` of `specs/Boxes`. It compares at least as
+//! many boxes as it lists (`met_count`), and at most `near_count` there. The law of `specs/BoxLaws` says that each box that meets a
+//! rectangle is near it.
 //!
 //! Boxes are copied, and nothing is lent. Coordinates are in database units, any that 64 bits hold. Want of memory is
 //! `AllocError`, of `of`, `insert` and `met`, and leaves the boxes as they were.

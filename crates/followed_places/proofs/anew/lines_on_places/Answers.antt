@@ -1,15 +1,8 @@
-use Rattle.std.proofs.Common.{◌≡◌, List, ◌++◌, [], filter, flat_map, map, ap, subst, ◌∙◌}
-use Rattle.std.specs.Prelude.{ℕ}
-use Rattle.std.specs.List.{filter_map}
-use Rattle.design_model.specs.Families.{cross_lines, pair_lines}
+use Rattle.std.proofs.Common.{◌≡◌, filter, map, ap, ◌∙◌}
 use Rattle.design_model.specs.Views.{rectangle_of}
 use Rattle.def_reader.specs.StatementViews.{records_view}
-use Rattle.design_rules.specs.Boxes.{box_of, scale}
-use Rattle.design_rules.specs.OverlapLines.{overlap_of}
-use Rattle.design_rules.specs.PlaceLines.{blocked_of, lines_in}
+use Rattle.design_rules.specs.Boxes.{scale}
 use Rattle.design_rules.specs.Surroundings.{keep_outs, surroundings}
-use Rattle.line_laws.specs.Lines.{SameLines}
-use Rattle.place_checks.specs.Views.{bare, swept_view}
 use Rattle.staying_laws.specs.PlaceStatements.{surrounds_or_blocks}
 use Rattle.design_text.specs.DesignTexts.{design_of}
 use Rattle.followed_places.proofs.anew.lines_on_places.Goals as goal

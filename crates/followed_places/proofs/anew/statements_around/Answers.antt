@@ -1,5 +1,4 @@
 use Rattle.std.proofs.Common.{map, filter, ap, ◌∙◌}
-use Rattle.def_grammar.specs.Records.{Record}
 use Rattle.staying_laws.specs.PlaceStatements.{surrounds_or_blocks}
 use Rattle.text_pieces.specs.Tables.{ids_of}
 use Rattle.design_text.specs.Exchanges.{records_in}

@@ -1,5 +1,5 @@
 use Rattle.std.proofs.Common.{arith}
-use Rattle.followed_places.proofs.ExchangeLemmas.{boxes_grown, boxes_left, few_compared, lines_follow}
+use Rattle.followed_places.proofs.ExchangeLemmas.{boxes_grown, boxes_left, few_compared, lines_follow, met_compared}
 use Rattle.followed_places.proofs.followed.exchanged.Goals as goal
 
 pub lines_of-requires-clause-kept : goal.lines_of-requires-clause-kept
@@ -42,3 +42,11 @@ returns-clause-tests g c = λ stay after a.
     let out = rw (c.deref-2.ensures.value) at c.in_ok-out.ensures.tests in
     let put = rw (c.deref-3.ensures.value) at c.in_ok-put.ensures.tests in
     few_compared _ _ _ c.args.change.now.went.items c.args.change.now.came.items stay _ c.in_ok-out.out.tests c.in_ok-put.put.tests c.saturating_add-tests.result left out put (omega arith)
+
+pub returns-clause-least : goal.returns-clause-least
+returns-clause-least g c = λ stay after a.
+    let went = rw (c.deref.ensures.value) at (c.remove_all.ensures c.if-not-remove_all.false) in
+    let left = boxes_left _ _ _ _ _ _ c.args.change.now.went.items c.args.change.now.came.items _ _ _ a _ went in
+    let out = rw (c.deref-2.ensures.value) at c.in_ok-out.ensures.least in
+    let put = rw (c.deref-3.ensures.value) at c.in_ok-put.ensures.least in
+    met_compared _ _ _ c.args.change.now.went.items c.args.change.now.came.items stay _ c.in_ok-out.out.tests c.in_ok-put.put.tests c.saturating_add-tests.result left out put (omega arith)

@@ -1,5 +1,6 @@
 use Rattle.std.proofs.Common.{arith}
 use Rattle.followed_places.proofs.ExchangeLemmas.{rectangle_lines_follow}
+use Rattle.followed_places.proofs.NearSums.{both_least}
 use Rattle.followed_places.proofs.followed.exchanged_keep_outs.Goals as goal
 
 pub blocked_near-requires-clause-kept : goal.blocked_near-requires-clause-kept
@@ -24,3 +25,6 @@ returns-clause-lines g c = λ stay after a.
 
 pub returns-clause-tests : goal.returns-clause-tests
 returns-clause-tests g c = omega (arith, c.in_ok-gone.ensures.tests, c.in_ok-come.ensures.tests)
+
+pub returns-clause-least : goal.returns-clause-least
+returns-clause-least g c = both_least _ _ c.in_ok-gone.gone.tests c.in_ok-come.come.tests c.saturating_add-tests.result c.in_ok-gone.ensures.least c.in_ok-come.ensures.least (omega arith)

@@ -1,6 +1,4 @@
-use Rattle.std.proofs.Common.{◌≡◌, ◌∙◌, List, filter, map, ap}
-use Rattle.design_model.specs.declared.identifier.StmtId.{StmtId}
-use Rattle.def_grammar.specs.Records.{Record}
+use Rattle.std.proofs.Common.{◌≡◌, ◌∙◌, filter, map, ap}
 use Rattle.def_reader.specs.StatementViews.{record_view}
 use Rattle.design_rules.specs.Surroundings.{keep_outs}
 use Rattle.design_tables.specs.TableViews.{numbered_view}

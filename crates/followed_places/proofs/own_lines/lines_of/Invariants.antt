@@ -1,4 +1,4 @@
-use Rattle.std.proofs.Common.{◌≤◌, ◌+◌, List, [], ◌++◌, drop, map}
+use Rattle.std.proofs.Common.{◌≤◌, ◌+◌, ◌-◌, ◌^◌, List, [], ◌++◌, drop, map, min}
 use Rattle.design_model.specs.Views.{rectangle_of}
 use Rattle.design_model.specs.declared.identifier.StmtId.{StmtId}
 use Rattle.following_laws.specs.DesignLaws.{lines_of_components}
@@ -7,7 +7,7 @@ use Rattle.place_checks.specs.IndexViews.{surroundings_view}
 use Rattle.followed_places.specs.Lines.{AreBoxesOf, boxed_under}
 use Rattle.followed_places.specs.Placed.{component_of, placed_view}
 use Rattle.followed_places.specs.Places.{place_under}
-use Rattle.followed_places.specs.Tests.{near_sum}
+use Rattle.followed_places.specs.Tests.{met_sum, near_sum}
 use Rattle.followed_places.proofs.own_lines.lines_of.Given as goal
 
 abbrev pub invariant-loop-place : goal.invariant-loop-place
@@ -16,4 +16,5 @@ invariant-loop-place g l = record {
       → SameLines (l.lines ++ lines_of_components (surroundings_view l.around.surroundings) (map component_of (drop l.place l.components)) (boxed_under l.library l.around.scale l.text.pieces.table.slots ids) (map rectangle_of l.around.keep_outs.now) [])
       (lines_of_components (surroundings_view l.around.surroundings) (map component_of l.components) (boxed_under l.library l.around.scale l.text.pieces.table.slots ids) (map rectangle_of l.around.keep_outs.now) []);
   tests : l.tests + near_sum l.boxes (map place_under (map placed_view (drop l.place l.components))) ≤ near_sum l.boxes (map place_under (map placed_view l.components));
+  least : min (met_sum l.boxes (map place_under (map placed_view l.components))) (2 ^ 64 - 1) ≤ l.tests + met_sum l.boxes (map place_under (map placed_view (drop l.place l.components)));
 }

@@ -11,9 +11,9 @@ returns-then-is_empty g c =
     let is_pin : c.args.part.now.is_pin ≡ true = search rules in
     let size : length c.in-Some.near.items ≡ 0 = grind (arith, c.is_empty.ensures) in
     let none = no_places near size in
-    let joined = joined_are_near pin others c.args.shapes.now near c.requires.same (rw (c.in-Some.is, c.as_slice.ensures.value) at c.in_ok-near.ensures) in
+    let joined = joined_are_near pin others c.args.shapes.now near c.requires.same (rw (c.in-Some.is, c.as_slice.ensures.value) at c.in_ok-near.ensures.places) in
     (is_pin, c.alone_is_a_class.ensures pin others is_pin (none_near pin others near none joined))
 
 pub joint_by-requires-clause-near : goal.joint_by-requires-clause-near
 joint_by-requires-clause-near g c =
-    rw (c.deref.ensures.value) (joined_are_near (part_view c.args.part.now) (map part_view c.args.parts.now) c.args.shapes.now c.in-Some.near.items c.requires.same (rw (c.in-Some.is, c.as_slice.ensures.value) at c.in_ok-near.ensures))
+    rw (c.deref.ensures.value) (joined_are_near (part_view c.args.part.now) (map part_view c.args.parts.now) c.args.shapes.now c.in-Some.near.items c.requires.same (rw (c.in-Some.is, c.as_slice.ensures.value) at c.in_ok-near.ensures.places))

@@ -1,7 +1,7 @@
 use Rattle.std.proofs.Common.{arith, refl}
 use Rattle.std.proofs.lemmas.Result.{IfOk-weaker}
 use Rattle.net_lists.specs.NetViews.{net_view}
-use Rattle.net_checks.proofs.HeldParts.{few_compared, holds_parts}
+use Rattle.net_checks.proofs.HeldParts.{few_compared, holds_parts, met_compared}
 use Rattle.net_checks.proofs.counted.state_of.Goals as goal
 
 pub returns-clause-classes : goal.returns-clause-classes
@@ -19,3 +19,9 @@ returns-clause-tests g c =
     let net = c.args.net.now in
     let most = few_compared net.parts.now net.shapes.now (net_view net) c.tiles.result.now.entries net.whole refl (rw (← c.tiles.ensures) at c.in_ok-placed.ensures) in
     IfOk-weaker c.pieces_of.result _ _ (λ s h. omega (arith, h, most)) c.pieces_of.ensures.tests
+
+pub returns-clause-least : goal.returns-clause-least
+returns-clause-least g c =
+    let net = c.args.net.now in
+    let some = met_compared net.parts.now net.shapes.now (net_view net) c.tiles.result.now.entries net.whole refl (rw (← c.tiles.ensures) at c.in_ok-placed.ensures) in
+    IfOk-weaker c.pieces_of.result _ _ (λ s h. omega (arith, h, some)) c.pieces_of.ensures.least

@@ -1,4 +1,4 @@
-use Rattle.std.proofs.Common.{rules, ◌≡◌, ◌∙◌, ◌≤◌, ◌++◌, ℕ, List, ap, length, map, not, sym}
+use Rattle.std.proofs.Common.{rules, ◌∙◌, ◌≤◌, ◌++◌, ℕ, List, ap, length, map, not, sym}
 use Rattle.std.specs.List.{flat_map}
 use Rattle.lef_grammar.specs.Measures.{Shape}
 use Rattle.connection_rules.specs.NetLines.{NetShape, routeblock_of}

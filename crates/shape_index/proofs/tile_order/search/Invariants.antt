@@ -10,6 +10,7 @@ invariant-loop-id g l = record {
   callable : goal.F-IsAlwaysCallable g l.f;
   within : l.place ≤ length l.order;
   counted : l.compared + near_count l.layer l.rect (once (drop l.place (listed l.shapes l.order))) ≤ near_count l.layer l.rect (once (listed l.shapes l.order));
+  least : length (met_by l.layer l.rect (once (listed l.shapes l.order))) ≤ l.compared + length (met_by l.layer l.rect (once (drop l.place (listed l.shapes l.order))));
   rest : (last : _) → FoldsTo (λ a e b. (shown : _) × (shown.now ≡ e.1) × goal.F-post g l.f a e.0 shown b) l.acc (met_by l.layer l.rect (once (drop l.place (listed l.shapes l.order)))) last
       → FoldsTo (λ a e b. (shown : _) × (shown.now ≡ e.1) × goal.F-post g l.f a e.0 shown b) l.fn.acc (met_by l.layer l.rect (once (listed l.shapes l.order))) last;
 }

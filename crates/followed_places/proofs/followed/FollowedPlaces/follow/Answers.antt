@@ -4,7 +4,7 @@ use Rattle.staying_laws.specs.Staying.{lines_on_places}
 use Rattle.design_text.specs.Exchanges.{exchange_view}
 use Rattle.followed_places.specs.Placed.{placed_view}
 use Rattle.followed_places.specs.Places.{said}
-use Rattle.followed_places.proofs.FollowedLemmas.{as_found, awaits, awaits_rectangles, both_found, few_tests, few_tests_near, few_units, follows, follows_rectangles, some_units, stay}
+use Rattle.followed_places.proofs.FollowedLemmas.{as_found, awaits, awaits_rectangles, both_found, few_tests, few_tests_near, few_units, follows, follows_rectangles, some_tests, some_tests_near, some_units, stay}
 use Rattle.followed_places.proofs.followed.FollowedPlaces.follow.Goals as goal
 
 pub loose_places-requires-clause-some : goal.loose_places-requires-clause-some
@@ -82,6 +82,9 @@ returns-then-are_none g c =
       tests = λ old new e followed.
           let f = rw (← c.self.view_is) at followed in
           as_found _ _ c.exchanged_keep_outs.result (λ k few. few_tests_near library slots old new x e _ _ f law gone come _ _ out_is put_is no_went no_came k.tests few) c.exchanged_keep_outs.ensures.tests;
+      least = λ old new e followed.
+          let f = rw (← c.self.view_is) at followed in
+          as_found _ _ c.exchanged_keep_outs.result (λ k some. some_tests_near library slots old new x e _ _ f law gone come _ _ out_is put_is no_went no_came k.tests some) c.exchanged_keep_outs.ensures.least;
     }
 
 pub exchanged-requires-clause-some : goal.exchanged-requires-clause-some
@@ -141,4 +144,9 @@ returns g c =
           let awaited = rw (← around.scale, ← around.surroundings, ← around.keep_outs) at (awaits library slots old new x e _ _ f law gone come _ _ went came no_outs no_puts c.same_lines_follow.ensures c.crosses_are_unordered.ensures) in
           let tests = rw around.scale at (c.exchanged.ensures.tests _ _ awaited) in
           as_found _ _ c.exchanged.result (λ k few. few_tests library slots old new x e _ _ f law gone come _ _ went came no_outs no_puts k.tests few) tests;
+      least = λ old new e followed.
+          let f = rw (← c.self.view_is) at followed in
+          let awaited = rw (← around.scale, ← around.surroundings, ← around.keep_outs) at (awaits library slots old new x e _ _ f law gone come _ _ went came no_outs no_puts c.same_lines_follow.ensures c.crosses_are_unordered.ensures) in
+          let least = rw around.scale at (c.exchanged.ensures.least _ _ awaited) in
+          as_found _ _ c.exchanged.result (λ k some. some_tests library slots old new x e _ _ f law gone come _ _ went came no_outs no_puts k.tests some) least;
     }

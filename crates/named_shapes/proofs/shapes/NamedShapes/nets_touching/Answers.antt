@@ -1,4 +1,4 @@
-use Rattle.std.proofs.Common.{◌≡◌, map}
+use Rattle.std.proofs.Common.{map}
 use Rattle.net_lists.specs.PartCuts.{shape_view}
 use Rattle.named_shapes.proofs.NearShapes.{plain_named}
 use Rattle.named_shapes.proofs.TouchingLemmas.{all_found}
@@ -14,3 +14,6 @@ returns-clause-all g c =
 
 pub returns-clause-tests : goal.returns-clause-tests
 returns-clause-tests g c = rw (← c.self.view_is, ← plain_named c.self.inside.names c.self.inside.placed c.self.invariant) c.in_ok-places.ensures.tests
+
+pub returns-clause-least : goal.returns-clause-least
+returns-clause-least g c = rw (← c.self.view_is, ← plain_named c.self.inside.names c.self.inside.placed c.self.invariant) c.in_ok-places.ensures.least

@@ -2,7 +2,7 @@ use Rattle.std.proofs.Common.{rules, sym, ◌++◌}
 use Rattle.std.proofs.lemmas.Fn.{chained_keeps}
 use Rattle.std.proofs.lemmas.List.{append-nil}
 use Rattle.shape_index.proofs.Pushed.{Holds, found}
-use Rattle.placed_shapes.proofs.NearPlaces.{near_placed}
+use Rattle.placed_shapes.proofs.NearPlaces.{met_placed, near_placed}
 use Rattle.placed_shapes.proofs.TouchedLists.{met_are_touched, one_pushed, places_of}
 use Rattle.placed_shapes.proofs.placed.PlacedShapes.push_touched.Goals as goal
 
@@ -14,3 +14,6 @@ returns-clause-places g c =
 
 pub returns-clause-tests : goal.returns-clause-tests
 returns-clause-tests g c = rw (← c.tiles.ensures, ← near_placed c.args.shape.now c.tiles.result.now.entries) c.for_met-found.ensures.compared
+
+pub returns-clause-least : goal.returns-clause-least
+returns-clause-least g c = rw (← c.tiles.ensures, ← met_placed c.args.shape.now c.tiles.result.now.entries) c.for_met-found.ensures.least

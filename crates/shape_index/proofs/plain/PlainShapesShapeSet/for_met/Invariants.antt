@@ -1,4 +1,4 @@
-use Rattle.std.proofs.Common.{◌≡◌, ◌≤◌, ◌+◌, length}
+use Rattle.std.proofs.Common.{◌≡◌, ◌≤◌, ◌<◌, ◌+◌, ◌^◌, length}
 use Rattle.std.specs.List.{FoldsTo}
 use Rattle.slab.specs.Slab.{entries}
 use Rattle.shape_index.specs.Shapes.{met_by, numbered}
@@ -10,6 +10,8 @@ invariant-loop-id g l = record {
   finite : (goal.iterator-loop-id g).is_finite l.id-iterator;
   callable : goal.F-IsAlwaysCallable g l.f;
   counted : l.compared + length l.id-iterator ≤ length (entries l.self.shapes);
+  few : length (entries l.self.shapes) < 2 ^ 64;
+  least : length (met_by l.layer l.rect (numbered (entries l.self.shapes))) ≤ l.compared + length (met_by l.layer l.rect (numbered l.id-iterator));
   rest : (last : _) → FoldsTo (λ a e b. (shown : _) × (shown.now ≡ e.1) × goal.F-post g l.f a e.0 shown b) l.acc (met_by l.layer l.rect (numbered l.id-iterator)) last
       → FoldsTo (λ a e b. (shown : _) × (shown.now ≡ e.1) × goal.F-post g l.f a e.0 shown b) l.fn.acc (met_by l.layer l.rect (numbered (entries l.self.shapes))) last;
 }

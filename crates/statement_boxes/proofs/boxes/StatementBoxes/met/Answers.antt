@@ -2,7 +2,7 @@ use Rattle.std.proofs.Common.{rules, map}
 use Rattle.std.proofs.lemmas.Fn.{chained_keeps}
 use Rattle.shape_index.proofs.Pushed.{Holds, found}
 use Rattle.statement_boxes.specs.BoxShapes.{number_of}
-use Rattle.statement_boxes.proofs.BoxLists.{few_compared, met_as, one_pushed}
+use Rattle.statement_boxes.proofs.BoxLists.{few_compared, met_as, met_compared, one_pushed}
 use Rattle.statement_boxes.proofs.boxes.StatementBoxes.met.Goals as goal
 
 pub returns-clause-those : goal.returns-clause-those
@@ -14,3 +14,6 @@ returns-clause-those g c =
 
 pub returns-clause-compared : goal.returns-clause-compared
 returns-clause-compared g c = few_compared c.args.rect c.self.inside.tiles.entries c.args.self.now c.for_met-ids.result.1 c.self.view_is c.for_met-ids.ensures.compared
+
+pub returns-clause-least : goal.returns-clause-least
+returns-clause-least g c = met_compared c.args.rect c.self.inside.tiles.entries c.args.self.now c.for_met-ids.result.1 c.self.view_is c.self.invariant c.for_met-ids.ensures.least
