@@ -1,6 +1,6 @@
 //! The program: its command line, its files and what it says on standard error.
 
-ghost use Rattle.std.specs.Prelude.{◌≡◌};
+ghost use Rattle.std.specs.Prelude.{◌≡◌, [], Err};
 ghost use Rattle.clap.specs.Values.{kind_of};
 ghost use Rattle.defedit_program.specs.Statuses.{ends, refused_ends, unreadable};
 
@@ -15,7 +15,7 @@ use clap::error::ErrorKind;
 use counted_devices::counted::Counted;
 use counted_devices::input::InputError;
 use design_text::text::DesignText;
-use output_file::{OutputFault, write_file};
+use output_file::{OutputFault, plain_file, write_file};
 use std::alloc::Global;
 use std::hash::RandomState;
 use std::random::RandomSource;
@@ -47,12 +47,36 @@ fn read_lefs<'a, R: Files>(alloc: Global, rt: &R, paths: &[&'a str]) -> Result<L
     Ok(lefs)
 }
 
+/// The files that answers and errors go to.
+const STANDARD_FILES: [&str; 2] = ["/proc/self/fd/1", "/proc/self/fd/2"];
+
+/// Whether a path leads to a plain file that this run reads besides the DEF, or that its answers or errors go to.
+fn is_in_use<R: Files>(rt: &R, path: &str, request: &Request<'_>) -> bool {
+    let Some(file) = plain_file(rt, path) else {
+        return false;
+    };
+    for lef in &request.lefs {
+        if plain_file(rt, lef) == Some(file) {
+            return true;
+        }
+    }
+    for standard in STANDARD_FILES {
+        if plain_file(rt, standard) == Some(file) {
+            return true;
+        }
+    }
+    plain_file(rt, request.script) == Some(file)
+}
+
 /// Runs the script, and writes the file of the text in the end.
 fn run_request<'a, R: Files + Print + RandomSource>(
     alloc: Global,
     rt: &R,
     request: &Request<'a>,
 ) -> Result<Outcome, Stop<'a>> {
+    if is_in_use(rt, request.out, request) {
+        return Err(Stop::CannotWrite(request.out));
+    }
     let Ok(hash_builder) = RandomState::new(rt) else {
         return Err(Stop::NoRandom);
     };
@@ -75,12 +99,14 @@ fn run_request<'a, R: Files + Print + RandomSource>(
 }
 
 /// Writes the output file. Where that fails, a file that was there stays as it was.
-fn write_text<'a, R: Files>(
+fn write_text<'a, R: Files + RandomSource>(
     alloc: Global,
     rt: &R,
     path: &'a str,
     text: DesignText,
-) -> Result<(), Stop<'a>> {
+) -> Result<(), Stop<'a>>
+    ensures { path.now ≡ [] → result ≡ Err (Stop.CannotWrite path.entry) }
+{
     match write_file(alloc, rt, path, &InPieces { text }) {
         Ok(()) => Ok(()),
         Err(OutputFault::Make) => Err(Stop::CannotWrite(path)),

@@ -1,13 +1,14 @@
 //! Writing a whole text into a file.
 
-ghost use Rattle.std.specs.Prelude.{ℕ, List, IfOk};
+ghost use Rattle.std.specs.Prelude.{◌≡◌, ℕ, List, [], Err, IfOk};
 ghost use Rattle.std.specs.Io.KnownBytes.{Appends};
 
 use crate::beside::new_file;
 use std::alloc::Global;
 use std::fs;
-use std::fs::{Metadata, OpenOptions};
-use std::io::{BufWriter, Write};
+use std::fs::{Metadata, OpenFile, OpenOptions};
+use std::io::{BufWriter, ErrorKind, Write};
+use std::random::RandomSource;
 use std::rt::Files;
 
 /// Why a file isn't written.
@@ -15,7 +16,7 @@ use std::rt::Files;
 pub enum OutputFault {
     /// It can't be made or opened, or no new file can be made beside it.
     Make,
-    /// Its bytes can't be written, or the new file can't take its name.
+    /// Its bytes can't be written or kept, or the new file can't take its name.
     Write,
     /// Memory was refused.
     Memory,
@@ -23,6 +24,12 @@ pub enum OutputFault {
 
 /// How many bytes are put together before they are written.
 const BUFFER: usize = 65536;
+
+/// The mode of a new file until it gets that of the old one: what the old one kept from others is kept from them meanwhile too.
+const OWNERS_ALONE: u32 = 0o600;
+
+/// The mode of a new file where there was none, of which the system takes away what its user doesn't give.
+const EVERYONES: u32 = 0o666;
 
 /// What a file gets.
 pub trait FileText {
@@ -61,7 +68,20 @@ fn write_in_place<R: Files, T: FileText>(
     Ok(())
 }
 
-/// Writes a text into a new file, gives that the mode of the old one, and then the old one's name.
+/// Gives a new file the mode of the old one, and has the system keep its bytes.
+fn settle<F: OpenFile>(file: &F, old: Option<Metadata>) -> Result<(), OutputFault> {
+    if let Some(old) = old {
+        if let Err(_) = file.set_permissions(old.permissions()) {
+            return Err(OutputFault::Write);
+        }
+    }
+    match file.sync_all() {
+        Ok(()) => Ok(()),
+        Err(_) => Err(OutputFault::Write),
+    }
+}
+
+/// Writes a text into a new file, which then takes the name of the old one.
 fn fill_and_rename<R: Files, T: FileText>(
     alloc: Global,
     rt: &R,
@@ -71,12 +91,8 @@ fn fill_and_rename<R: Files, T: FileText>(
     old: Option<Metadata>,
     text: &T,
 ) -> Result<(), OutputFault> {
-    fill(alloc, file, text)?;
-    if let Some(old) = old {
-        if let Err(_) = fs::set_permissions(rt, name, old.permissions()) {
-            return Err(OutputFault::Write);
-        }
-    }
+    let file = fill(alloc, file, text)?;
+    settle(&file, old)?;
     match fs::rename(rt, name, path) {
         Ok(()) => Ok(()),
         Err(_) => Err(OutputFault::Write),
@@ -84,14 +100,19 @@ fn fill_and_rename<R: Files, T: FileText>(
 }
 
 /// Writes a text into a new file beside this path, which then takes that name. A new file that doesn't come to that is taken away.
-fn write_beside<R: Files, T: FileText>(
+fn write_beside<R: Files + RandomSource, T: FileText>(
     alloc: Global,
     rt: &R,
     path: &str,
     old: Option<Metadata>,
     text: &T,
 ) -> Result<(), OutputFault> {
-    let Some((file, name)) = new_file(alloc, rt, path) else {
+    let mode = if old.is_some() {
+        OWNERS_ALONE
+    } else {
+        EVERYONES
+    };
+    let Some((file, name)) = new_file(alloc, rt, path, mode) else {
         return Err(OutputFault::Make);
     };
     let written = fill_and_rename(alloc, rt, file, name.as_str(), path, old, text);
@@ -109,7 +130,7 @@ fn may_write<R: Files>(rt: &R, path: &str) -> bool {
 }
 
 /// Replaces a plain file, where a link's path leads to it.
-fn replace<R: Files, T: FileText>(
+fn replace<R: Files + RandomSource, T: FileText>(
     alloc: Global,
     rt: &R,
     path: &str,
@@ -134,15 +155,21 @@ fn is_link<R: Files>(rt: &R, path: &str) -> bool {
 }
 
 /// Writes a text into the file of a path. A plain file that is there keeps its old bytes where any step fails.
-pub fn write_file<R: Files, T: FileText>(
+pub fn write_file<R: Files + RandomSource, T: FileText>(
     alloc: Global,
     rt: &R,
     path: &str,
     text: &T,
-) -> Result<(), OutputFault> {
+) -> Result<(), OutputFault>
+    ensures { path.now ≡ [] → result ≡ Err OutputFault.Make }
+{
+    if path.is_empty() {
+        return Err(OutputFault::Make);
+    }
     match fs::metadata(rt, path) {
         Ok(old) if old.is_file() => replace(alloc, rt, path, old, text),
         Ok(_) => write_in_place(alloc, rt, path, text),
+        Err(error) if error.kind() != ErrorKind::NotFound => Err(OutputFault::Make),
         Err(_) if is_link(rt, path) => write_in_place(alloc, rt, path, text),
         Err(_) => write_beside(alloc, rt, path, None, text),
     }
