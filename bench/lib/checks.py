@@ -2,6 +2,10 @@
 
 A caller is proved against its callee's contract and never its body, so an edit changes no goal but those of its own function,
 and a check of several edits in different functions tells of each by itself.
+
+An edit with a line 'refuted: CLAUSE' is refused only where this clause is open and its right twin is proved: a proof by hand that
+doesn't fit the edited body fails whatever the clause says. Where one doesn't fit the twin either, or hides what becomes of the
+clause, both are tried once more without the answers that don't fit, so that a search is asked for these goals.
 """
 import enum
 import os
@@ -11,7 +15,7 @@ import subprocess
 import tempfile
 from dataclasses import dataclass, field
 
-from lib.edits import rounds_of
+from lib.edits import clause_of, rounds_of
 from lib.kit import rt
 
 
@@ -23,6 +27,10 @@ class Verdict(enum.Enum):
     BY_NAMES = "refused, but only by a name that a proof file has"
     PROVED = "NOT REFUSED"
     UNREAD = "BAD EDIT"
+    # something is open, but not the clause that the edit says it breaks
+    OTHER = "refused, but not at the clause that it names"
+    # what is right with the same ways out isn't proved either, so what is open says nothing of the clause
+    TWIN = "refused, but its right twin isn't proved"
     # the function isn't proved since it calls one that isn't
     CALLER = "NOT REFUSED by itself"
     UNKNOWN = "not judged"
@@ -60,6 +68,20 @@ class Said:
     seconds: float
 
 
+def leave_out(file, goals):
+    """Takes the answers to these goals out of a file of answers."""
+    if not goals:
+        return
+    kept, leaves = [], False
+    with open(file, encoding="utf-8") as it:
+        for line in it:
+            begun = re.match(r"(?:pub )?([^\s(]+) :", line)
+            leaves = begun[1] in goals if begun else leaves
+            kept += [] if leaves else [line]
+    with open(file, "w", encoding="utf-8") as it:
+        it.write("".join(kept))
+
+
 def run_check(crate, edits, texts, how, kept):
     """Checks a copy of the crate with these texts: the edited functions and what they call, over kept work where there is some."""
     with tempfile.TemporaryDirectory(prefix="wrong-bodies-") as room:
@@ -69,6 +91,8 @@ def run_check(crate, edits, texts, how, kept):
         for path, text in texts.items():
             with open(f"{room}/{path}", "w", encoding="utf-8") as file:
                 file.write(text)
+        for edit in edits:
+            leave_out(f"{room}/{edit.proofs}Answers.antt", edit.left_out)
         only = [word for edit in edits for word in ("--only", edit.function)]
         words = crate.words(["--jobs", str(how.jobs), *only], keeps=False)
         words = [*rt.rtlib.guarded(), rt.rtlib.RATTLE, "check", *words, "--incremental", kept]
@@ -100,15 +124,23 @@ PLACED = re.compile(r"(?:note: )?(?:\./)?(\S+?):(\d+):\d+: (.*)")
 OPEN = re.compile(r"it is not proved|.*may overflow|.*not proved")
 
 
+GOAL = re.compile(r"(?:\(|error: )`([^`]+)`")
+
+
+def goal_of(line):
+    """Returns the goal that a line of a check speaks of."""
+    found = GOAL.search(line)
+    return found[1] if found else ""
+
+
 def complaints(edit, text):
     """Returns the lines in which a check complains of the edited function itself: its open goals, and errors of its proof."""
-    folder = f"proofs/{edit.function.replace('::', '/')}/"
     for line in text.split("\n"):
         at = PLACED.match(line)
         if not at:
             continue
         in_body = line.startswith("note: ") and at[1] == edit.path and edit.first <= int(at[2]) <= edit.last
-        if in_body and OPEN.match(at[3]) or at[1].startswith(folder) and at[3].startswith("error"):
+        if in_body and OPEN.match(at[3]) or at[1].startswith(edit.proofs) and at[3].startswith("error"):
             yield line
 
 
@@ -123,8 +155,12 @@ def judge(edit, text):
     if not re.match(r"not proved|no proof", line[1]):
         return Verdict.UNKNOWN, line[0][:200]
     own = [*complaints(edit, text)]
+    edit.misfits.update(goal_of(it) for it in own if f"{edit.proofs}Answers.antt:" in it)
     goals = [it for it in own if it.startswith("note: ") or not OF_NAMES.search(it)]
     search = re.search(r"`search` did not prove .*?(?=; it calls|$)", line[1])
+    if edit.refuted and (own or search):
+        goals = [it for it in goals if clause_of(goal_of(it)) == edit.refuted]
+        return (Verdict.REFUSED, goals[0][:200]) if goals else (Verdict.OTHER, (own[0] if own else search[0])[:200])
     if goals or search:
         return Verdict.REFUSED, (goals[0] if goals else search[0])[:200]
     if own:
@@ -162,25 +198,53 @@ def kept_work(crate, how, room):
     return kept
 
 
+def try_in_rounds(crate, edits, how, kept, outcome):
+    """Tries edits of a crate: all at once, then those that a check left open once more without the others, and at last alone."""
+    left, alone, found = edits, [], {}
+    for most in (how.most, how.most, 1):
+        if most == 1:
+            left, alone = [*left, *alone], []
+        open_ones = []
+        for batch, texts in rounds_of(left, most):
+            told, seconds = try_round(crate, batch, texts, how, kept)
+            found.update(told)
+            outcome.seconds += seconds
+            outcome.checks += 1
+            for edit, (verdict, _) in told.items():
+                if len(batch) > 1 and verdict in (Verdict.CALLER, Verdict.UNKNOWN):
+                    open_ones.append(edit)
+                elif len(batch) > 1 and verdict is Verdict.UNREAD:
+                    alone.append(edit)
+        left = open_ones
+    return found
+
+
+def told_by_both(edit, twin, found):
+    """Returns the verdict on an edit by what was found of it and of its twin, and what says so."""
+    verdict, why = found[edit]
+    if twin and verdict in (Verdict.REFUSED, Verdict.OTHER) and found[twin][0] is not Verdict.PROVED:
+        return Verdict.TWIN, f"{why}; its twin: {found[twin][0].value}: {found[twin][1]}"
+    if not twin and verdict is Verdict.REFUSED and edit.refuted in {clause_of(it) for it in edit.left_out}:
+        return Verdict.OTHER, f"without its answers by hand: {why}"
+    return verdict, why
+
+
 def try_edits(crate, edits, how):
-    """Tries a crate's edits: all at once, then those that a check left open once more without the others, and at last alone."""
+    """Tries a crate's edits and their twins, and once more without the answers that don't fit where those tell nothing of a clause."""
     outcome = Outcome({it: (Verdict.UNREAD, it.why) for it in edits if it.why})
-    left, alone = [it for it in edits if not it.why], []
+    good = [it for it in edits if not it.why]
+    twins = {it: it.twin() for it in good if it.rights}
     with tempfile.TemporaryDirectory(prefix="wrong-bodies-kept-") as room:
         kept = kept_work(crate, how, room)
-        for most in (how.most, how.most, 1):
-            if most == 1:
-                left, alone = [*left, *alone], []
-            open_ones = []
-            for batch, texts in rounds_of(left, most):
-                told, seconds = try_round(crate, batch, texts, how, kept)
-                outcome.found.update(told)
-                outcome.seconds += seconds
-                outcome.checks += 1
-                for edit, (verdict, _) in told.items():
-                    if len(batch) > 1 and verdict in (Verdict.CALLER, Verdict.UNKNOWN):
-                        open_ones.append(edit)
-                    elif len(batch) > 1 and verdict is Verdict.UNREAD:
-                        alone.append(edit)
-            left = open_ones
+        found = try_in_rounds(crate, [*good, *twins.values()], how, kept, outcome)
+        again = []
+        for edit in good:
+            both = [edit, twins[edit]] if edit in twins else [edit]
+            misfits = set().union(*(it.misfits for it in both))
+            if misfits and told_by_both(edit, twins.get(edit), found)[0] in (Verdict.OTHER, Verdict.TWIN):
+                again += both
+                for it in both:
+                    it.left_out = misfits
+        found.update(try_in_rounds(crate, again, how, kept, outcome))
+    outcome.found.update({it: told_by_both(it, twins.get(it), found) for it in good})
     return outcome

@@ -1,25 +1,38 @@
 """Edits that make one function wrong, and rounds of edits that are tried in one check.
 
 An edit is a file with a line 'file: src/NAME.rt' and then pairs of lines 'old: TEXT' and 'new: TEXT', as 'rt must-fail' takes
-it; each TEXT stands in that file exactly once, and no pair changes the number of lines. All pairs change the body of one
-function: that in which the first text stands. A line 'fn: PATH' names it as a check does, where the text stands in none, or
-where a check has another name for it than its file, impl and name give.
+it; each TEXT stands once in that file, or else in the function that a line 'fn: PATH' names. All pairs change the body of one
+function: that in which the first text stands, or the named one, where the text stands in none, or where a check has another
+name for it than its file, impl and name give.
+
+A line 'refuted: CLAUSE' says which clause of the function the edit breaks: the clause's name, 'ensures' for a function's only
+one, or 'invariant' for that of a type that the function changes or makes. A line 'right: TEXT' behind a 'new:' line has what
+stands there in the edit's twin, whose meaning is right and whose ways out are the edit's: the same words lead out or apart, in the
+same order. It tells a clause that is broken from a proof by hand that no longer fits. A function as it stands is the twin of an edit
+that keeps its conditions too, and as many calls and operators; another edit wants one where the clause has an answer by hand.
 """
 import os
 import re
-from dataclasses import dataclass, field
-
-from lib.kit import rt
+from collections import Counter
+from dataclasses import dataclass, field, replace
 
 FUNCTION = re.compile(r'( *)(?:pub(?:\([^)]*\))? )?(?:const |unsafe |extern "C" )*fn (\w+)')
 BLOCK = re.compile(r"( *)(?:pub(?:\([^)]*\))? )?(?:unsafe )?(impl|trait|mod)\b")
 CLAUSE = re.compile(r" *(?:requires|ensures|ghost)\b")
 NAME = re.compile(r"[A-Za-z0-9_-][A-Za-z0-9_.-]*\.edit")
+OPERATOR = re.compile(r"[-+*/%<>!|^]|[-+*/%<>=!|^]=|<<|>>")
+LEADS = {"if", "else", "match", "return", "while", "for", "loop", "break", "continue", "=>", "?", "&&", "||"}
+WORDS = {*LEADS, "let", "mut", "move", "in", "as", "ref"}
+TOKEN = re.compile(r'b?"(?:[^"\\]|\\.)*"|\w+|=>|->|::|\.\.=?|&&|\|\||[-+*/%<>=!&|^]=|<<|>>|\S')
 
 
 @dataclass(eq=False)
 class Edit:
-    """An edit, and the function that it makes wrong, with its first and last line. `why` says what is wrong with the edit itself."""
+    """An edit, and the function that it makes wrong, with its first and last line. `why` says what is wrong with the edit itself.
+
+    `rights` are the pairs of its twin, if it has one. `misfits` are the answers by hand that a check said don't fit the edited
+    function, and `left_out` those without which it is checked.
+    """
 
     crate: object
     file: str
@@ -29,19 +42,36 @@ class Edit:
     first: int = 0
     last: int = 0
     why: str = ""
+    refuted: str = ""
+    rights: list = field(default_factory=list)
+    misfits: set = field(default_factory=set)
+    left_out: set = field(default_factory=set)
 
     @property
     def name(self):
         return os.path.basename(self.file)
 
+    @property
+    def proofs(self):
+        """The folder of what is proved of the function by hand."""
+        return f"proofs/{self.function.replace('::', '/')}/"
+
+    def twin(self):
+        """Returns the edit that makes the twin."""
+        return replace(self, pairs=self.rights, rights=[], refuted="", misfits=set(), left_out=set())
+
     def applied(self, text):
         """Returns the text with this edit's pairs, or None where they don't fit in it."""
-        lines = text.count("\n")
         for old, new in self.pairs:
-            if text.count(old) != 1:
+            if text.count(old) == 1:
+                text = text.replace(old, new)
+                continue
+            lines = text.split("\n")
+            within = "\n".join(lines[self.first - 1 : self.last])
+            if not self.first or within.count(old) != 1:
                 return None
-            text = text.replace(old, new)
-        return text if text.count("\n") == lines else None
+            text = "\n".join([*lines[: self.first - 1], within.replace(old, new), *lines[self.last :]])
+        return text
 
 
 def source_of(edit):
@@ -62,25 +92,100 @@ def read_edit(crate, file):
             edit.path = rest.strip()
         elif word == "fn":
             edit.function = rest.strip()
+        elif word == "refuted":
+            edit.refuted = rest.strip()
         elif word == "old":
             old = rest
         elif line.startswith("new:"):
             edit.pairs.append((old, line[len("new:") :].removeprefix(" ")))
-    if not edit.path.startswith("src/"):
-        edit.why = edit.why or "it changes no file of src/"
-    edit.why = edit.why or rt.read_edit(file, crate.folder)[1] or ""
-    if not edit.why and edit.applied(source_of(edit)) is None:
-        edit.why = "it changes the number of lines, or its pairs don't fit one after the other"
+            edit.rights.append(edit.pairs[-1])
+        elif line.startswith("right:") and edit.rights:
+            edit.rights[-1] = (old, line[len("right:") :].removeprefix(" "))
+    edit.rights = [] if edit.rights == edit.pairs else edit.rights
+    edit.why = edit.why or bad_place(edit)
     if not edit.why:
         find_function(edit)
+    edit.why = edit.why or bad_text(edit) or bad_twin(edit)
     return edit
 
 
+def bad_place(edit):
+    """Returns what is wrong with the file that an edit names, and with its pairs by themselves."""
+    if not edit.path.startswith("src/") or not os.path.isfile(f"{edit.crate.folder}/{edit.path}"):
+        return "it changes no file of src/"
+    if not edit.pairs or not all(old for old, _ in edit.pairs):
+        return "it has no pair of lines 'old:' and 'new:', or a 'new:' without its 'old:'"
+    times = source_of(edit).count(edit.pairs[0][0])
+    return "" if times == 1 or times and edit.function else f"an 'old:' text is in {edit.path} {times} times, and not once"
+
+
+def bad_text(edit):
+    """Returns what is wrong with an edit's pairs in its function."""
+    text = source_of(edit)
+    made = edit.applied(text)
+    if made is None:
+        return "its pairs don't fit one after the other, each in one place"
+    return "it changes nothing" if made == text else ""
+
+
+def bad_twin(edit):
+    """Returns what is wrong with an edit's twin, or that it lacks one."""
+    if not edit.refuted:
+        return "it has a line 'right:' and no line 'refuted:'" if edit.rights else ""
+    if edit.rights:
+        same = all(ways_out(right) == ways_out(new) for (_, right), (_, new) in zip(edit.rights, edit.pairs))
+        return "" if same else "its twin has other ways out"
+    if all(shape(old) == shape(new) for old, new in edit.pairs) or edit.refuted not in {clause_of(it) for it in answers(edit)}:
+        return ""
+    return f"{edit.refuted} has an answer by hand, and the edit another shape than the function: it wants a line 'right:'"
+
+
+def ways_out(text):
+    """Returns the words of a text that lead out or apart."""
+    return [it for it in TOKEN.findall(text) if it in LEADS]
+
+
+def shape(text):
+    """Returns the ways out of a text, the conditions that lead to them, and how many calls, indexes, blocks and operators it has."""
+    tokens, kinds = TOKEN.findall(text), Counter()
+    for at, token in enumerate(tokens):
+        before = tokens[at - 1] if at else ""
+        if token in "([":
+            kinds[token] += bool(before in (")", "]") or re.fullmatch(r"\w+", before) and before not in WORDS)
+        elif token == "{" or OPERATOR.fullmatch(token) and token not in LEADS:
+            kinds["{" if token == "{" else "operator"] += 1
+    return ways_out(text), re.findall(r"\b(?:if|while|match)\b[^{]*", text), +kinds
+
+
+def clause_of(goal):
+    """Returns the clause of a function that a goal is of, by the goal's name, or nothing where it is of none."""
+    if goal.startswith("returns"):
+        named = re.search(r"-clause-(\w+)$", goal)
+        return named[1] if named else "ensures"
+    return "invariant" if goal.startswith("invariant_of") else ""
+
+
+def answers(edit):
+    """Returns the goals of the edit's function that have an answer by hand."""
+    file = f"{edit.crate.folder}/{edit.proofs}Answers.antt"
+    if not os.path.isfile(file):
+        return []
+    with open(file, encoding="utf-8") as it:
+        return re.findall(r"(?m)^pub (\S+) :", it.read())
+
+
 def edits_in(crate, folder):
-    """Returns the edits of a folder, by their names, and the files there that are none."""
+    """Returns the edits of a folder, by their names, and the files there that are none. With those of a crate's wrong/ go its named
+    ones, which stand in must-fail/, since 'rt ci' asks only whether something is left open."""
     names = sorted(os.listdir(folder)) if os.path.isdir(folder) else []
     good = [it for it in names if NAME.fullmatch(it)]
-    return [read_edit(crate, f"{folder}/{it}") for it in good], [it for it in names if it not in good]
+    edits = [read_edit(crate, f"{folder}/{it}") for it in good]
+    if folder == f"{crate.folder}/wrong" and os.path.isdir(f"{crate.folder}/must-fail"):
+        named, _ = edits_in(crate, f"{crate.folder}/must-fail")
+        for edit in named:
+            edit.why = edit.why or ("" if edit.refuted else "a named wrong body lacks its line 'refuted:'")
+        edits += named
+    return edits, [it for it in names if it not in good]
 
 
 def end_of(lines, begin):
@@ -96,9 +201,10 @@ def end_of(lines, begin):
 def find_function(edit):
     """Finds the function in whose body the edit's first text stands, or the one that the edit names."""
     text = source_of(edit)
-    lines, at = text.split("\n"), text[: text.index(edit.pairs[0][0])].count("\n")
+    lines = text.split("\n")
+    places = [it for it in range(len(lines)) if edit.pairs[0][0] in lines[it]]
     begins = [it for it in range(len(lines)) if FUNCTION.match(lines[it])]
-    holds = [it for it in reversed(begins) if it <= at <= end_of(lines, it)]
+    holds = [it for it in reversed(begins) if any(it <= at <= end_of(lines, it) for at in places)]
     if edit.function:
         named = [it for it in begins if FUNCTION.match(lines[it])[2] == edit.function.split("::")[-1]]
         begin = next((it for it in [*holds, *named] if it in named), None)
@@ -111,7 +217,8 @@ def find_function(edit):
     edit.first, edit.last = begin + 1, end_of(lines, begin) + 1
     while edit.first > 1 and lines[edit.first - 2].startswith(f"{indent}#["):
         edit.first -= 1
-    if begin in holds and at < body_of(lines, begin, edit.last):
+    body = body_of(lines, begin, edit.last)
+    if any(begin <= at < body for at in places):
         edit.why = "it changes a signature or a contract"
     # (where an impl is for a type like Sequence<u8, A>, a check has other names than those that the layout gives)
     edit.function = edit.function or path_of(edit, lines, begin)

@@ -19,6 +19,12 @@ def commit():
     return ran.stdout.strip()
 
 
+def ages():
+    """Returns of each commit how many came after it."""
+    ran = subprocess.run(["git", "-C", TOP, "rev-list", "HEAD"], capture_output=True, text=True)
+    return {commit: age for age, commit in enumerate(ran.stdout.split())}
+
+
 def expected_minutes(crate, edits):
     """Returns about how many processor minutes it takes to try these edits of a crate from nothing."""
     rounds = len(rounds_of([it for it in edits if not it.why], How.most))
