@@ -11,6 +11,8 @@ import threading
 
 sys.dont_write_bytecode = True
 TOP = os.path.dirname(os.path.dirname(os.path.dirname(os.path.realpath(__file__))))
+# Bytes up to which an estimate is taken as it is.
+LARGE = 3_500_000_000
 
 
 def load_rt():
@@ -21,7 +23,17 @@ def load_rt():
     loader.exec_module(module)
     for name in ("stamp", "below"):
         setattr(module.rtlib.Crate, name, asked_once(getattr(module.rtlib.Crate, name)))
+    module.need = half_where_large(module.need)
     return module
+
+
+def half_where_large(need):
+    """Returns rt's estimate of the memory that a check takes, halved where it is large.
+
+    No check of such a crate took much more than half of it. By the whole of it followed_nets, which takes 3 GB, would be proved by one
+    processor as long as 11 aren't free, and all that stands above it would wait (docs/GATE.md).
+    """
+    return lambda crate: max(need(crate) / 2, min(need(crate), LARGE))
 
 
 def asked_once(method):

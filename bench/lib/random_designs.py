@@ -6,9 +6,13 @@ ORIENTS = ["N", "S", "E", "W", "FN", "FS", "FE", "FW"]
 LAYERS = ["met1", "via1", "met2", "via2", "met3"]
 WIRED = ["met1", "met2", "met3"]
 VIAS = ["M1M2", "M2M3", "D1", "G1"]
-MACROS = {"INV": "A Y VDD", "BUF": "A Z VDD", "TALL": "A B Y VDD", "PAD": "P", "BARE": "", "SHIELDING": "A"}
+MACROS = {"INV": "A Y VDD", "BUF": "A Z VDD", "TALL": "A B Y VDD", "PAD": "P", "BARE": "", "SHIELDING": "A", "RING": "", "COVERS": ""}
 SITES = ["core", "tall"]
 RULES = ["WIDE", "NARROW"]
+USES = ["SIGNAL", "POWER", "GROUND", "TIEOFF", "RESET", "SCAN", "ANALOG", "POWERS"]
+# clauses of wiring without their form
+FORMLESS = ["ROUTED", "FIXED met1", "COVER", "NOSHIELD met1", "SHIELD", "RECT met1", "VIA M1M2", "SHAPE", "MASK"]
+BLOCKING = ["", "", "+ EXCEPTPGNET ", "+ SOFT ", "+ PUSHDOWN ", "+ PUSHDOWN SOFT ", "+ MASK EXCEPTPGNET ", "+ SLOTSX "]
 
 LEF = b"""VERSION 5.8 ;
 UNITS
@@ -166,6 +170,15 @@ MACRO BARE
   SIZE 0.46 BY 2.72 ;
   SITE core ;
 END BARE
+MACRO RING
+  CLASS RING ;
+  SIZE 1 BY 1 ;
+  SITE core ;
+END RING
+MACRO COVERS
+  CLASS COVERS ;
+  SIZE 1 BY 1 ;
+END COVERS
 MACRO SHIELDING
   CLASS COVER ;
   SIZE 4 BY 4 ;
@@ -188,11 +201,13 @@ class Designs:
 
     def __init__(self, seed):
         self.rng = random.Random(seed)
-        self.components = [f"u{k}" for k in range(self.rng.randint(2, 60))]
-        self.nets = [f"n{k}" for k in range(self.rng.randint(1, 30))]
+        self.components = [*(f"u{k}" for k in range(self.rng.randint(2, 60))), "u\x80", "U1"]
+        self.nets = [*(f"n{k}" for k in range(self.rng.randint(1, 30))), "n\xff", "N1"]
         self.special = [f"s{k}" for k in range(self.rng.randint(0, 4))]
         self.pins = [f"p{k}" for k in range(self.rng.randint(0, 8))]
         self.regions = [f"r{k}" for k in range(self.rng.randint(0, 3))]
+        # how many columns of the grid lie left of those that are asked for
+        self.before = self.rng.choice([0, 0, 16, 100, 1000])
 
     def one(self, names, other="nothing"):
         """Returns one of some names, and now and then another one."""
@@ -242,7 +257,8 @@ class Designs:
             if kind < 0.6:
                 parts.append(self.rng.choice([f"( {self.across()} * )", f"( * {self.upward()} )", self.point()]))
             elif kind < 0.9:
-                array = f" DO {self.rng.randint(1, 3)} BY {self.rng.randint(1, 2)} STEP 300 400" if is_special and self.chance(0.3) else ""
+                columns = 18 if self.chance(0.05) else self.rng.randint(1, 3)
+                array = f" DO {columns} BY {self.rng.randint(1, 2)} STEP 300 400" if is_special and self.chance(0.3) else ""
                 parts.append(self.one(VIAS) + (f" {self.rng.choice(ORIENTS)}" if self.chance(0.2) else "") + array)
             else:
                 parts.append(self.rng.choice(["RECT ( -50 -50 50 60 )", "VIRTUAL ( 920 2720 )", "MASK 1", "( * * 0 )"]))
@@ -253,15 +269,19 @@ class Designs:
         status = self.rng.choice(["ROUTED"] * 6 + ["FIXED", "COVER", "NOSHIELD" if not is_special else f"SHIELD {self.one(self.nets)}"])
         wires = []
         for _ in range(self.rng.randint(1, 3)):
-            head = f"{self.one(WIRED)} {self.rng.choice([0, 100, 280])}" if is_special else self.one(WIRED) + self.rng.choice(["", "", "", " TAPER", f" TAPERRULE {self.one(RULES)}", " STYLE 1"])
-            wires.append(f"{head} {self.path(is_special)}")
+            if is_special:
+                words = self.rng.choice([" 0", " 100", " 280"]) + self.rng.choice(["", "", "", " + SHAPE FILLWIRE", " + SHAPE DRCFILL"])
+            else:
+                words = self.rng.choice(["", "", "", " TAPER", f" TAPERRULE {self.one(RULES)}", " STYLE 1"])
+            wires.append(f"{self.one(WIRED)}{words} {self.path(is_special)}")
         return f"+ {status} " + " NEW ".join(wires)
 
     def net(self, name, is_special=False):
         star = [f"( * {self.rng.choice(['VDD', 'A', 'P'])} )"] if self.chance(0.5 if is_special else 0.02) else []
         parts = [name, *star, *(self.terminal() for _ in range(self.rng.randint(0, 4)))]
-        if self.chance(0.2):
-            parts.append(f"+ USE {self.rng.choice(['SIGNAL', 'POWER', 'GROUND'])}")
+        parts += [f"+ USE {self.rng.choice(USES)}"] * self.chance(0.2)
+        parts += [f"+ USE {self.rng.choice(USES)}"] * self.chance(0.1)
+        parts += [f"+ {self.rng.choice(FORMLESS)}"] * self.chance(0.03)
         if not is_special and self.chance(0.1):
             parts.append(f"+ NONDEFAULTRULE {self.one(RULES)}")
         if self.chance(0.7):
@@ -271,7 +291,7 @@ class Designs:
         return " ".join(parts)
 
     def pin(self, name):
-        parts = [name, f"+ NET {self.one(self.nets)}"]
+        parts = [name, f"+ NET {self.one(self.nets)}", *["+ USE POWER"] * self.chance(0.2)]
         for _ in range(self.rng.randint(0, 2)):
             parts += ["+ PORT"] * self.chance(0.3)
             parts.append(f"+ LAYER {self.one(LAYERS)} ( -100 0 ) ( 100 200 )")
@@ -280,8 +300,7 @@ class Designs:
 
     def blockage(self):
         kind = f"LAYER {self.one(WIRED)}" if self.chance(0.5) else "PLACEMENT"
-        clause = self.rng.choice(["", "", "+ EXCEPTPGNET ", "+ SOFT ", "+ PUSHDOWN "])
-        return f"{kind} {clause}" + " ".join(f"RECT {self.point()} {self.point()}" for _ in range(self.rng.randint(1, 2)))
+        return f"{kind} {self.rng.choice(BLOCKING)}" + " ".join(f"RECT {self.point()} {self.point()}" for _ in range(self.rng.randint(1, 2)))
 
     def blockages(self):
         return [self.blockage() for _ in range(self.rng.randint(0, 4))]
@@ -309,7 +328,8 @@ class Designs:
             self.section("NETS", [self.net(it) for it in self.nets]),
         ]
         rows = [f"ROW row{k} {self.one(SITES)} {self.rng.choice([0, 46, 460])} {2720 * k} {self.rng.choice(['N', 'FS'])} DO {self.rng.randint(1, 30)} BY 1 STEP 460 0 ;" for k in range(self.rng.randint(0, 4))]
-        floor = [*rows, "GCELLGRID X 0 DO 6 STEP 2000 ;", "GCELLGRID Y 0 DO 4 STEP 2500 ;", "TRACKS X 230 DO 20 STEP 460 LAYER met2 ;"]
+        grid = [f"GCELLGRID X {-2000 * self.before} DO {6 + self.before} STEP 2000 ;", "GCELLGRID Y 0 DO 4 STEP 2500 ;"]
+        floor = [*rows, *grid, "TRACKS X 230 DO 20 STEP 460 LAYER met2 ;"]
         floor += ["DIEAREA ( 0 0 ) ( 14720 10880 ) ;"] * self.chance(0.8)
         sections = [it for it in sections if self.chance(0.95)]
         if self.chance(0.2):
@@ -317,7 +337,7 @@ class Designs:
         lines = ["VERSION 5.8 ;", "# a random design", f"UNITS DISTANCE MICRONS {self.rng.choice([1000, 1000, 2000, 100])} ;", *floor]
         for it in sections:
             lines += it
-        return "\n".join([*lines, "END DESIGN", ""]).encode()
+        return "\n".join([*lines, "END DESIGN", ""]).encode("latin-1")
 
     def edit_of_design(self):
         """Returns the line of an edit of the design."""
@@ -342,12 +362,12 @@ class Designs:
         """Returns a word of the entry of a pin of the design, and what is put there: mostly another place, net, layer or orientation."""
         words = [(line[0] + it.start(), line[0] + it.end()) for it in re.finditer(rb"\S+", text[slice(*line)])]
         a, b = self.rng.choice(words[2:])
-        word = text[a:b].decode()
+        word = text[a:b].decode("latin-1")
         if word.lstrip("-").isdigit():
-            return a, b, str(self.across()).encode()
+            return a, b, b"%d" % self.across()
         for others in (self.nets, LAYERS, ORIENTS):
             if word in others:
-                return a, b, self.one(others).encode()
+                return a, b, self.one(others).encode("latin-1")
         return a, b, text[slice(*self.rng.choice(words))]
 
     def new_component(self):
@@ -370,7 +390,7 @@ class Designs:
         if kind < 0.4 and lines:
             a, _ = self.rng.choice(lines)
             entry = self.rng.choice([self.component(self.new_component()), self.net(self.one(self.nets)), self.blockage(), self.pin(self.one(self.pins, "p9"))])
-            return a, a, f"- {entry} ;\n".encode()
+            return a, a, f"- {entry} ;\n".encode("latin-1")
         if kind < 0.75 and words:
             a, b = self.rng.choice(words)
             others = [text[c:d] for c, d in self.rng.sample(words, min(4, len(words)))]
@@ -382,12 +402,12 @@ class Designs:
     def questions(self):
         """Returns the lines that are asked after each edit."""
         lines = ["check", "length"]
-        for net in [*self.nets[:4], *self.special[:2], "n29"]:
+        for net in [*self.nets[:4], *self.special[:2], "n29", "n\xff"]:
             lines += [f"length {net}", f"box {net}"]
-        for component in [*self.components[:3], "x1"]:
+        for component in [*self.components[:3], "x1", "u\x80"]:
             lines.append(f"show COMPONENTS {component}")
-        lines += [f"cell {i} {j} {layer}" for i in (0, 1, 4) for j in (0, 1) for layer in ("met1", "met2")]
-        return [*lines, "pcell 0 0", "pcell 1 1", "pcell 5 0"]
+        lines += [f"cell {self.before + i} {j} {layer}" for i in (0, 1, 4) for j in (0, 1) for layer in ("met1", "met2")]
+        return [*lines, *(f"pcell {self.before + i} {j}" for i, j in ((0, 0), (1, 1), (5, 0)))]
 
 
 def escaped(put):
