@@ -1,3 +1,4 @@
+pub mod AnswerRows
 pub mod Computing
 pub mod DefRows
 pub mod EditRows
