@@ -3,7 +3,7 @@
 use crate::lines::Lines;
 use std::alloc::{Allocator, Global};
 
-/// The lines of one thing, and how many rectangles were compared for them: 0 as long as nothing counts them.
+/// The lines of one thing, and how many rectangles were compared for them, where the call counts them.
 #[derive(Drop)]
 pub struct Checked<A: Allocator = Global> {
     pub lines: Lines<A>,

@@ -8,7 +8,7 @@
 //!
 //! The names in pieces are those of the path and of the rules, and live as long as they do. Nothing takes memory and
 //! nothing fails: a diagonal wire, a via that isn't known and one off its layer are pieces. The calls ask that numbers are no
-//! larger than the grammar of DEF and LEF lets them be (`wire_rules/specs/Ranges`), and each shape that is given lies within plus or
+//! larger than the grammar of DEF and LEF lets them be (`design_model/specs/Ranges`), and each shape that is given lies within plus or
 //! minus 2^61.
 #![tactic(auto)]
 
