@@ -1,11 +1,11 @@
 //! Nets that are kept with their parts, in which the pins of one component are exchanged.
 
-ghost use Rattle.std.specs.Prelude.{◌≡◌, ◌≤◌, ◌+◌, ◌++◌, ℕ, IfOk, IfSome, List, map};
+ghost use Rattle.std.specs.Prelude.{◌≡◌, ◌≤◌, ◌+◌, ◌++◌, ◌⊎◌, ℕ, IfOk, IfSome, List, map};
 ghost use Rattle.def_grammar.specs.Records.{Record};
 ghost use Rattle.lef_grammar.specs.Library.{Library as TheLibrary};
 ghost use Rattle.connection_rules.specs.NetLines.{class_lines};
 ghost use Rattle.connection_rules.specs.NetParts.{Part};
-ghost use Rattle.kept_nets.specs.NearParts.{near_in_parts};
+ghost use Rattle.kept_nets.specs.NearParts.{GrewBy, met_between, met_in_parts, near_in_parts};
 ghost use Rattle.kept_nets.specs.Parts.{part_view, shapes_in};
 ghost use Rattle.line_laws.specs.Lines.{SameThings};
 ghost use Rattle.net_lists.specs.PartCuts.{shape_view};
@@ -108,6 +108,8 @@ fn exchange_pins<A: Allocator + Copy>(
     ensures come { IfOk result (λ found. IfSome found (λ e. ArePinsOfNet star.new (star_view after).pins (told_view e.come))) }
     ensures parts { IfOk result (λ found. IfSome found (λ _. (stay : List Part) × SameThings star.old.parts ((star_view before).pins ++ stay) × SameThings star.new.parts ((star_view after).pins ++ stay))) }
     ensures tests { IfOk result (λ found. IfSome found (λ e. e.tests ≤ near_in_parts star.old.parts + near_in_parts star.new.parts)) }
+    ensures least { IfOk result (λ found. IfSome found (λ e. (stay : List Part) → SameThings star.old.parts ((star_view before).pins ++ stay)
+        → GrewBy (met_between ((star_view before).pins ++ (star_view after).pins) stay) 0 e.tests ⊎ GrewBy (met_in_parts star.new.parts) 0 e.tests)) }
 {
     let out = shapes_of(alloc, &before.pins)?;
     let put = shapes_of(alloc, &after.pins)?;

@@ -7,4 +7,5 @@ mod PlacedParts
 mod Sums
 mod SureShapes
 pub mod Taken
+mod Telling
 mod Touching

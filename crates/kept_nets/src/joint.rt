@@ -1,10 +1,10 @@
 //! How one more pin hangs together with the parts of a net, by those near it.
 
-ghost use Rattle.std.specs.Prelude.{◌≡◌, ◌≤◌, ◌+◌, ◌-◌, ◌^◌, ◌∷◌, ◌++◌, IfOk, IsTrue, map, min, true};
+ghost use Rattle.std.specs.Prelude.{◌≡◌, ◌≤◌, ◌+◌, ◌-◌, ◌^◌, ◌∷◌, ◌++◌, [], IfOk, IsTrue, map, min, true};
 ghost use Rattle.class_laws.specs.OneMore.{AreJoinedAt, IsInAClass, parts_at};
-ghost use Rattle.kept_nets.specs.Joints.{HangsBy};
+ghost use Rattle.kept_nets.specs.Joints.{HangsBy, is_known};
 ghost use Rattle.kept_nets.specs.Kept.{AreShapesOf};
-ghost use Rattle.kept_nets.specs.NearParts.{met_in_parts};
+ghost use Rattle.kept_nets.specs.NearParts.{GrewBy, met_between, met_in_parts};
 ghost use Rattle.kept_nets.specs.Parts.{part_view};
 
 use crate::listing::{classes_at, classes_with};
@@ -24,6 +24,15 @@ pub(crate) enum Joint {
     Within,
     /// It isn't known.
     Open,
+}
+
+impl Joint {
+    /// Whether it is known.
+    pub(crate) fn is_known(self) -> bool
+        ensures { result ≡ is_known self }
+    {
+        !matches!(self, Joint::Open)
+    }
 }
 
 /// How often parts are looked at, each time some more of them.
@@ -50,6 +59,7 @@ fn is_within<A: Allocator + Copy>(
 ) -> Result<bool, AllocError>
     ensures within { IfOk result (λ yes. IsTrue yes → IsInAClass (part_view part.now) (parts_at (map part_view parts.now) places.now)) }
     ensures least { IfOk result (λ yes. IsTrue yes → min (looks.old.tests + met_in_parts (part_view part.now ∷ parts_at (map part_view parts.now) places.now)) (2 ^ 64 - 1) ≤ looks.new.tests) }
+    ensures more { looks.old.tests ≤ looks.new.tests }
 {
     let count = count_at(parts, places).saturating_add(part.shapes.len() as u64);
     if !looks.have_room(count.saturating_mul(count).saturating_mul(2)) {
@@ -90,7 +100,8 @@ fn joint_by<A: Allocator + Copy>(
 ) -> Result<Joint, AllocError>
     requires pin { part.now.is_pin ≡ true }
     requires near { AreJoinedAt (part_view part.now) (map part_view parts.now) near.now }
-    ensures { IfOk result (λ j. HangsBy j (part_view part.now) (map part_view parts.now)) }
+    ensures joint { IfOk result (λ j. HangsBy j (part_view part.now) (map part_view parts.now)) }
+    ensures more { looks.old.tests ≤ looks.new.tests }
 {
     few_tell();
     let mut more = Vec::new(alloc);
@@ -113,7 +124,8 @@ pub(crate) fn joint_of<A: Allocator + Copy>(
     looks: &mut Looks,
 ) -> Result<Joint, AllocError>
     requires { AreShapesOf (map part_view parts.now) shapes.now }
-    ensures { IfOk result (λ j. HangsBy j (part_view part.now) (map part_view parts.now)) }
+    ensures joint { IfOk result (λ j. HangsBy j (part_view part.now) (map part_view parts.now)) }
+    ensures least { IfOk result (λ j. IsTrue (is_known j) → GrewBy (met_between (part_view part.now ∷ []) (map part_view parts.now)) looks.old.tests looks.new.tests) }
 {
     alone_is_a_class();
     if !part.is_pin {

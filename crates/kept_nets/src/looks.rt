@@ -1,6 +1,6 @@
 //! How many shapes are compared while parts near some are looked at.
 
-ghost use Rattle.std.specs.Prelude.{◌≡◌, ◌≤◌, ◌+◌, ◌-◌, ◌^◌, ◌∷◌, [], IfOk, IfSome, IsTrue, flat_map, map, min, sum_by, true};
+ghost use Rattle.std.specs.Prelude.{◌≡◌, ◌<◌, ◌≤◌, ◌+◌, ◌-◌, ◌^◌, ◌∷◌, [], IfOk, IfSome, IsTrue, flat_map, map, min, sum_by, true};
 ghost use Rattle.line_laws.specs.Lines.{SameThings};
 ghost use Rattle.net_lists.specs.PartCuts.{shape_view};
 ghost use Rattle.placed_shapes.specs.Placed.{touched_by};
@@ -38,7 +38,8 @@ impl Looks {
     /// Whether there is room for so many more, where half of those that may be compared are kept for the last look: how many one compares
     /// isn't known before it. Where few may be compared there is none: all parts are soon gone over then.
     pub(crate) fn have_room(&self, count: u64) -> bool
-        ensures { IsTrue result → self.now.tests ≤ self.now.most }
+        ensures most { IsTrue result → self.now.tests ≤ self.now.most }
+        ensures more { IsTrue result → self.now.tests < 2 ^ 64 - 1 }
     {
         self.most >= FEW && self.tests.saturating_add(count) < self.most / 2
     }
@@ -53,6 +54,7 @@ pub(crate) fn touched_within<A: Allocator + Copy>(
 ) -> Result<Option<Vec<usize, A>>, AllocError>
     ensures places { IfOk result (λ found. IfSome found (λ v. SameThings v.items (flat_map (touched_by shapes.now) (map shape_view own.now)))) }
     ensures least { IfOk result (λ found. IfSome found (λ _. min (looks.old.tests + sum_by (λ s. met_shapes s (map (λ p. p.1) shapes.now)) (map shape_view own.now)) (2 ^ 64 - 1) ≤ looks.new.tests)) }
+    ensures more { looks.old.tests ≤ looks.new.tests }
 {
     let mut places = Vec::new(alloc);
     for shape in own {

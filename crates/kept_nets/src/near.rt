@@ -1,6 +1,8 @@
 //! Which parts are looked at next, near those that were looked at. It is a guess, which nothing hangs on but how soon it is found how a pin
 //! hangs together with others.
 
+ghost use Rattle.std.specs.Prelude.{◌≡◌, ◌<◌, ◌≤◌, ◌⊎◌};
+
 use crate::looks::{Looks, touched_within};
 use crate::part::KeptPart;
 use design_model::geometry::{Point, Rect};
@@ -57,7 +59,10 @@ fn touching_one<A: Allocator + Copy>(
     window: Option<Rect>,
     other: Option<usize>,
     looks: &mut Looks,
-) -> Option<usize> {
+) -> Option<usize>
+    ensures counted { (result ≡ other) ⊎ (looks.old.tests < looks.new.tests) }
+    ensures more { looks.old.tests ≤ looks.new.tests }
+{
     if !looks.have_room(0) {
         return other;
     }
@@ -84,7 +89,9 @@ fn touching_pin<A: Allocator + Copy>(
     own: &[NetShape],
     window: Option<Rect>,
     looks: &mut Looks,
-) -> Option<usize> {
+) -> Option<usize>
+    ensures { looks.old.tests ≤ looks.new.tests }
+{
     let mut pin = None;
     for shape in own {
         pin = touching_one(parts, shapes, shape, window, pin, looks);
@@ -100,7 +107,9 @@ fn touching_pins<A: Allocator + Copy>(
     places: &[usize],
     window: Option<Rect>,
     looks: &mut Looks,
-) -> Result<Vec<usize, A>, AllocError> {
+) -> Result<Vec<usize, A>, AllocError>
+    ensures { looks.old.tests ≤ looks.new.tests }
+{
     let mut pins = Vec::new(alloc);
     for place in places {
         if let Some(part) = parts.get(*place) {
@@ -121,7 +130,9 @@ fn push_touching<A: Allocator + Copy>(
     place: usize,
     found: &mut Vec<usize, A>,
     looks: &mut Looks,
-) -> Result<(), AllocError> {
+) -> Result<(), AllocError>
+    ensures { looks.old.tests ≤ looks.new.tests }
+{
     if found.len() >= MANY {
         return Ok(());
     }
@@ -141,7 +152,9 @@ fn all_touching<A: Allocator + Copy>(
     shapes: &PlacedShapes<A>,
     places: &[usize],
     looks: &mut Looks,
-) -> Result<Vec<usize, A>, AllocError> {
+) -> Result<Vec<usize, A>, AllocError>
+    ensures { looks.old.tests ≤ looks.new.tests }
+{
     let mut found = Vec::new(alloc);
     for place in places {
         push_touching(alloc, parts, shapes, *place, &mut found, looks)?;
@@ -161,7 +174,9 @@ pub(crate) fn further<A: Allocator + Copy>(
     places: &[usize],
     round: usize,
     looks: &mut Looks,
-) -> Result<Vec<usize, A>, AllocError> {
+) -> Result<Vec<usize, A>, AllocError>
+    ensures { looks.old.tests ≤ looks.new.tests }
+{
     match round {
         0 => touching_pins(alloc, parts, shapes, places, window_of(pin), looks),
         1 => touching_pins(alloc, parts, shapes, places, None, looks),

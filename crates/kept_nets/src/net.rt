@@ -7,7 +7,7 @@ ghost use Rattle.design_model.specs.Families.{cross_lines};
 ghost use Rattle.line_laws.specs.Lines.{SameThings};
 ghost use Rattle.net_lists.specs.NetViews.{net_view, net_with};
 ghost use Rattle.net_touches.specs.Barriers.{barrier_view, name_at};
-ghost use Rattle.kept_nets.specs.NearParts.{met_in_parts, near_in_parts};
+ghost use Rattle.kept_nets.specs.NearParts.{GrewBy, IsToldBy, met_between, met_in_parts, near_in_parts};
 ghost use Rattle.kept_nets.specs.Parts.{part_view};
 
 use crate::joined::{with_pin, without_pin};
@@ -42,7 +42,8 @@ pub struct KeptNet<A: Allocator = Global> {
 }
 
 /// How many pairs of shapes were compared where parts of a net are exchanged: near those that go and come, and then of all parts, where
-/// the first don't tell how they hang together; else 0.
+/// the first don't tell how they hang together. So the first are at least the shapes that stay which meet those that go and come, or
+/// the second at least those that meet in the net then.
 #[derive(Clone, Copy)]
 pub struct ExchangeTests {
     pub before: u64,
@@ -124,9 +125,15 @@ impl<A: Allocator + Copy> KeptNet<A> {
         self.name.bytes()
     }
 
-    /// Takes a part out, and says whether it was there.
-    fn take_one(&mut self, part: &KeptPart<A>, looks: &mut Looks) -> Result<bool, AllocError>
+    /// Takes a part out, and says whether it was there. `told` is false then where its joint with the others isn't known.
+    fn take_one(
+        &mut self,
+        part: &KeptPart<A>,
+        told: &mut bool,
+        looks: &mut Looks,
+    ) -> Result<bool, AllocError>
         ensures out { IfOk result (λ there. IsTrue there → SameThings self.old.parts (part_view part.now ∷ self.new.parts)) }
+        ensures told { IfOk result (λ there. IsTrue there → IsToldBy told.old told.new (met_between (part_view part.now ∷ []) self.new.parts) looks.old.tests looks.new.tests) }
         ensures name { self.new.name ≡ self.old.name }
         ensures power { self.new.is_power ≡ self.old.is_power }
     {
@@ -140,34 +147,49 @@ impl<A: Allocator + Copy> KeptNet<A> {
         let gone = self.parts.swap_remove(place);
         self.sure = self.sure.saturating_sub(gone.shapes.len() as u64);
         let Some(shapes) = shapes else {
+            *told = false;
             return Ok(true);
         };
         let Some(shapes) = without_part(shapes, place, &gone, &self.parts)? else {
+            *told = false;
             return Ok(true);
         };
         let joint = joint_of(alloc, &gone, &self.parts, &shapes, looks)?;
+        *told = *told && joint.is_known();
         self.classes = without_pin(classes, joint);
         self.shapes = Some(shapes);
         Ok(true)
     }
 
     /// Takes parts out, each once, and says whether all of them were there. Where they weren't, some may be gone.
-    fn take_out(&mut self, parts: &[KeptPart<A>], looks: &mut Looks) -> Result<bool, AllocError>
+    fn take_out(
+        &mut self,
+        parts: &[KeptPart<A>],
+        told: &mut bool,
+        looks: &mut Looks,
+    ) -> Result<bool, AllocError>
         ensures out { IfOk result (λ there. IsTrue there → SameThings self.old.parts (map part_view parts.now ++ self.new.parts)) }
+        ensures told { IfOk result (λ there. IsTrue there → IsToldBy told.old told.new (met_between (map part_view parts.now) self.new.parts) looks.old.tests looks.new.tests) }
         ensures name { self.new.name ≡ self.old.name }
         ensures power { self.new.is_power ≡ self.old.is_power }
     {
         for part in parts {
-            if !self.take_one(part, looks)? {
+            if !self.take_one(part, told, looks)? {
                 return Ok(false);
             }
         }
         Ok(true)
     }
 
-    /// Puts a part in.
-    fn put_one(&mut self, part: KeptPart<A>, looks: &mut Looks) -> Result<(), AllocError>
+    /// Puts a part in. `told` is false then where its joint with the others isn't known.
+    fn put_one(
+        &mut self,
+        part: KeptPart<A>,
+        told: &mut bool,
+        looks: &mut Looks,
+    ) -> Result<(), AllocError>
         ensures put { OnOk result (SameThings self.new.parts (part_view part ∷ self.old.parts)) }
+        ensures told { OnOk result (IsToldBy told.old told.new (met_between (part_view part ∷ []) self.old.parts) looks.old.tests looks.new.tests) }
         ensures name { self.new.name ≡ self.old.name }
         ensures power { self.new.is_power ≡ self.old.is_power }
     {
@@ -176,10 +198,12 @@ impl<A: Allocator + Copy> KeptNet<A> {
         let classes = self.classes.take();
         let sure = self.sure.saturating_add(sure_in(&part));
         let Some(shapes) = self.shapes.take() else {
+            *told = false;
             self.parts.push(part)?;
             return Ok(());
         };
         let joint = joint_of(alloc, &part, &self.parts, &shapes, looks)?;
+        *told = *told && joint.is_known();
         let shapes = with_last(shapes, self.parts.len(), &part)?;
         self.parts.push(part)?;
         self.sure = sure;
@@ -199,31 +223,35 @@ impl<A: Allocator + Copy> KeptNet<A> {
         Ok(found.tests)
     }
 
-    /// The same, unless it is known: then 0.
-    fn settle(&mut self) -> Result<u64, AllocError>
+    /// The same, unless all joints told it: then 0.
+    fn settle(&mut self, told: bool) -> Result<u64, AllocError>
         ensures same { self.new ≡ self.old }
         ensures tests { IfOk result (λ n. n ≤ near_in_parts self.new.parts) }
-        ensures least { IfOk result (λ n. (n ≡ 0) ⊎ (min (met_in_parts self.new.parts) (2 ^ 64 - 1) ≤ n)) }
+        ensures least { IfOk result (λ n. IsTrue told ⊎ (min (met_in_parts self.new.parts) (2 ^ 64 - 1) ≤ n)) }
     {
-        if self.classes.is_some() {
+        if told && self.classes.is_some() {
             return Ok(0);
         }
         self.find_classes()
     }
 
-    /// Puts parts in, and says how many pairs of shapes were compared where it was found from all parts how these hang together then.
-    fn put_in(&mut self, parts: Vec<KeptPart<A>, A>, looks: &mut Looks) -> Result<u64, AllocError>
+    /// Puts parts in.
+    fn put_in(
+        &mut self,
+        parts: Vec<KeptPart<A>, A>,
+        told: &mut bool,
+        looks: &mut Looks,
+    ) -> Result<(), AllocError>
         ensures put { OnOk result (SameThings self.new.parts (map part_view parts.items ++ self.old.parts)) }
         ensures name { self.new.name ≡ self.old.name }
         ensures power { self.new.is_power ≡ self.old.is_power }
-        ensures tests { IfOk result (λ n. n ≤ near_in_parts self.new.parts) }
-        ensures least { IfOk result (λ n. (n ≡ 0) ⊎ (min (met_in_parts self.new.parts) (2 ^ 64 - 1) ≤ n)) }
+        ensures told { OnOk result (IsToldBy told.old told.new (met_between (map part_view parts.items) self.old.parts) looks.old.tests looks.new.tests) }
     {
         let mut parts = parts;
         while let Some(part) = parts.pop() {
-            self.put_one(part, looks)?;
+            self.put_one(part, told, looks)?;
         }
-        self.settle()
+        Ok(())
     }
 
     /// Takes parts out, each once, puts others in, and says how many pairs of shapes were compared to find how all hang together then;
@@ -238,14 +266,17 @@ impl<A: Allocator + Copy> KeptNet<A> {
         ensures power { self.new.is_power ≡ self.old.is_power }
         ensures before { IfOk result (λ found. IfSome found (λ t. t.before ≤ near_in_parts self.old.parts)) }
         ensures after { IfOk result (λ found. IfSome found (λ t. t.after ≤ near_in_parts self.new.parts)) }
-        ensures least { IfOk result (λ found. IfSome found (λ t. (t.after ≡ 0) ⊎ (min (met_in_parts self.new.parts) (2 ^ 64 - 1) ≤ t.after))) }
+        ensures least { IfOk result (λ found. IfSome found (λ t. (stay : List Part) → SameThings self.old.parts (map part_view out.now ++ stay)
+            → GrewBy (met_between (map part_view out.now ++ map part_view put.items) stay) 0 t.before ⊎ GrewBy (met_in_parts self.new.parts) 0 t.after)) }
     {
         let most = self.sure;
         let mut looks = Looks { tests: 0, most };
-        if !self.take_out(out, &mut looks)? {
+        let mut told = true;
+        if !self.take_out(out, &mut told, &mut looks)? {
             return Ok(None);
         }
-        let after = self.put_in(put, &mut looks)?;
+        self.put_in(put, &mut told, &mut looks)?;
+        let after = self.settle(told)?;
         let before = looks.tests;
         if before > most {
             return Ok(None);

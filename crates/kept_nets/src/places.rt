@@ -1,6 +1,6 @@
 //! The shapes of parts, each under its part's place, and the places of parts.
 
-ghost use Rattle.std.specs.Prelude.{◌≡◌, ◌<◌, ◌∷◌, ◌++◌, [], IfOk, IfSome, List, get_or, length, map};
+ghost use Rattle.std.specs.Prelude.{◌≡◌, ◌<◌, ◌≤◌, ◌∷◌, ◌++◌, ◌⊎◌, [], IfOk, IfSome, List, None, get_or, length, map};
 ghost use Rattle.std.specs.List.{swap_remove};
 ghost use Rattle.connection_rules.specs.NetParts.{Part};
 ghost use Rattle.kept_nets.specs.Kept.{AreShapesOf};
@@ -85,7 +85,10 @@ fn near_place<A: Allocator + Copy>(
     shapes: &PlacedShapes<A>,
     part: &KeptPart<A>,
     looks: &mut Looks,
-) -> Option<usize> {
+) -> Option<usize>
+    ensures counted { (result ≡ None) ⊎ (looks.old.tests < looks.new.tests) }
+    ensures more { looks.old.tests ≤ looks.new.tests }
+{
     if !looks.have_room(0) {
         return None;
     }
@@ -118,7 +121,8 @@ pub(crate) fn place_of<A: Allocator + Copy>(
     part: &KeptPart<A>,
     looks: &mut Looks,
 ) -> Option<usize>
-    ensures { IfSome result (λ n. (n < length parts.now) × ((d : _) → part_view (get_or parts.now n d) ≡ part_view part.now)) }
+    ensures there { IfSome result (λ n. (n < length parts.now) × ((d : _) → part_view (get_or parts.now n d) ≡ part_view part.now)) }
+    ensures more { looks.old.tests ≤ looks.new.tests }
 {
     if let Some(shapes) = shapes {
         if let Some(place) = near_place(parts, shapes, part, looks) {

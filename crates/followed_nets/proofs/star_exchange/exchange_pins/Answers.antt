@@ -1,4 +1,4 @@
-use Rattle.std.proofs.Common.{◌∙◌, ap, arith, map}
+use Rattle.std.proofs.Common.{◌∙◌, ⊎_elim, ap, arith, inl, inr, map}
 use Rattle.net_lists.specs.PartCuts.{shape_view}
 use Rattle.followed_nets.proofs.star_exchange.exchange_pins.Goals as goal
 
@@ -25,3 +25,9 @@ returns-clause-tests g c =
     let after = rw (c.in-Some-2.is) at c.in_ok-compared.ensures.after in
     let sum = c.saturating_add-tests.ensures in
     omega (arith, before, after, sum)
+
+pub returns-clause-least : goal.returns-clause-least
+returns-clause-least g c = λ stay same.
+    let least = rw (c.in-Some-2.is, c.deref-3.ensures.value) at c.in_ok-compared.ensures.least in
+    let sum = c.saturating_add-tests.ensures in
+    ⊎_elim (λ before. inl (omega (arith, before, sum))) (λ after. inr (omega (arith, after, sum))) (least stay same)

@@ -3,8 +3,8 @@ use Rattle.kept_nets.specs.Parts.{part_view}
 use Rattle.kept_nets.proofs.NearParts.{joined_at_more}
 use Rattle.kept_nets.proofs.joint.joint_by.Goals as goal
 
-pub returns-then-branch : goal.returns-then-branch
-returns-then-branch g c =
+pub returns-then-branch-clause-joint : goal.returns-then-branch-clause-joint
+returns-then-branch-clause-joint g c =
     let pin = part_view c.args.part.now in
     let others = map part_view c.args.parts.now in
     let places = c.in_ok-places.places.items in

@@ -6,7 +6,7 @@ use Rattle.kept_nets.proofs.Touching.{all_touched, next_counted, next_touched, t
 use Rattle.kept_nets.proofs.looks.touched_within.Goals as goal
 
 pub loop-shape-init : goal.loop-shape-init
-loop-shape-init g c = record { places = rw (c.new-places.ensures.items) (record { sums = λ w. refl }); least = omega arith }
+loop-shape-init g c = record { places = rw (c.new-places.ensures.items) (record { sums = λ w. refl }); least = omega arith; more = omega arith }
 
 pub loop-shape-preserved : goal.loop-shape-preserved
 loop-shape-preserved g c = record {
@@ -17,6 +17,7 @@ loop-shape-preserved g c = record {
   least =
       next_counted (λ (s : Shape). met_shapes s (map (λ p. p.1) c.args.shapes.now)) c.args.own.now c.loop-shape.shape-index c.shape-item.result c.loop-shape.looks.tests _ _ _ c.loop-shape-test.true c.shape-item.is
       c.in_ok-more.ensures.least c.add.ensures.all c.loop-shape.invariant.least;
+  more = let step = c.add.ensures.more in omega (arith, step, c.loop-shape.invariant.more);
 }
 
 pub returns-clause-places : goal.returns-clause-places

@@ -12,4 +12,5 @@ invariant-loop-shape g l = record {
   least :
       let met = λ (s : Shape). met_shapes s (map (λ p. p.1) l.shapes) in
       min (l.fn.looks.tests + sum_by met (map shape_view l.own)) (2 ^ 64 - 1) ≤ l.looks.tests + sum_by met (map shape_view (drop l.shape-index l.own));
+  more : l.fn.looks.tests ≤ l.looks.tests;
 }

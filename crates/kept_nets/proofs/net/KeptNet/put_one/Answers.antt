@@ -23,7 +23,7 @@ invariant_of-self-2 g c =
           (c.in_ok-shapes.ensures (map part_view old) (length-map old part_view ∙ size) shapes);
       classes_are =
           known_alike c.same_parts_are_alike.ensures (part ∷ map part_view old) (map part_view new) c.with_pin-self-inside.result (turned (map part_view new) (part ∷ map part_view old) behind)
-          (c.with_pin-self-inside.ensures part (map part_view old) (rw c.deref.ensures.value at c.in_ok-joint.ensures) classes);
+          (c.with_pin-self-inside.ensures part (map part_view old) (rw c.deref.ensures.value at c.in_ok-joint.ensures.joint) classes);
       sure_are = more part (map part_view old) (map part_view new) c.self.inside.sure c.sure_in.result c.saturating_add-sure.result behind c.self.invariant.sure_are c.sure_in.ensures (let sum = c.saturating_add-sure.ensures in omega (arith, sum));
     }
 
