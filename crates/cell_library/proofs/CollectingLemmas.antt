@@ -20,3 +20,6 @@ module _ {S R X Y : Type 0} (see : S → R) (show : X → Y) (gives : List R →
         ∙ ap (λ (ys : List Y). ys ++ gives (map see (drop (i + 1) ss))) (map-append show out (x ∷ []))
         ∙ append_assoc (map show out) (show x ∷ []) (gives (map see (drop (i + 1) ss)))
         ∙ ap (λ (ys : List Y). map show out ++ ys) (sym h) ∙ sym (at out)
+
+    pub passed : (out new : List X) → gives (see s ∷ map see (drop (i + 1) ss)) ≡ gives (map see (drop (i + 1) ss)) → new ≡ out → so_far new (drop (i + 1) ss) ≡ so_far out (drop i ss)
+    passed out new h e = ap (λ (xs : List X). so_far xs (drop (i + 1) ss)) e ∙ ap (λ (ys : List Y). map show out ++ ys) (sym h) ∙ sym (at out)

@@ -2,6 +2,7 @@ pub mod AddLemmas
 pub mod AddingLemmas
 pub mod CollectingLemmas
 pub mod GroupLemmas
+pub mod InnerLemmas
 pub mod JoinLemmas
 pub mod LayerLemmas
 pub mod NamedLemmas

@@ -1,9 +1,7 @@
 -- Rules of the program as those of the definitions.
-use Rattle.std.specs.Prelude.{ℕ, List, [], map}
+use Rattle.std.specs.Prelude.{ℕ, List, map}
 use Rattle.std.specs.Option.{option_map}
-use Rattle.lef_grammar.specs.Definitions.{Rule, RuleLayer, opened_rule_layer, rule_layer_record, rule_layer_with}
-use Rattle.form_meanings.specs.Firsts.{headed, with_all}
-use Rattle.lef_grammar.specs.LefRecords.{LefRecord}
+use Rattle.lef_grammar.specs.Definitions.{Rule, RuleLayer}
 use Rattle.unit_numbers.specs.Distances.{distance_of}
 use Rattle.cell_library.specs.declared.rule.Rule as code_rule
 use Rattle.cell_library.specs.declared.rule.RuleLayer as code_layer
@@ -16,10 +14,6 @@ rule_layer_view e = record { name = e.0; width = option_map distance_of e.1.widt
 
 abbrev pub rule_layers_view : List (List ℕ × code_layer.RuleLayer) → List RuleLayer
 rule_layers_view es = map rule_layer_view es
-
--- the layers of the statements in a rule
-abbrev pub rule_layers_of : List LefRecord → List RuleLayer
-rule_layers_of recs = with_all rule_layer_name [] (map rule_layer_with (headed opened_rule_layer rule_layer_record recs))
 
 abbrev pub rule_name : Rule → List ℕ
 rule_name r = r.name

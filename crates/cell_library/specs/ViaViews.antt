@@ -1,17 +1,16 @@
 -- Vias of the program as those of the definitions.
-use Rattle.std.specs.Prelude.{ℕ, ℤ, List, map, length, filter}
-use Rattle.std.specs.List.{filter_map}
-use Rattle.std.specs.Option.{option_map}
-use Rattle.lef_grammar.specs.Definitions.{Distances, GeneratedVia, LayerShapes, Via, ViaBody, listed, generated, corners_read, shapes_by, unless_named, via_record}
-use Rattle.form_meanings.specs.Firsts.{front}
-use Rattle.lef_grammar.specs.LefRecords.{LefRecord}
-use Rattle.lef_grammar.specs.ViaBlock.{is_via_polygon, via_layer_of, via_rect_of}
+use Rattle.std.specs.Prelude.{ℕ, ℤ, Bool, List, [], map, unwrap_or}
+use Rattle.std.specs.Option.{is_some, option_map}
+use Rattle.form_meanings.specs.Firsts.{first_of}
+use Rattle.lef_grammar.specs.Definitions.{Distances, GeneratedVia, Via, ViaBody, listed, generated, generated_by, via_body}
+use Rattle.lef_grammar.specs.ViaBlock.{ViaRecord, rule_of}
 use Rattle.cell_library.specs.Numbers.{point_view}
 use Rattle.cell_library.specs.ShapeViews.{shapes_view}
 use Rattle.cell_library.specs.declared.via.CutArray.{CutArray}
 use Rattle.cell_library.specs.declared.via.LayerNames.{LayerNames}
 use Rattle.cell_library.specs.declared.via.MetalPoints.{MetalPoints}
 use Rattle.cell_library.specs.declared.via.GeneratedVia as code_generated
+use Rattle.cell_library.specs.declared.via.Generation.{Generation}
 use Rattle.cell_library.specs.declared.via.ViaBody as code_body
 use Rattle.cell_library.specs.declared.via.ViaBody.TheVariants as bodies
 use Rattle.cell_library.specs.declared.via_definition.Via as code_via
@@ -50,13 +49,12 @@ via_view e = record { name = e.0; body = body_view e.1.body; unchecked = e.1.unc
 abbrev pub vias_view : {A : Type 0} → List (List ℕ × code_via.Via A) → List Via
 vias_view es = map via_view es
 
--- what stands behind the header of a via
-abbrev pub shapes_behind : List LefRecord → List LayerShapes
-shapes_behind recs = shapes_by via_layer_of via_rect_of (front via_record recs)
+-- what these say of how a via is generated, and whether by a rule
+abbrev pub generated_said : List ViaRecord → Bool × GeneratedVia
+generated_said rs = (is_some (first_of rule_of rs), generated_by (unwrap_or (first_of rule_of rs) []) rs)
 
--- behind a LAYER, up to the next
-abbrev pub rectangles_behind : List LefRecord → List (Distances × Distances)
-rectangles_behind recs = map corners_read (filter_map via_rect_of (front (λ r. unless_named r (via_layer_of r)) (front via_record recs)))
+abbrev pub generation_view : Generation → Bool × GeneratedVia
+generation_view g = (g.has_rule, generated_view g.via)
 
-abbrev pub count_behind : List LefRecord → ℕ
-count_behind recs = length (filter is_via_polygon (front via_record recs))
+abbrev pub body_said : List ViaRecord → ViaBody
+body_said rs = via_body (first_of rule_of rs) rs

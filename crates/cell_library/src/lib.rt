@@ -12,7 +12,7 @@
 //! growth leaves `LefTexts` as they were.
 #![tactic(auto)]
 
-mod group;
+mod definition;
 pub mod layer;
 pub mod lef_texts;
 pub mod library;
@@ -20,6 +20,7 @@ pub mod macro_definition;
 pub mod macro_shapes;
 pub mod macro_view;
 pub mod named;
+mod noted;
 pub mod numbers;
 pub mod pin;
 mod placing;

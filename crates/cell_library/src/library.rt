@@ -15,14 +15,13 @@ ghost use Rattle.cell_library.specs.RuleViews.{rule_view};
 ghost use Rattle.cell_library.specs.SiteViews.{site_view};
 ghost use Rattle.cell_library.specs.ViaViews.{via_view, vias_view};
 
-use crate::layer::{Layer, add_layers};
+use crate::definition::add_all;
+use crate::layer::Layer;
 use crate::lef_texts::LefTexts;
 use crate::macro_definition::Macro;
-use crate::macro_view::add_macros;
 use crate::named::Named;
-use crate::rule::{Rule, add_rules};
-use crate::site::{Site, add_sites};
-use crate::via::add_vias;
+use crate::rule::Rule;
+use crate::site::Site;
 use crate::via_definition::Via;
 use design_model::MAX_TEXT;
 use design_model::fault::{Fault, FaultCode, ReadError};
@@ -35,14 +34,13 @@ use std::hash::RandomState;
 use std::marker::Model;
 
 /// Why a library is not read: the fault of a text, with the text's number from 1, or memory that was refused.
-#[derive(Clone, Copy, Debug, PartialEq, Eq)]
+#[derive(Clone, Copy, Debug)]
 pub enum LibraryError {
     Fault { file: usize, fault: Fault },
     Memory,
 }
 
 /// The first definition of each name, with names borrowed from the texts.
-#[derive(Drop)]
 pub struct Library<'l, A: Allocator = Global> {
     layers: Named<'l, Layer, A>,
     sites: Named<'l, Site, A>,
@@ -58,6 +56,19 @@ impl<'l, A: Allocator> Model for Library<'l, A> {
     ghost Value = { TheLibrary };
 
     ghost view = { λ t. library_view t.layers t.sites t.vias t.rules t.macros };
+}
+
+// (written out, so that who owns a library is proved over one call in the place of five tables)
+impl<A: Allocator> Drop for Library<'_, A> {
+    fn drop(self) {
+        let Library {
+            layers: _,
+            sites: _,
+            vias: _,
+            rules: _,
+            macros: _,
+        } = self;
+    }
 }
 
 impl<'l, A: Allocator + Copy> Library<'l, A> {
@@ -170,11 +181,11 @@ impl<'l, A: Allocator + Copy> Library<'l, A> {
     fn add_group(&mut self, alloc: A, group: &[LefStatement<'l>]) -> Result<(), AllocError>
         ensures { OnOk result (self.new ≡ with_text self.old (records_view group.now)) }
     {
-        add_layers(&mut self.layers, group)?;
-        add_sites(&mut self.sites, group)?;
-        add_vias(alloc, &mut self.vias, group)?;
-        add_rules(alloc, &mut self.rules, group)?;
-        add_macros(alloc, &mut self.macros, group)
+        add_all(alloc, &mut self.layers, group)?;
+        add_all(alloc, &mut self.sites, group)?;
+        add_all(alloc, &mut self.vias, group)?;
+        add_all(alloc, &mut self.rules, group)?;
+        add_all(alloc, &mut self.macros, group)
     }
 
     /// Notes a statement. One outside of all blocks completes the statements before it.

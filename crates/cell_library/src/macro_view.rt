@@ -1,30 +1,30 @@
 //! Macros.
 
-ghost use Rattle.std.specs.Prelude.{◌≡◌, ◌<◌, ◌≤◌, List, ℕ, IfOk, OnOk, map, nat_abs};
+ghost use Rattle.std.specs.Prelude.{◌≡◌, ◌<◌, ◌≤◌, IfOk, List, Option, map, nat_abs, refl, ℕ};
 ghost use Rattle.std.specs.List.{filter_map};
 ghost use Rattle.std.specs.Option.{option_map};
-ghost use Rattle.lef_grammar.specs.Definitions.{both_read, inner_record, macro_record, macro_with, macros_of, opened_macro, point_read};
-ghost use Rattle.form_meanings.specs.Firsts.{first_of, front, with_all};
+ghost use Rattle.lef_grammar.specs.Definitions.{Distances, Macro as TheMacro, inner_record, macro_record, macro_with, opened_macro};
+ghost use Rattle.lef_grammar.specs.LefRecords.{LefRecord};
 ghost use Rattle.lef_grammar.specs.Library.{macro_named, pin_named};
 ghost use Rattle.lef_grammar.specs.MacroShapes.{in_library, macro_shapes};
 ghost use Rattle.lef_grammar.specs.Measures.{point_or_0};
-ghost use Rattle.lef_grammar.specs.MacroBlock.{class_of, origin_of, site_of, size_of};
-ghost use Rattle.lef_reader.specs.StatementViews.{lef_view};
+ghost use Rattle.lef_grammar.specs.MacroBlock.{MacroRecord, site_of};
 ghost use Rattle.cell_library.specs.CellViews.{cell_view};
-ghost use Rattle.cell_library.specs.MacroViews.{macro_name, macro_view, macros_view};
+ghost use Rattle.cell_library.specs.MacroViews.{header_said, header_view, macro_name, macro_view};
 ghost use Rattle.cell_library.specs.Naming.{seen_by};
 ghost use Rattle.cell_library.specs.Numbers.{point_view};
 ghost use Rattle.cell_library.specs.PinViews.{pin_view, pins_view};
 ghost use Rattle.lefdef_tokens.specs.Views.{word_view};
-ghost use Rattle.cell_library.specs.Records.{records_view};
+ghost use Rattle.cell_library.specs.Records.{AreIn, records_view};
 
-use crate::group::inner_of;
+use crate::definition::{Definition, read_all};
 use crate::library::Library;
 use crate::macro_definition::Macro;
 use crate::macro_shapes::MacroShapes;
 use crate::named::Named;
+use crate::noted::{Noted, note_all};
 use crate::numbers::{MicronPoint, read_both, read_point};
-use crate::pin::{Pin, read_pins};
+use crate::pin::Pin;
 use crate::placing::Placing;
 use design_model::geometry::Point;
 use design_model::sequence::Sequence;
@@ -138,40 +138,43 @@ fn point_or_origin(point: Option<MicronPoint>, per_micron: u32) -> Point
     }
 }
 
-/// The first word of the first `CLASS` in a macro.
-fn class_of<'l>(inner: &[LefStatement<'l>]) -> Option<&'l [u8]>
-    ensures { option_map word_view result ≡ first_of class_of (filter_map macro_record (records_view inner.now)) }
-{
-    for statement in inner {
-        if let LefStatement::InMacro(MacroStatement::Class(word, _)) = statement {
-            return Some(word.bytes);
-        }
-    }
-    None
+/// What the statements of a macro say of itself.
+#[derive(Clone, Copy, Drop)]
+struct Header<'l> {
+    class: Option<&'l [u8]>,
+    size: Option<MicronPoint>,
+    origin: Option<MicronPoint>,
 }
 
-/// The first `SIZE` in a macro.
-fn size_of(inner: &[LefStatement<'_>]) -> Option<MicronPoint>
-    ensures { option_map point_view result ≡ option_map both_read (first_of size_of (filter_map macro_record (records_view inner.now))) }
-{
-    for statement in inner {
-        if let LefStatement::InMacro(MacroStatement::Size(width, height)) = statement {
-            return Some(read_both(*width, *height));
-        }
-    }
-    None
-}
+impl<'l> Noted<'l> for Header<'l> {
+    ghost Part = { MacroRecord };
 
-/// The first `ORIGIN` in a macro.
-fn origin_of(inner: &[LefStatement<'_>]) -> Option<MicronPoint>
-    ensures { option_map point_view result ≡ option_map point_read (first_of origin_of (filter_map macro_record (records_view inner.now))) }
-{
-    for statement in inner {
-        if let LefStatement::InMacro(MacroStatement::Origin(point)) = statement {
-            return Some(read_point(*point));
+    ghost Said = { Option (List ℕ) × (Option Distances × Option Distances) };
+
+    ghost part = { macro_record };
+
+    ghost view = { λ x. header_view x.1 };
+
+    ghost says = { λ x. header_said x.1 };
+
+    fn nothing() -> Header<'l> {
+        Header {
+            class: None,
+            size: None,
+            origin: None,
         }
     }
-    None
+
+    fn note(&mut self, statement: &LefStatement<'l>) {
+        if let LefStatement::InMacro(statement) = statement {
+            match statement {
+                MacroStatement::Class(word, _) => self.class = Some(word.bytes),
+                MacroStatement::Size(width, height) => self.size = Some(read_both(*width, *height)),
+                MacroStatement::Origin(point) => self.origin = Some(read_point(*point)),
+                _ => {}
+            }
+        }
+    }
 }
 
 /// The names of the sites in a macro.
@@ -190,49 +193,60 @@ fn sites_of<'l, A: Allocator + Copy>(
     Ok(names)
 }
 
-/// The macro of the statements behind its header.
+/// The macro of the statements in it.
 fn read_macro<'l, A: Allocator + Copy>(
     alloc: A,
     hash_builder: RandomState,
-    behind: &[LefStatement<'l>],
+    inner: &[LefStatement<'l>],
 ) -> Result<Macro<'l, A>, AllocError>
-    ensures { IfOk result (λ cell. (name : List ℕ) → macro_view (name, cell) ≡ macro_with (name, front inner_record (records_view behind.now))) }
+    requires { AreIn inner_record (records_view inner.now) }
+    ensures { IfOk result (λ cell. (name : List ℕ) → macro_view (name, cell) ≡ macro_with (name, filter_map inner_record (records_view inner.now))) }
 {
-    let inner = inner_of(behind);
+    let header: Header<'l> = note_all(inner);
     Ok(Macro {
-        class: class_of(inner),
-        size: size_of(inner),
-        origin: origin_of(inner),
+        class: header.class,
+        size: header.size,
+        origin: header.origin,
         sites: sites_of(alloc, inner)?,
-        pins: read_pins(alloc, hash_builder, inner)?,
+        pins: read_all(alloc, hash_builder, inner)?,
     })
 }
 
-/// The name of the macro that a statement opens.
-fn opened_macro<'l>(statement: &LefStatement<'l>) -> Option<&'l [u8]>
-    ensures { option_map word_view result ≡ opened_macro (lef_view statement.now) }
-{
-    match statement {
-        LefStatement::Outside(OutermostStatement::Named(NamedHeader::Macro(name))) => Some(
-            name.bytes,
-        ),
-        _ => None,
-    }
-}
+impl<'n: 'l, 'l, A: Allocator + Copy> Definition<'n, A> for Macro<'l, A> {
+    ghost Seen = { TheMacro };
 
-/// Adds the macros that these statements define.
-pub(crate) fn add_macros<'l, A: Allocator + Copy>(
-    alloc: A,
-    macros: &mut Named<'l, Macro<'l, A>, A>,
-    statements: &[LefStatement<'l>],
-) -> Result<(), AllocError>
-    ensures { OnOk result (macros_view macros.new ≡ with_all macro_name (macros_view macros.old) (macros_of (records_view statements.now))) }
-{
-    for place in 0..statements.len() {
-        if let Some(name) = opened_macro(&statements[place]) {
-            let cell = read_macro(alloc, macros.hash_builder(), &statements[place + 1..])?;
-            macros.add(name, cell)?;
+    ghost Part = { LefRecord };
+
+    ghost view = { macro_view };
+
+    ghost name_in = { macro_name };
+
+    ghost header = { opened_macro };
+
+    ghost part = { inner_record };
+
+    ghost define = { macro_with };
+
+    fn opened(statement: &LefStatement<'n>) -> Option<&'n [u8]> {
+        match statement {
+            LefStatement::Outside(OutermostStatement::Named(NamedHeader::Macro(name))) => Some(
+                name.bytes,
+            ),
+            _ => None,
         }
     }
-    Ok(())
+
+    fn holds(statement: &LefStatement<'n>) -> bool {
+        !matches!(statement, LefStatement::Outside(_))
+    }
+
+    fn read(
+        alloc: A,
+        hash_builder: RandomState,
+        inner: &[LefStatement<'n>],
+    ) -> Result<Macro<'l, A>, AllocError> {
+        read_macro(alloc, hash_builder, inner)
+    }
+
+    ghost named_so = { λ e. refl };
 }

@@ -1,3 +1,5 @@
 mod EventLemmas
 pub mod FaultLemmas
+mod KeptLemmas
 mod ToldLemmas
+mod WordLemmas

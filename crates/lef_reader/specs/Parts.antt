@@ -1,17 +1,39 @@
 -- Parts of statements of the program as those of the definitions, and which tokens they are.
-use Rattle.std.specs.Prelude.{ℕ, Bool, List, Option, Some, None, if◌then◌else◌}
+use Rattle.std.specs.Prelude.{ℕ, Bool, true, List, Option, Some, None, if◌then◌else◌}
 use Rattle.std.specs.Option.{option_map}
-use Rattle.form_meanings.specs.Words.{Rest}
-use Rattle.statement_model.specs.Form.{spell}
+use Rattle.form_meanings.specs.Words.{Rest, is_name, is_place}
+use Rattle.statement_model.specs.Form.{Form, spell, word}
 use Rattle.statement_model.specs.Tokens as definitions
-use Rattle.lef_grammar.specs.Extents.{Point, enclosed, bare, point, Corners, masked, unmasked}
+use Rattle.lef_grammar.specs.Extents.{Point, enclosed, bare, point, Corners, masked, unmasked, name, dec, extent, array_count, is_kept_word, is_distance, is_extent, is_array_count}
 use Rattle.lefdef_tokens.specs.Places.{RunAt, StandsAt, behind, past}
 use Rattle.lefdef_tokens.specs.Views.{rest_of, words_of}
 use Rattle.lefdef_tokens.specs.declared.cursor.Cursor.{Cursor}
 use Rattle.lefdef_tokens.specs.declared.token.Token.{Token}
 use Rattle.lefdef_tokens.specs.declared.token_run.TokenRun.{TokenRun}
+use Rattle.lef_reader.specs.declared.parts.WordKind.{WordKind}
+use Rattle.lef_reader.specs.declared.parts.WordKind.TheVariants.{Name, Kept, Distance, Extent, ArrayCount}
 use Rattle.lef_reader.specs.declared.point.Point as code_point
 use Rattle.lef_reader.specs.declared.point.Corners as code_corners
+
+-- the form of a word of a kind
+abbrev pub of_kind : WordKind → Form (List ℕ)
+of_kind Name = name
+of_kind Kept = word is_kept_word
+of_kind Distance = dec
+of_kind Extent = extent
+of_kind ArrayCount = array_count
+
+-- which words may stand for one, and which of these are valid
+abbrev pub may_be : WordKind → List ℕ → Bool
+may_be Name = is_name
+may_be Kept = is_kept_word
+may_be _ = is_place
+
+abbrev pub is_good : WordKind → List ℕ → Bool
+is_good Distance = is_distance
+is_good Extent = is_extent
+is_good ArrayCount = is_array_count
+is_good _ = λ w. true
 
 -- a part and what is left after it, where the part is seen by a view
 abbrev pub with_rest : {A B : Type 0} → (A → B) → A × Cursor → B × Rest

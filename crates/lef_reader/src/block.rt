@@ -1,6 +1,6 @@
 //! The blocks of a LEF text.
 
-ghost use Rattle.std.specs.Prelude.{◌≡◌};
+ghost use Rattle.std.specs.Prelude.{◌≡◌, if◌then◌else◌};
 ghost use Rattle.lef_grammar.specs.LefRecords.{kept_parent, lef_ending, parent};
 ghost use Rattle.statement_reader.specs.Endings.{ending_view};
 ghost use Rattle.lef_reader.specs.BlockViews.{block_view};
@@ -90,5 +90,12 @@ impl<'l> Block<'l> {
             Block::Kept(block) => kept_parent(block),
             _ => Block::Outermost,
         }
+    }
+
+    /// The block after a statement that opens none, where it ends this one or doesn't.
+    pub(crate) fn after_end(self, ends: bool) -> Block<'l>
+        ensures { block_view result ≡ (if ends then parent (block_view self.entry) else block_view self.entry) }
+    {
+        if ends { self.parent() } else { self }
     }
 }

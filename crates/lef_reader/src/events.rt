@@ -6,7 +6,7 @@ ghost use Rattle.lef_reader.specs.Events.{after_next, events_of, found_view, nex
 ghost use Rattle.lef_reader.specs.StatementViews.{StatementAt};
 
 use crate::block::Block;
-use crate::header_words::first_fault;
+use crate::header_words::with_first_fault;
 use crate::statement::LefStatement;
 use design_model::MAX_TEXT;
 use design_model::fault::{Fault, FaultCode};
@@ -77,9 +77,7 @@ impl<'l> LefEvents<'l> {
                 pos: 0,
             });
         }
-        match step::<LefStatement<'l>>(&mut self.block, self.text, &mut self.pos) {
-            Err(fault) => Err(first_fault(self.block, self.text, self.pos, fault)),
-            found => found,
-        }
+        let found = step::<LefStatement<'l>>(&mut self.block, self.text, &mut self.pos);
+        with_first_fault(self.block, self.text, self.pos, found)
     }
 }

@@ -6,7 +6,7 @@ ghost use Rattle.statement_model.specs.Tokens.{left_from};
 ghost use Rattle.lef_grammar.specs.HeaderWords.{after_header_word, fault_behind, header_goes_on};
 ghost use Rattle.lef_grammar.specs.LefRecords.{first_fault, header_words};
 ghost use Rattle.lef_reader.specs.BlockViews.{block_view};
-ghost use Rattle.lef_reader.specs.HeaderViews.{header_words_view};
+ghost use Rattle.lef_reader.specs.HeaderViews.{header_words_view, or_first_fault};
 
 use crate::block::Block;
 use crate::kept_blocks::RuleHeader;
@@ -80,7 +80,7 @@ impl HeaderWords {
 
 /// The fault of a statement that begins from a position on and has this one: where it is a header that goes on up to a fault
 /// of the tokens, that comes first.
-pub(crate) fn first_fault(block: Block<'_>, text: &[u8], pos: usize, fault: Fault) -> Fault
+fn first_fault(block: Block<'_>, text: &[u8], pos: usize, fault: Fault) -> Fault
     requires { pos ≤ length text.now }
     ensures { result ≡ first_fault (block_view block.entry) (left_from text.now pos).pieces (left_from text.now pos).end fault }
 {
@@ -94,4 +94,20 @@ pub(crate) fn first_fault(block: Block<'_>, text: &[u8], pos: usize, fault: Faul
         return fault;
     };
     words.fault_behind(text, third).unwrap_or(fault)
+}
+
+/// What was found of the statement from a position on, with its first fault.
+pub(crate) fn with_first_fault<T>(
+    block: Block<'_>,
+    text: &[u8],
+    pos: usize,
+    found: Result<T, Fault>,
+) -> Result<T, Fault>
+    requires { pos ≤ length text.now }
+    ensures { result ≡ or_first_fault (block_view block.entry) (left_from text.now pos) found }
+{
+    match found {
+        Ok(found) => Ok(found),
+        Err(fault) => Err(first_fault(block, text, pos, fault)),
+    }
 }

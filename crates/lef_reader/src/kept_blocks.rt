@@ -4,8 +4,8 @@
 ghost use Rattle.std.specs.Prelude.{◌≡◌, IfSome};
 ghost use Rattle.form_meanings.specs.Words.{Gives};
 ghost use Rattle.statement_model.specs.Form.{read};
-ghost use Rattle.lef_grammar.specs.KeptBlocks.{after_word, closed_alone, closed_by, continues_rule, ends_kept, extension_token, generating_statement, header_after, kept_after, kept_block_statement, kept_ending};
-ghost use Rattle.lefdef_tokens.specs.Views.{IsLater, pieces_of, rest_of};
+ghost use Rattle.lef_grammar.specs.KeptBlocks.{after_word, closed_alone, continues_rule, ends_kept, extension_token, generating_statement, header_after, kept_after, kept_block_statement, kept_ending};
+ghost use Rattle.lefdef_tokens.specs.Views.{pieces_of, rest_of};
 ghost use Rattle.statement_reader.specs.Endings.{ending_view};
 ghost use Rattle.lef_reader.specs.Parts.{with_rest};
 ghost use Rattle.lef_reader.specs.KeptViews.{KeptAt, header_view, kept_block_view, kept_view};
@@ -124,27 +124,10 @@ impl<'l> KeptBlock<'l> {
     }
 }
 
-/// `END` and this word, or a statement without meaning.
-#[tactic(auto, unfolding(lef_grammar::specs::KeptBlocks::closed_by, lef_grammar::specs::Extents::kept_statement))]
-fn closed_by_at<'l>(word: &[u8], cursor: Cursor<'l>) -> Option<(KeptStatement<'l>, Cursor<'l>)>
-    ensures gives { Gives (with_rest kept_view) result (read (closed_by word.now) (rest_of cursor.entry)) }
-    ensures later { IfSome result (λ x. IsLater cursor.entry x.1) }
-    ensures lent { IfSome result (λ x. KeptAt (pieces_of cursor.entry.tokens) x.0) }
-{
-    if cursor.next_is(b"END") {
-        let cursor = cursor.key(b"END")?.key(word)?;
-        Some((KeptStatement::End, cursor))
-    } else {
-        let ((word, others), cursor) = kept_at(cursor)?;
-        Some((KeptStatement::Kept(word, others), cursor))
-    }
-}
-
 /// `END` alone, or a statement without meaning.
 #[tactic(auto, unfolding(lef_grammar::specs::KeptBlocks::closed_alone, lef_grammar::specs::Extents::kept_statement))]
 fn closed_alone_at<'l>(cursor: Cursor<'l>) -> Option<(KeptStatement<'l>, Cursor<'l>)>
     ensures gives { Gives (with_rest kept_view) result (read closed_alone (rest_of cursor.entry)) }
-    ensures later { IfSome result (λ x. IsLater cursor.entry x.1) }
     ensures lent { IfSome result (λ x. KeptAt (pieces_of cursor.entry.tokens) x.0) }
 {
     if cursor.next_is(b"END") {
@@ -159,7 +142,6 @@ fn closed_alone_at<'l>(cursor: Cursor<'l>) -> Option<(KeptStatement<'l>, Cursor<
 #[tactic(auto, unfolding(lef_grammar::specs::KeptBlocks::extension_token))]
 fn extension_at<'l>(cursor: Cursor<'l>) -> Option<(KeptStatement<'l>, Cursor<'l>)>
     ensures gives { Gives (with_rest kept_view) result (read extension_token (rest_of cursor.entry)) }
-    ensures later { IfSome result (λ x. IsLater cursor.entry x.1) }
     ensures lent { IfSome result (λ x. KeptAt (pieces_of cursor.entry.tokens) x.0) }
 {
     let (word, later) = cursor.next()?;
@@ -170,7 +152,8 @@ fn extension_at<'l>(cursor: Cursor<'l>) -> Option<(KeptStatement<'l>, Cursor<'l>
     }
 }
 
-/// A statement in the VIARULE of this name, or a word of its header.
+/// A statement in the VIARULE of this name, or a word of its header; with a complete header, one in any block that `END` and
+/// this name close.
 #[tactic(auto, unfolding(lef_grammar::specs::KeptBlocks::generating_statement, lef_grammar::specs::Extents::kept_statement))]
 fn generating_at<'l>(
     name: &[u8],
@@ -178,7 +161,6 @@ fn generating_at<'l>(
     cursor: Cursor<'l>,
 ) -> Option<(KeptStatement<'l>, Cursor<'l>)>
     ensures gives { Gives (with_rest kept_view) result (read (generating_statement name.now (header_view header)) (rest_of cursor.entry)) }
-    ensures later { IfSome result (λ x. IsLater cursor.entry x.1) }
     ensures lent { IfSome result (λ x. KeptAt (pieces_of cursor.entry.tokens) x.0) }
 {
     let (word, later) = cursor.next()?;
@@ -193,19 +175,22 @@ fn generating_at<'l>(
 }
 
 /// A statement in such a block.
-#[tactic(auto, unfolding(lef_grammar::specs::KeptBlocks::kept_block_statement))]
+#[tactic(auto, using(crate::proofs::KeptLemmas::read_closed_by), unfolding(lef_grammar::specs::KeptBlocks::kept_block_statement))]
 pub(crate) fn kept_block_at<'l>(
     block: KeptBlock<'l>,
     cursor: Cursor<'l>,
 ) -> Option<(KeptStatement<'l>, Cursor<'l>)>
     ensures gives { Gives (with_rest kept_view) result (read (kept_block_statement (kept_block_view block.entry)) (rest_of cursor.entry)) }
-    ensures later { IfSome result (λ x. IsLater cursor.entry x.1) }
     ensures lent { IfSome result (λ x. KeptAt (pieces_of cursor.entry.tokens) x.0) }
 {
     match block {
-        KeptBlock::Units => closed_by_at(b"UNITS", cursor),
-        KeptBlock::Spacing | KeptBlock::RuleSpacing(_) => closed_by_at(b"SPACING", cursor),
-        KeptBlock::Properties => closed_by_at(b"PROPERTYDEFINITIONS", cursor),
+        KeptBlock::Units => generating_at(b"UNITS", RuleHeader::Complete, cursor),
+        KeptBlock::Spacing | KeptBlock::RuleSpacing(_) => {
+            generating_at(b"SPACING", RuleHeader::Complete, cursor)
+        }
+        KeptBlock::Properties => {
+            generating_at(b"PROPERTYDEFINITIONS", RuleHeader::Complete, cursor)
+        }
         KeptBlock::Extension => extension_at(cursor),
         KeptBlock::GeneratingRule(name, header) => generating_at(name, header, cursor),
         KeptBlock::Obstruction(_) | KeptBlock::Density(_) => closed_alone_at(cursor),

@@ -3,14 +3,14 @@
 ghost use Rattle.std.specs.Prelude.{◌≡◌, IfSome};
 ghost use Rattle.form_meanings.specs.Words.{Gives};
 ghost use Rattle.statement_model.specs.Form.{read};
-ghost use Rattle.lef_grammar.specs.MacroBlock.{class_statement, ends_macro, inner_header, is_inner_header, is_macro_header, macro_ending, macro_site_statement, macro_statement, origin_statement};
-ghost use Rattle.lefdef_tokens.specs.Views.{IsLater, pieces_of, rest_of};
+ghost use Rattle.lef_grammar.specs.MacroBlock.{ends_macro, inner_header, is_inner_header, is_macro_header, macro_ending, macro_statement};
+ghost use Rattle.lefdef_tokens.specs.Views.{pieces_of, rest_of};
 ghost use Rattle.statement_reader.specs.Endings.{ending_view};
-ghost use Rattle.lef_reader.specs.Parts.{PointAt, WordsAt, point_view, with_rest, words_view};
+ghost use Rattle.lef_reader.specs.Parts.{with_rest};
 ghost use Rattle.lef_reader.specs.MacroViews.{HeaderAt, MacroAt, header_view, macro_view};
 
-use crate::parts::{block_ending, kept_at, kept_word_at, name_to_end_at, size_at, to_end_at};
-use crate::point::{Point, point_at};
+use crate::parts::{WordKind, block_ending, kept_at, size_at, word_to_end_at};
+use crate::point::{Point, only_point_at};
 use lefdef_tokens::{Cursor, Token, TokenRun, is_word};
 use statement_reader::boundary::Ending;
 
@@ -76,45 +76,10 @@ pub(crate) fn macro_ending(first: &[u8]) -> Ending
     }
 }
 
-/// `word any* ;`, after `CLASS`
-#[tactic(auto, unfolding(lef_grammar::specs::MacroBlock::class_statement))]
-fn class_at<'l>(cursor: Cursor<'l>) -> Option<((Token<'l>, TokenRun<'l>), Cursor<'l>)>
-    ensures gives { Gives (with_rest words_view) result (read class_statement (rest_of cursor.entry)) }
-    ensures later { IfSome result (λ x. IsLater cursor.entry x.1) }
-    ensures lent { IfSome result (λ x. WordsAt (pieces_of cursor.entry.tokens) x.0) }
-{
-    let (word, cursor) = kept_word_at(cursor)?;
-    let (others, cursor) = to_end_at(cursor)?;
-    Some(((word, others), cursor))
-}
-
-/// `p ;`, after `ORIGIN`
-#[tactic(auto, unfolding(lef_grammar::specs::MacroBlock::origin_statement))]
-fn origin_at<'l>(cursor: Cursor<'l>) -> Option<(Point<'l>, Cursor<'l>)>
-    ensures gives { Gives (with_rest point_view) result (read origin_statement (rest_of cursor.entry)) }
-    ensures later { IfSome result (λ x. IsLater cursor.entry x.1) }
-    ensures lent { IfSome result (λ x. PointAt (pieces_of cursor.entry.tokens) x.0) }
-{
-    let (point, cursor) = point_at(cursor)?;
-    let cursor = cursor.key(b";")?;
-    Some((point, cursor))
-}
-
-/// `name any* ;`, after `SITE`
-#[tactic(auto, unfolding(lef_grammar::specs::MacroBlock::macro_site_statement))]
-fn site_at<'l>(cursor: Cursor<'l>) -> Option<((Token<'l>, TokenRun<'l>), Cursor<'l>)>
-    ensures gives { Gives (with_rest words_view) result (read macro_site_statement (rest_of cursor.entry)) }
-    ensures later { IfSome result (λ x. IsLater cursor.entry x.1) }
-    ensures lent { IfSome result (λ x. WordsAt (pieces_of cursor.entry.tokens) x.0) }
-{
-    name_to_end_at(cursor)
-}
-
 /// The header of a block within the block
 #[tactic(auto, unfolding(lef_grammar::specs::MacroBlock::inner_header))]
 fn header_at<'l>(cursor: Cursor<'l>) -> Option<(InnerHeader<'l>, Cursor<'l>)>
     ensures gives { Gives (with_rest header_view) result (read inner_header (rest_of cursor.entry)) }
-    ensures later { IfSome result (λ x. IsLater cursor.entry x.1) }
     ensures lent { IfSome result (λ x. HeaderAt (pieces_of cursor.entry.tokens) x.0) }
 {
     let (word, later) = cursor.next()?;
@@ -131,29 +96,28 @@ fn header_at<'l>(cursor: Cursor<'l>) -> Option<(InnerHeader<'l>, Cursor<'l>)>
 }
 
 /// A statement in the block of this name.
-#[tactic(auto, unfolding(lef_grammar::specs::MacroBlock::macro_statement, lef_grammar::specs::Extents::kept_statement))]
+#[tactic(auto, unfolding(lef_grammar::specs::MacroBlock::macro_statement, lef_grammar::specs::MacroBlock::class_statement, lef_grammar::specs::MacroBlock::origin_statement, lef_grammar::specs::MacroBlock::macro_site_statement, lef_grammar::specs::Extents::kept_statement))]
 pub(crate) fn macro_at<'l>(
     name: &[u8],
     cursor: Cursor<'l>,
 ) -> Option<(MacroStatement<'l>, Cursor<'l>)>
     ensures gives { Gives (with_rest macro_view) result (read (macro_statement name.now) (rest_of cursor.entry)) }
-    ensures later { IfSome result (λ x. IsLater cursor.entry x.1) }
     ensures lent { IfSome result (λ x. MacroAt (pieces_of cursor.entry.tokens) x.0) }
 {
     let (word, later) = cursor.next()?;
     if is_word(word.bytes, b"END") {
         Some((MacroStatement::End, later.key(name)?))
     } else if is_word(word.bytes, b"CLASS") {
-        let ((word, others), cursor) = class_at(later)?;
+        let ((word, others), cursor) = word_to_end_at(WordKind::Kept, later)?;
         Some((MacroStatement::Class(word, others), cursor))
     } else if is_word(word.bytes, b"SIZE") {
         let ((width, height), cursor) = size_at(later)?;
         Some((MacroStatement::Size(width, height), cursor))
     } else if is_word(word.bytes, b"ORIGIN") {
-        let (point, cursor) = origin_at(later)?;
+        let (point, cursor) = only_point_at(later)?;
         Some((MacroStatement::Origin(point), cursor))
     } else if is_word(word.bytes, b"SITE") {
-        let ((name, others), cursor) = site_at(later)?;
+        let ((name, others), cursor) = word_to_end_at(WordKind::Name, later)?;
         Some((MacroStatement::Site(name, others), cursor))
     } else if is_inner_header(word.bytes) {
         let (header, cursor) = header_at(cursor)?;

@@ -2,10 +2,9 @@
 
 ghost use Rattle.std.specs.Prelude.{◌≡◌, IfSome};
 ghost use Rattle.form_meanings.specs.Words.{Gives};
-ghost use Rattle.statement_model.specs.Form.{left, read, right};
-ghost use Rattle.lef_grammar.specs.Extents.{kept_statement};
+ghost use Rattle.statement_model.specs.Form.{read, right};
 ghost use Rattle.lef_grammar.specs.Outermost.{bare_header, is_bare_header, is_named_header, is_rule_header, named_header, outermost_ending, outermost_statement, rule_header};
-ghost use Rattle.lefdef_tokens.specs.Views.{IsLater, pieces_of, rest_of};
+ghost use Rattle.lefdef_tokens.specs.Views.{pieces_of, rest_of};
 ghost use Rattle.statement_reader.specs.Endings.{ending_view};
 ghost use Rattle.lef_reader.specs.Parts.{with_rest};
 ghost use Rattle.lef_reader.specs.OutermostViews.{NamedAt, OutermostAt, bare_view, named_view, outermost_view};
@@ -91,7 +90,6 @@ pub(crate) fn outermost_ending(first: &[u8]) -> Ending
 /// The header of a rule or a via.
 fn rule_header_at<'l>(cursor: Cursor<'l>) -> Option<(NamedHeader<'l>, Cursor<'l>)>
     ensures gives { Gives (with_rest named_view) result (read (right (right (right rule_header))) (rest_of cursor.entry)) }
-    ensures later { IfSome result (λ x. IsLater cursor.entry x.1) }
     ensures lent { IfSome result (λ x. NamedAt (pieces_of cursor.entry.tokens) x.0) }
 {
     let (word, later) = cursor.next()?;
@@ -111,7 +109,6 @@ fn rule_header_at<'l>(cursor: Cursor<'l>) -> Option<(NamedHeader<'l>, Cursor<'l>
 #[tactic(auto, unfolding(lef_grammar::specs::Outermost::named_header))]
 fn named_at<'l>(cursor: Cursor<'l>) -> Option<(NamedHeader<'l>, Cursor<'l>)>
     ensures gives { Gives (with_rest named_view) result (read named_header (rest_of cursor.entry)) }
-    ensures later { IfSome result (λ x. IsLater cursor.entry x.1) }
     ensures lent { IfSome result (λ x. NamedAt (pieces_of cursor.entry.tokens) x.0) }
 {
     let (word, later) = cursor.next()?;
@@ -131,7 +128,6 @@ fn named_at<'l>(cursor: Cursor<'l>) -> Option<(NamedHeader<'l>, Cursor<'l>)>
 #[tactic(auto, unfolding(lef_grammar::specs::Outermost::bare_header))]
 fn bare_at<'l>(cursor: Cursor<'l>) -> Option<(BareHeader, Cursor<'l>)>
     ensures gives { Gives (with_rest bare_view) result (read bare_header (rest_of cursor.entry)) }
-    ensures later { IfSome result (λ x. IsLater cursor.entry x.1) }
 {
     let (word, later) = cursor.next()?;
     if is_word(word.bytes, b"UNITS") {
@@ -147,51 +143,23 @@ fn bare_at<'l>(cursor: Cursor<'l>) -> Option<(BareHeader, Cursor<'l>)>
     }
 }
 
-/// The header of a block with a name, as a statement.
-fn opens_named_at<'l>(cursor: Cursor<'l>) -> Option<(OutermostStatement<'l>, Cursor<'l>)>
-    ensures gives { Gives (with_rest outermost_view) result (read (right (left named_header)) (rest_of cursor.entry)) }
-    ensures later { IfSome result (λ x. IsLater cursor.entry x.1) }
-    ensures lent { IfSome result (λ x. OutermostAt (pieces_of cursor.entry.tokens) x.0) }
-{
-    let (header, cursor) = named_at(cursor)?;
-    Some((OutermostStatement::Named(header), cursor))
-}
-
-/// The header of a block without a name, as a statement.
-fn opens_bare_at<'l>(cursor: Cursor<'l>) -> Option<(OutermostStatement<'l>, Cursor<'l>)>
-    ensures gives { Gives (with_rest outermost_view) result (read (right (right (left bare_header))) (rest_of cursor.entry)) }
-    ensures later { IfSome result (λ x. IsLater cursor.entry x.1) }
-    ensures lent { IfSome result (λ x. OutermostAt (pieces_of cursor.entry.tokens) x.0) }
-{
-    let (header, cursor) = bare_at(cursor)?;
-    Some((OutermostStatement::Bare(header), cursor))
-}
-
-/// A statement without meaning.
-fn kept_outside_at<'l>(cursor: Cursor<'l>) -> Option<(OutermostStatement<'l>, Cursor<'l>)>
-    ensures gives { Gives (with_rest outermost_view) result (read (right (right (right kept_statement))) (rest_of cursor.entry)) }
-    ensures later { IfSome result (λ x. IsLater cursor.entry x.1) }
-    ensures lent { IfSome result (λ x. OutermostAt (pieces_of cursor.entry.tokens) x.0) }
-{
-    let ((word, others), cursor) = kept_at(cursor)?;
-    Some((OutermostStatement::Kept(word, others), cursor))
-}
-
 /// A statement outside of all blocks.
 #[tactic(auto, unfolding(lef_grammar::specs::Outermost::outermost_statement, lef_grammar::specs::Extents::kept_statement))]
 pub(crate) fn outermost_at<'l>(cursor: Cursor<'l>) -> Option<(OutermostStatement<'l>, Cursor<'l>)>
     ensures gives { Gives (with_rest outermost_view) result (read outermost_statement (rest_of cursor.entry)) }
-    ensures later { IfSome result (λ x. IsLater cursor.entry x.1) }
     ensures lent { IfSome result (λ x. OutermostAt (pieces_of cursor.entry.tokens) x.0) }
 {
     let (word, later) = cursor.next()?;
     if is_word(word.bytes, b"END") {
         Some((OutermostStatement::EndLibrary, later.key(b"LIBRARY")?))
     } else if is_named_header(word.bytes) {
-        opens_named_at(cursor)
+        let (header, cursor) = named_at(cursor)?;
+        Some((OutermostStatement::Named(header), cursor))
     } else if is_bare_header(word.bytes) {
-        opens_bare_at(cursor)
+        let (header, cursor) = bare_at(cursor)?;
+        Some((OutermostStatement::Bare(header), cursor))
     } else {
-        kept_outside_at(cursor)
+        let ((word, others), cursor) = kept_at(cursor)?;
+        Some((OutermostStatement::Kept(word, others), cursor))
     }
 }

@@ -1,17 +1,31 @@
 //! Parts that statements of several blocks have.
 
-ghost use Rattle.std.specs.Prelude.{◌≡◌, IfSome};
+ghost use Rattle.std.specs.Prelude.{◌≡◌, codes, IfSome};
 ghost use Rattle.form_meanings.specs.Words.{Gives};
-ghost use Rattle.statement_model.specs.Form.{◌⨟◌, read, word};
-ghost use Rattle.lef_grammar.specs.Extents.{array_count, bare_block_ending, block_ending, dec, extent, is_array_count, is_distance, is_extent, is_kept_word, kept_statement, name, size_statement, to_end};
+ghost use Rattle.statement_model.specs.Form.{◌◂◌, ◌⨟◌, read};
+ghost use Rattle.lef_grammar.specs.Extents.{bare_block_ending, block_ending, is_array_count, is_distance, is_extent, is_kept_word, kept_statement, size_statement, to_end};
 ghost use Rattle.lefdef_tokens.specs.Places.{RunAt, StandsAt, past};
-ghost use Rattle.lefdef_tokens.specs.Views.{IsLater, pieces_of, rest_of, run_of, word_of};
+ghost use Rattle.lefdef_tokens.specs.Views.{pieces_of, rest_of, run_of, word_of};
 ghost use Rattle.statement_reader.specs.Endings.{ending_view};
-ghost use Rattle.lef_reader.specs.Parts.{SizeAt, WordsAt, pair_view, with_rest, words_view};
+ghost use Rattle.lef_reader.specs.Parts.{PairAt, SizeAt, WordsAt, is_good, may_be, of_kind, pair_view, with_rest, words_view};
 
-use lefdef_tokens::{Cursor, Token, TokenRun, is_quoted, is_semicolon, is_word};
+use lefdef_tokens::{Cursor, Token, TokenRun, is_name, is_place, is_quoted, is_semicolon, is_word};
 use statement_reader::boundary::Ending;
 use unit_numbers::{microns, whole};
+
+/// What a word of a statement is.
+#[derive(Clone, Copy)]
+pub(crate) enum WordKind {
+    Name,
+    /// Any word but `;`.
+    Kept,
+    /// In microns.
+    Distance,
+    /// A distance that isn't below 0.
+    Extent,
+    /// A number of rows or columns.
+    ArrayCount,
+}
 
 /// How a statement in a block ends whose `END` has a name, by its first token.
 pub(crate) fn block_ending(first: &[u8]) -> Ending
@@ -74,65 +88,78 @@ fn is_array_count(word: &[u8]) -> bool
     }
 }
 
-/// A place for a distance. A word that is none is noted.
-#[tactic(auto, unfolding(form_meanings::specs::Words::number_at))]
-pub(crate) fn dec_at<'l>(cursor: Cursor<'l>) -> Option<(Token<'l>, Cursor<'l>)>
-    ensures gives { Gives word_of result (read dec (rest_of cursor.entry)) }
-    ensures later { IfSome result (λ x. IsLater cursor.entry x.1) }
-    ensures left { IfSome result (λ x. pieces_of x.1.tokens ≡ past 1 (pieces_of cursor.entry.tokens)) }
-    ensures lent { IfSome result (λ x. StandsAt (pieces_of cursor.entry.tokens) x.0) }
-{
-    let (token, later) = cursor.place()?;
-    let good = is_distance(token.bytes);
-    Some((token, later.noted(good, cursor.len())))
+impl WordKind {
+    /// Whether a word may stand for one.
+    #[inline(always)]
+    fn may_be(self, word: &[u8]) -> bool
+        ensures { result ≡ may_be self word.now }
+    {
+        match self {
+            WordKind::Name => is_name(word),
+            WordKind::Kept => is_kept_word(word),
+            _ => is_place(word),
+        }
+    }
+
+    /// Whether a word that may stand for one is valid.
+    #[inline(always)]
+    fn is_good(self, word: &[u8]) -> bool
+        ensures { result ≡ is_good self word.now }
+    {
+        match self {
+            WordKind::Distance => is_distance(word),
+            WordKind::Extent => is_extent(word),
+            WordKind::ArrayCount => is_array_count(word),
+            _ => true,
+        }
+    }
 }
 
-/// A place for a distance that isn't below 0. A word that is none is noted.
-#[tactic(auto, unfolding(form_meanings::specs::Words::number_at))]
-pub(crate) fn extent_at<'l>(cursor: Cursor<'l>) -> Option<(Token<'l>, Cursor<'l>)>
-    ensures gives { Gives word_of result (read extent (rest_of cursor.entry)) }
-    ensures later { IfSome result (λ x. IsLater cursor.entry x.1) }
+/// A word of a kind. A word in the place of a number that is none is noted.
+#[tactic(auto, using(crate::proofs::WordLemmas::reads_word))]
+#[inline(always)]
+pub(crate) fn word_at<'l>(kind: WordKind, cursor: Cursor<'l>) -> Option<(Token<'l>, Cursor<'l>)>
+    ensures gives { Gives word_of result (read (of_kind kind) (rest_of cursor.entry)) }
     ensures left { IfSome result (λ x. pieces_of x.1.tokens ≡ past 1 (pieces_of cursor.entry.tokens)) }
     ensures lent { IfSome result (λ x. StandsAt (pieces_of cursor.entry.tokens) x.0) }
 {
-    let (token, later) = cursor.place()?;
-    let good = is_extent(token.bytes);
-    Some((token, later.noted(good, cursor.len())))
-}
-
-/// A place for a number of rows or columns. A word that is none is noted.
-#[tactic(auto, unfolding(form_meanings::specs::Words::number_at))]
-pub(crate) fn array_count_at<'l>(cursor: Cursor<'l>) -> Option<(Token<'l>, Cursor<'l>)>
-    ensures gives { Gives word_of result (read array_count (rest_of cursor.entry)) }
-    ensures later { IfSome result (λ x. IsLater cursor.entry x.1) }
-    ensures left { IfSome result (λ x. pieces_of x.1.tokens ≡ past 1 (pieces_of cursor.entry.tokens)) }
-    ensures lent { IfSome result (λ x. StandsAt (pieces_of cursor.entry.tokens) x.0) }
-{
-    let (token, later) = cursor.place()?;
-    let good = is_array_count(token.bytes);
-    Some((token, later.noted(good, cursor.len())))
-}
-
-/// A word but `;`
-pub(crate) fn kept_word_at<'l>(cursor: Cursor<'l>) -> Option<(Token<'l>, Cursor<'l>)>
-    ensures gives { Gives word_of result (read (word is_kept_word) (rest_of cursor.entry)) }
-    ensures later { IfSome result (λ x. IsLater cursor.entry x.1) }
-    ensures left { IfSome result (λ x. pieces_of x.1.tokens ≡ past 1 (pieces_of cursor.entry.tokens)) }
-    ensures lent { IfSome result (λ x. StandsAt (pieces_of cursor.entry.tokens) x.0) }
-{
-    let (word, later) = cursor.next()?;
-    if is_kept_word(word.bytes) {
-        Some((word, later))
+    let (token, later) = cursor.next()?;
+    if kind.may_be(token.bytes) {
+        let good = kind.is_good(token.bytes);
+        Some((token, later.noted(good, cursor.len())))
     } else {
         None
     }
+}
+
+/// A word of a kind and `;`
+#[inline(always)]
+pub(crate) fn only_at<'l>(kind: WordKind, cursor: Cursor<'l>) -> Option<(Token<'l>, Cursor<'l>)>
+    ensures gives { Gives word_of result (read (of_kind kind ◂ codes ";") (rest_of cursor.entry)) }
+    ensures lent { IfSome result (λ x. StandsAt (pieces_of cursor.entry.tokens) x.0) }
+{
+    let (word, cursor) = word_at(kind, cursor)?;
+    Some((word, cursor.key(b";")?))
+}
+
+/// Two words of a kind and `;`
+#[inline(always)]
+pub(crate) fn two_at<'l>(
+    kind: WordKind,
+    cursor: Cursor<'l>,
+) -> Option<((Token<'l>, Token<'l>), Cursor<'l>)>
+    ensures gives { Gives (with_rest pair_view) result (read (of_kind kind ⨟ of_kind kind ◂ codes ";") (rest_of cursor.entry)) }
+    ensures lent { IfSome result (λ x. PairAt (pieces_of cursor.entry.tokens) x.0) }
+{
+    let (first, cursor) = word_at(kind, cursor)?;
+    let (second, cursor) = only_at(kind, cursor)?;
+    Some(((first, second), cursor))
 }
 
 /// `word any* ;`, with its `;` among the others
 #[tactic(auto, unfolding(lef_grammar::specs::Extents::kept_statement))]
 pub(crate) fn kept_at<'l>(cursor: Cursor<'l>) -> Option<((Token<'l>, TokenRun<'l>), Cursor<'l>)>
     ensures gives { Gives (with_rest words_view) result (read kept_statement (rest_of cursor.entry)) }
-    ensures later { IfSome result (λ x. IsLater cursor.entry x.1) }
     ensures lent { IfSome result (λ x. WordsAt (pieces_of cursor.entry.tokens) x.0) }
 {
     let (word, later) = cursor.next()?;
@@ -147,7 +174,6 @@ pub(crate) fn kept_at<'l>(cursor: Cursor<'l>) -> Option<((Token<'l>, TokenRun<'l
 #[tactic(auto, unfolding(lef_grammar::specs::Extents::to_end))]
 pub(crate) fn to_end_at<'l>(cursor: Cursor<'l>) -> Option<(TokenRun<'l>, Cursor<'l>)>
     ensures gives { Gives run_of result (read to_end (rest_of cursor.entry)) }
-    ensures later { IfSome result (λ x. IsLater cursor.entry x.1) }
     ensures lent { IfSome result (λ x. RunAt (pieces_of cursor.entry.tokens) x.0) }
 {
     let (others, cursor) = cursor.up_to_semicolon();
@@ -155,29 +181,27 @@ pub(crate) fn to_end_at<'l>(cursor: Cursor<'l>) -> Option<(TokenRun<'l>, Cursor<
     Some((others, cursor))
 }
 
-/// `name any* ;`
-pub(crate) fn name_to_end_at<'l>(
+/// A word of a kind and `any* ;`
+#[inline(always)]
+pub(crate) fn word_to_end_at<'l>(
+    kind: WordKind,
     cursor: Cursor<'l>,
 ) -> Option<((Token<'l>, TokenRun<'l>), Cursor<'l>)>
-    ensures gives { Gives (with_rest words_view) result (read (name ⨟ to_end) (rest_of cursor.entry)) }
-    ensures later { IfSome result (λ x. IsLater cursor.entry x.1) }
+    ensures gives { Gives (with_rest words_view) result (read (of_kind kind ⨟ to_end) (rest_of cursor.entry)) }
     ensures lent { IfSome result (λ x. WordsAt (pieces_of cursor.entry.tokens) x.0) }
 {
-    let (name, cursor) = cursor.name()?;
+    let (word, cursor) = word_at(kind, cursor)?;
     let (others, cursor) = to_end_at(cursor)?;
-    Some(((name, others), cursor))
+    Some(((word, others), cursor))
 }
 
 /// `dec BY dec ;`, after `SIZE`
 #[tactic(auto, unfolding(lef_grammar::specs::Extents::size_statement))]
 pub(crate) fn size_at<'l>(cursor: Cursor<'l>) -> Option<((Token<'l>, Token<'l>), Cursor<'l>)>
     ensures gives { Gives (with_rest pair_view) result (read size_statement (rest_of cursor.entry)) }
-    ensures later { IfSome result (λ x. IsLater cursor.entry x.1) }
     ensures lent { IfSome result (λ x. SizeAt (pieces_of cursor.entry.tokens) x.0) }
 {
-    let (width, cursor) = extent_at(cursor)?;
-    let cursor = cursor.key(b"BY")?;
-    let (height, cursor) = extent_at(cursor)?;
-    let cursor = cursor.key(b";")?;
+    let (width, cursor) = word_at(WordKind::Extent, cursor)?;
+    let (height, cursor) = only_at(WordKind::Extent, cursor.key(b"BY")?)?;
     Some(((width, height), cursor))
 }

@@ -4,7 +4,7 @@ ghost use Rattle.std.specs.Prelude.{◌≡◌, IfSome};
 ghost use Rattle.form_meanings.specs.Words.{Gives};
 ghost use Rattle.statement_model.specs.Form.{read};
 ghost use Rattle.lef_grammar.specs.PinBlock.{ends_pin, pin_ending, pin_statement};
-ghost use Rattle.lefdef_tokens.specs.Views.{IsLater, pieces_of, rest_of};
+ghost use Rattle.lefdef_tokens.specs.Views.{pieces_of, rest_of};
 ghost use Rattle.statement_reader.specs.Endings.{ending_view};
 ghost use Rattle.lef_reader.specs.Parts.{with_rest};
 ghost use Rattle.lef_reader.specs.PinViews.{PinAt, pin_view};
@@ -47,7 +47,6 @@ pub(crate) fn pin_ending(first: &[u8]) -> Ending
 #[tactic(auto, unfolding(lef_grammar::specs::PinBlock::pin_statement, lef_grammar::specs::Extents::kept_statement))]
 pub(crate) fn pin_at<'l>(name: &[u8], cursor: Cursor<'l>) -> Option<(PinStatement<'l>, Cursor<'l>)>
     ensures gives { Gives (with_rest pin_view) result (read (pin_statement name.now) (rest_of cursor.entry)) }
-    ensures later { IfSome result (λ x. IsLater cursor.entry x.1) }
     ensures lent { IfSome result (λ x. PinAt (pieces_of cursor.entry.tokens) x.0) }
 {
     let (word, later) = cursor.next()?;

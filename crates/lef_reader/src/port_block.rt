@@ -4,13 +4,13 @@ ghost use Rattle.std.specs.Prelude.{◌≡◌, codes, IfSome};
 ghost use Rattle.form_meanings.specs.Words.{Gives};
 ghost use Rattle.statement_model.specs.Form.{◌▸◌, ◌⨟◌, read, word};
 ghost use Rattle.lef_grammar.specs.Extents.{is_kept_word, to_end};
-ghost use Rattle.lef_grammar.specs.PortBlock.{ends_port, is_port_shape, is_unchecked, layer_after, port_rect_statement, port_rect_where, port_statement};
-ghost use Rattle.lefdef_tokens.specs.Views.{IsLater, pieces_of, rest_of};
+ghost use Rattle.lef_grammar.specs.PortBlock.{ends_port, is_port_shape, is_unchecked, layer_after, port_rect_where, port_statement};
+ghost use Rattle.lefdef_tokens.specs.Views.{pieces_of, rest_of};
 ghost use Rattle.lef_reader.specs.Parts.{with_rest, words_view};
 ghost use Rattle.lef_reader.specs.PortViews.{MaskedArrayAt, PortAt, RectAt, port_view, rect_view};
 
-use crate::parts::{kept_at, kept_word_at, name_to_end_at, to_end_at};
-use crate::point::{Corners, corners_at};
+use crate::parts::{WordKind, kept_at, to_end_at, word_to_end_at};
+use crate::point::{Corners, corners_at, mask_at};
 use lefdef_tokens::{Cursor, Token, TokenRun, is_word};
 
 /// A `RECT`: a rectangle, or an array of them, which is only counted.
@@ -76,26 +76,22 @@ fn is_port_shape(word: &[u8]) -> bool
 /// `MASK word ITERATE any* ;`
 fn masked_array_at<'l>(cursor: Cursor<'l>) -> Option<((Token<'l>, TokenRun<'l>), Cursor<'l>)>
     ensures gives { Gives (with_rest words_view) result (read (codes "MASK" ▸ word is_kept_word ⨟ codes "ITERATE" ▸ to_end) (rest_of cursor.entry)) }
-    ensures later { IfSome result (λ x. IsLater cursor.entry x.1) }
     ensures lent { IfSome result (λ x. MaskedArrayAt (pieces_of cursor.entry.tokens) x.0) }
 {
-    // Most have none, and a look reads no token.
-    let first = cursor.peek()?;
-    if !is_word(first.bytes, b"MASK") {
-        return None;
-    }
-    let (mask, cursor) = kept_word_at(cursor.key(b"MASK")?)?;
+    let (mask, cursor) = mask_at(cursor)?;
     let (others, cursor) = to_end_at(cursor.key(b"ITERATE")?)?;
     Some(((mask, others), cursor))
 }
 
-/// An array or a rectangle, after `RECT`
-#[tactic(auto, unfolding(lef_grammar::specs::PortBlock::port_rect_statement))]
-fn port_rect_at<'l>(cursor: Cursor<'l>) -> Option<(PortRect<'l>, Cursor<'l>)>
-    ensures gives { Gives (with_rest rect_view) result (read port_rect_statement (rest_of cursor.entry)) }
-    ensures later { IfSome result (λ x. IsLater cursor.entry x.1) }
+/// An array or a rectangle, after `RECT`, where a `LAYER` came before
+#[tactic(auto, unfolding(lef_grammar::specs::PortBlock::port_rect_where, lef_grammar::specs::PortBlock::port_rect_statement))]
+fn rect_at<'l>(has_layer: bool, cursor: Cursor<'l>) -> Option<(PortRect<'l>, Cursor<'l>)>
+    ensures gives { Gives (with_rest rect_view) result (read (port_rect_where has_layer) (rest_of cursor.entry)) }
     ensures lent { IfSome result (λ x. RectAt (pieces_of cursor.entry.tokens) x.0) }
 {
+    if !has_layer {
+        return None;
+    }
     if cursor.next_is(b"ITERATE") {
         let (others, cursor) = to_end_at(cursor.key(b"ITERATE")?)?;
         return Some((PortRect::Array(others), cursor));
@@ -107,20 +103,6 @@ fn port_rect_at<'l>(cursor: Cursor<'l>) -> Option<(PortRect<'l>, Cursor<'l>)>
     Some((PortRect::Corners(corners), cursor))
 }
 
-/// The same, where a `LAYER` came before
-#[tactic(auto, unfolding(lef_grammar::specs::PortBlock::port_rect_where))]
-fn rect_at<'l>(has_layer: bool, cursor: Cursor<'l>) -> Option<(PortRect<'l>, Cursor<'l>)>
-    ensures gives { Gives (with_rest rect_view) result (read (port_rect_where has_layer) (rest_of cursor.entry)) }
-    ensures later { IfSome result (λ x. IsLater cursor.entry x.1) }
-    ensures lent { IfSome result (λ x. RectAt (pieces_of cursor.entry.tokens) x.0) }
-{
-    if has_layer {
-        port_rect_at(cursor)
-    } else {
-        None
-    }
-}
-
 /// A statement in the block.
 #[tactic(auto, unfolding(lef_grammar::specs::PortBlock::port_statement, lef_grammar::specs::Extents::kept_statement))]
 pub(crate) fn port_at<'l>(
@@ -128,14 +110,13 @@ pub(crate) fn port_at<'l>(
     cursor: Cursor<'l>,
 ) -> Option<(PortStatement<'l>, Cursor<'l>)>
     ensures gives { Gives (with_rest port_view) result (read (port_statement has_layer) (rest_of cursor.entry)) }
-    ensures later { IfSome result (λ x. IsLater cursor.entry x.1) }
     ensures lent { IfSome result (λ x. PortAt (pieces_of cursor.entry.tokens) x.0) }
 {
     let (word, later) = cursor.next()?;
     if is_word(word.bytes, b"END") {
         Some((PortStatement::End, later))
     } else if is_word(word.bytes, b"LAYER") {
-        let ((name, others), cursor) = name_to_end_at(later)?;
+        let ((name, others), cursor) = word_to_end_at(WordKind::Name, later)?;
         Some((PortStatement::Layer(name, others), cursor))
     } else if is_word(word.bytes, b"RECT") {
         let (rect, cursor) = rect_at(has_layer, later)?;

@@ -8,7 +8,7 @@ ghost use Rattle.lef_reader.specs.LefReading.{ReadsLef};
 ghost use Rattle.lef_reader.specs.StatementViews.{StatementAt, block_view};
 
 use crate::block::Block;
-use crate::header_words::first_fault;
+use crate::header_words::with_first_fault;
 use crate::statement::LefStatement;
 use design_model::fault::Fault;
 use statement_reader::grammar::Read;
@@ -30,8 +30,6 @@ pub fn read_lef_statement<'l>(
     ensures text { IfOk result (λ found. IfSome found (λ x. x.tokens.text.now ≡ text.now)) }
     ensures span { IfOk result (λ found. IfSome found (λ x. span_of (pieces_of x.tokens) ≡ record { lo = x.start; hi = x.end })) }
 {
-    match read_statement::<LefStatement<'l>>(block, text, pos) {
-        Err(fault) => Err(first_fault(block, text, pos, fault)),
-        found => found,
-    }
+    let found = read_statement::<LefStatement<'l>>(block, text, pos);
+    with_first_fault(block, text, pos, found)
 }

@@ -4,12 +4,12 @@ ghost use Rattle.std.specs.Prelude.{◌≡◌, IfSome};
 ghost use Rattle.form_meanings.specs.Words.{Gives};
 ghost use Rattle.statement_model.specs.Form.{read};
 ghost use Rattle.lef_grammar.specs.RuleBlock.{ends_rule, ends_rule_layer, rule_ending, rule_layer_statement, rule_statement};
-ghost use Rattle.lefdef_tokens.specs.Views.{IsLater, pieces_of, rest_of};
+ghost use Rattle.lefdef_tokens.specs.Views.{pieces_of, rest_of};
 ghost use Rattle.statement_reader.specs.Endings.{ending_view};
 ghost use Rattle.lef_reader.specs.Parts.{with_rest};
 ghost use Rattle.lef_reader.specs.RuleViews.{RuleAt, RuleLayerAt, rule_layer_view, rule_view};
 
-use crate::parts::{block_ending, extent_at, kept_at};
+use crate::parts::{WordKind, block_ending, kept_at, only_at};
 use lefdef_tokens::{Cursor, Token, TokenRun, is_word};
 use statement_reader::boundary::Ending;
 
@@ -75,7 +75,6 @@ pub(crate) fn rule_at<'l>(
     cursor: Cursor<'l>,
 ) -> Option<(RuleStatement<'l>, Cursor<'l>)>
     ensures gives { Gives (with_rest rule_view) result (read (rule_statement name.now) (rest_of cursor.entry)) }
-    ensures later { IfSome result (λ x. IsLater cursor.entry x.1) }
     ensures lent { IfSome result (λ x. RuleAt (pieces_of cursor.entry.tokens) x.0) }
 {
     let (word, later) = cursor.next()?;
@@ -102,15 +101,14 @@ pub(crate) fn rule_layer_at<'l>(
     cursor: Cursor<'l>,
 ) -> Option<(RuleLayerStatement<'l>, Cursor<'l>)>
     ensures gives { Gives (with_rest rule_layer_view) result (read (rule_layer_statement name.now) (rest_of cursor.entry)) }
-    ensures later { IfSome result (λ x. IsLater cursor.entry x.1) }
     ensures lent { IfSome result (λ x. RuleLayerAt (pieces_of cursor.entry.tokens) x.0) }
 {
     let (word, later) = cursor.next()?;
     if is_word(word.bytes, b"END") {
         Some((RuleLayerStatement::End, later.key(name)?))
     } else if is_word(word.bytes, b"WIDTH") {
-        let (width, cursor) = extent_at(later)?;
-        Some((RuleLayerStatement::Width(width), cursor.key(b";")?))
+        let (width, cursor) = only_at(WordKind::Extent, later)?;
+        Some((RuleLayerStatement::Width(width), cursor))
     } else {
         let ((word, others), cursor) = kept_at(cursor)?;
         Some((RuleLayerStatement::Kept(word, others), cursor))

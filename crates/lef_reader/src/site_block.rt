@@ -4,7 +4,7 @@ ghost use Rattle.std.specs.Prelude.{◌≡◌, IfSome};
 ghost use Rattle.form_meanings.specs.Words.{Gives};
 ghost use Rattle.statement_model.specs.Form.{read};
 ghost use Rattle.lef_grammar.specs.SiteBlock.{ends_site, site_statement};
-ghost use Rattle.lefdef_tokens.specs.Views.{IsLater, pieces_of, rest_of};
+ghost use Rattle.lefdef_tokens.specs.Views.{pieces_of, rest_of};
 ghost use Rattle.lef_reader.specs.Parts.{with_rest};
 ghost use Rattle.lef_reader.specs.SiteViews.{SiteAt, site_view};
 
@@ -37,7 +37,6 @@ pub(crate) fn site_at<'l>(
     cursor: Cursor<'l>,
 ) -> Option<(SiteStatement<'l>, Cursor<'l>)>
     ensures gives { Gives (with_rest site_view) result (read (site_statement name.now) (rest_of cursor.entry)) }
-    ensures later { IfSome result (λ x. IsLater cursor.entry x.1) }
     ensures lent { IfSome result (λ x. SiteAt (pieces_of cursor.entry.tokens) x.0) }
 {
     let (word, later) = cursor.next()?;

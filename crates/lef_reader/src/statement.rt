@@ -1,19 +1,22 @@
 //! The statements of a LEF text, by their block.
 
-ghost use Rattle.std.specs.Prelude.{◌≡◌, IfSome};
+ghost use Rattle.std.specs.Prelude.{◌≡◌, None, IfSome, IsSomeAnd, MatchOption};
 ghost use Rattle.form_meanings.specs.Words.{Gives};
 ghost use Rattle.statement_model.specs.Form.{read, whole};
-ghost use Rattle.lef_grammar.specs.LefRecords.{ends_block, lef, lef_statement, opened, opened_in_macro, opened_in_pin, opened_in_rule, opened_outside};
-ghost use Rattle.lefdef_tokens.specs.Views.{IsLater, pieces_of, rest_of, words_of};
+ghost use Rattle.lef_grammar.specs.LefRecords.{block_after, in_kept, in_macro, in_pin, in_port, in_rule, in_via, lef, lef_statement, opened_in_macro, opened_in_pin, opened_in_rule, opened_outside, outside};
+ghost use Rattle.lefdef_tokens.specs.Views.{pieces_of, rest_of, words_of};
 ghost use Rattle.statement_reader.specs.Endings.{ending_view};
 ghost use Rattle.lef_reader.specs.Parts.{with_rest};
 ghost use Rattle.lef_reader.specs.BlockViews.{block_view};
+ghost use Rattle.lef_reader.specs.KeptViews.{kept_view};
 ghost use Rattle.lef_reader.specs.MacroViews.{macro_view};
 ghost use Rattle.lef_reader.specs.OutermostViews.{outermost_view};
 ghost use Rattle.lef_reader.specs.PinViews.{pin_view};
+ghost use Rattle.lef_reader.specs.PortViews.{port_view};
 ghost use Rattle.lef_reader.specs.RuleViews.{rule_view};
 ghost use Rattle.lef_reader.specs.StatementViews.{StatementAt, lef_view};
 ghost use Rattle.lef_reader.specs.Stepping.{ended};
+ghost use Rattle.lef_reader.specs.ViaViews.{via_view};
 
 use crate::block::Block;
 use crate::kept_blocks::{KeptBlock, KeptStatement, RuleHeader, kept_block_at};
@@ -44,64 +47,26 @@ pub enum LefStatement<'l> {
     InKept(KeptStatement<'l>),
 }
 
-impl<'l> LefStatement<'l> {
-    /// Whether it ends its block.
-    fn ends_block(&self) -> bool
-        ensures { result ≡ ends_block (lef_view self.now) }
-    {
-        match self {
-            LefStatement::Outside(_) => false,
-            LefStatement::InLayer(statement) => statement.is_end(),
-            LefStatement::InSite(statement) => statement.is_end(),
-            LefStatement::InVia(statement) => statement.is_end(),
-            LefStatement::InRule(statement) => statement.is_end(),
-            LefStatement::InRuleLayer(statement) => statement.is_end(),
-            LefStatement::InMacro(statement) => statement.is_end(),
-            LefStatement::InPin(statement) => statement.is_end(),
-            LefStatement::InPort(statement) => statement.is_end(),
-            LefStatement::InKept(statement) => statement.is_end(),
-        }
-    }
-}
-
 /// A statement in a block.
 #[tactic(auto, unfolding(lef_grammar::specs::LefRecords::lef_statement))]
 fn statement_at<'l>(block: Block<'l>, cursor: Cursor<'l>) -> Option<(LefStatement<'l>, Cursor<'l>)>
     ensures gives { Gives (with_rest lef_view) result (read (lef_statement (block_view block.entry)) (rest_of cursor.entry)) }
-    ensures later { IfSome result (λ x. IsLater cursor.entry x.1) }
     ensures lent { IfSome result (λ x. StatementAt (pieces_of cursor.entry.tokens) x.0) }
 {
     match block {
-        Block::Outermost => {
-            outermost_at(cursor).map(|(said, left)| (LefStatement::Outside(said), left))
-        }
-        Block::Layer(name) => {
-            layer_at(name, cursor).map(|(said, left)| (LefStatement::InLayer(said), left))
-        }
-        Block::Site(name) => {
-            site_at(name, cursor).map(|(said, left)| (LefStatement::InSite(said), left))
-        }
-        Block::Via { name, stage, .. } => {
-            via_at(name, stage, cursor).map(|(said, left)| (LefStatement::InVia(said), left))
-        }
-        Block::Rule(name) => {
-            rule_at(name, cursor).map(|(said, left)| (LefStatement::InRule(said), left))
-        }
-        Block::RuleLayer { name, .. } => {
-            rule_layer_at(name, cursor).map(|(said, left)| (LefStatement::InRuleLayer(said), left))
-        }
-        Block::Macro(name) => {
-            macro_at(name, cursor).map(|(said, left)| (LefStatement::InMacro(said), left))
-        }
-        Block::Pin { name, .. } => {
-            pin_at(name, cursor).map(|(said, left)| (LefStatement::InPin(said), left))
-        }
-        Block::Port { has_layer, .. } => {
-            port_at(has_layer, cursor).map(|(said, left)| (LefStatement::InPort(said), left))
-        }
-        Block::Kept(block) => {
-            kept_block_at(block, cursor).map(|(said, left)| (LefStatement::InKept(said), left))
-        }
+        Block::Outermost => told(outermost_at(cursor), LefStatement::Outside),
+        Block::Layer(name) => told(layer_at(name, cursor), LefStatement::InLayer),
+        Block::Site(name) => told(site_at(name, cursor), LefStatement::InSite),
+        Block::Via { name, stage, .. } => told(via_at(name, stage, cursor), LefStatement::InVia),
+        Block::Rule(name) => told(rule_at(name, cursor), LefStatement::InRule),
+        Block::RuleLayer { name, .. } => told(
+            rule_layer_at(name, cursor),
+            LefStatement::InRuleLayer,
+        ),
+        Block::Macro(name) => told(macro_at(name, cursor), LefStatement::InMacro),
+        Block::Pin { name, .. } => told(pin_at(name, cursor), LefStatement::InPin),
+        Block::Port { has_layer, .. } => told(port_at(has_layer, cursor), LefStatement::InPort),
+        Block::Kept(block) => told(kept_block_at(block, cursor), LefStatement::InKept),
     }
 }
 
@@ -185,36 +150,115 @@ fn opened_in_pin<'l>(cell: &'l [u8], name: &'l [u8], statement: &PinStatement<'l
     }
 }
 
-/// The block after a statement that doesn't end it.
-fn opened<'l>(block: Block<'l>, statement: &LefStatement<'l>) -> Block<'l>
-    ensures { block_view result ≡ opened (block_view block.entry) (lef_view statement.now) }
+/// The block after a statement outside of all blocks.
+fn after_outside<'l>(block: Block<'l>, statement: &OutermostStatement<'l>) -> Block<'l>
+    ensures { block_view result ≡ block_after (block_view block.entry) (outside (outermost_view statement.now)) }
 {
-    match (block, statement) {
-        (Block::Outermost, LefStatement::Outside(statement)) => opened_outside(statement),
-        (Block::Via { rule, name, stage }, LefStatement::InVia(statement)) => Block::Via {
+    match block {
+        Block::Outermost => opened_outside(statement),
+        _ => block,
+    }
+}
+
+/// The block after a statement in a via.
+fn after_in_via<'l>(block: Block<'l>, statement: &ViaStatement<'l>) -> Block<'l>
+    ensures { block_view result ≡ block_after (block_view block.entry) (in_via (via_view statement.now)) }
+{
+    if statement.is_end() {
+        return block.parent();
+    }
+    match block {
+        Block::Via { rule, name, stage } => Block::Via {
             rule,
             name,
             stage: stage.after(statement),
         },
-        (Block::Rule(rule), LefStatement::InRule(statement)) => opened_in_rule(rule, statement),
-        (Block::Macro(cell), LefStatement::InMacro(statement)) => opened_in_macro(cell, statement),
-        (Block::Pin { cell, name }, LefStatement::InPin(statement)) => opened_in_pin(
-            cell, name, statement,
-        ),
-        (
-            Block::Port {
-                cell,
-                pin,
-                has_layer,
-            },
-            LefStatement::InPort(statement),
-        ) => Block::Port {
+        _ => block,
+    }
+}
+
+/// The block after a statement in a rule.
+fn after_in_rule<'l>(block: Block<'l>, statement: &RuleStatement<'l>) -> Block<'l>
+    ensures { block_view result ≡ block_after (block_view block.entry) (in_rule (rule_view statement.now)) }
+{
+    if statement.is_end() {
+        return block.parent();
+    }
+    match block {
+        Block::Rule(rule) => opened_in_rule(rule, statement),
+        _ => block,
+    }
+}
+
+/// The block after a statement in a macro.
+fn after_in_macro<'l>(block: Block<'l>, statement: &MacroStatement<'l>) -> Block<'l>
+    ensures { block_view result ≡ block_after (block_view block.entry) (in_macro (macro_view statement.now)) }
+{
+    if statement.is_end() {
+        return block.parent();
+    }
+    match block {
+        Block::Macro(cell) => opened_in_macro(cell, statement),
+        _ => block,
+    }
+}
+
+/// The block after a statement in a pin.
+fn after_in_pin<'l>(block: Block<'l>, statement: &PinStatement<'l>) -> Block<'l>
+    ensures { block_view result ≡ block_after (block_view block.entry) (in_pin (pin_view statement.now)) }
+{
+    if statement.is_end() {
+        return block.parent();
+    }
+    match block {
+        Block::Pin { cell, name } => opened_in_pin(cell, name, statement),
+        _ => block,
+    }
+}
+
+/// The block after a statement in a port.
+fn after_in_port<'l>(block: Block<'l>, statement: &PortStatement<'l>) -> Block<'l>
+    ensures { block_view result ≡ block_after (block_view block.entry) (in_port (port_view statement.now)) }
+{
+    if statement.is_end() {
+        return block.parent();
+    }
+    match block {
+        Block::Port {
+            cell,
+            pin,
+            has_layer,
+        } => Block::Port {
             cell,
             pin,
             has_layer: statement.layer_after(has_layer),
         },
-        (Block::Kept(kept), LefStatement::InKept(statement)) => Block::Kept(kept.after(statement)),
         _ => block,
+    }
+}
+
+/// The block after a statement in a block whose statements are kept.
+fn after_in_kept<'l>(block: Block<'l>, statement: &KeptStatement<'l>) -> Block<'l>
+    ensures { block_view result ≡ block_after (block_view block.entry) (in_kept (kept_view statement.now)) }
+{
+    if statement.is_end() {
+        return block.parent();
+    }
+    match block {
+        Block::Kept(kept) => Block::Kept(kept.after(statement)),
+        _ => block,
+    }
+}
+
+/// A part that was found, told as another one.
+#[inline(always)]
+fn told<S, T, B, F: FnOnce(S) -> T>(found: Option<(S, B)>, tell: F) -> Option<(T, B)>
+    requires { F.IsAlwaysCallable tell }
+    ensures { MatchOption found (result ≡ None) (λ x. IsSomeAnd result (λ r. F.post tell x.0 r.0 × (r.1 ≡ x.1))) }
+{
+    match found {
+        Some((said, left)) => Some((tell(said), left)),
+        None => None,
     }
 }
 
@@ -264,10 +308,17 @@ impl<'l> Statement<'l> for LefStatement<'l> {
     fn after(block: Block<'l>, statement: &LefStatement<'l>) -> Block<'l>
         ensures { block_view result ≡ model.block_after (block_view block.entry) (lef_view statement.now) }
     {
-        if statement.ends_block() {
-            block.parent()
-        } else {
-            opened(block, statement)
+        match statement {
+            LefStatement::Outside(statement) => after_outside(block, statement),
+            LefStatement::InLayer(statement) => block.after_end(statement.is_end()),
+            LefStatement::InSite(statement) => block.after_end(statement.is_end()),
+            LefStatement::InVia(statement) => after_in_via(block, statement),
+            LefStatement::InRule(statement) => after_in_rule(block, statement),
+            LefStatement::InRuleLayer(statement) => block.after_end(statement.is_end()),
+            LefStatement::InMacro(statement) => after_in_macro(block, statement),
+            LefStatement::InPin(statement) => after_in_pin(block, statement),
+            LefStatement::InPort(statement) => after_in_port(block, statement),
+            LefStatement::InKept(statement) => after_in_kept(block, statement),
         }
     }
 

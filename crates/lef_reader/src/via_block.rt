@@ -4,15 +4,15 @@ ghost use Rattle.std.specs.Prelude.{◌≡◌, IfSome};
 ghost use Rattle.form_meanings.specs.Words.{Gives};
 ghost use Rattle.statement_model.specs.Form.{◌◂◌, ◌⨟◌, read};
 ghost use Rattle.std.specs.Prelude.{codes};
-ghost use Rattle.lef_grammar.specs.Extents.{array_count, dec, extent, name};
+ghost use Rattle.lef_grammar.specs.Extents.{name};
 ghost use Rattle.lef_grammar.specs.ViaBlock.{continues_via, ends_via, four_distances, is_via_cuts, is_via_metals, is_via_shape, is_via_word, stage_after, via_corners, via_cuts, via_ending, via_metals, via_shape, via_statement};
-ghost use Rattle.lefdef_tokens.specs.Views.{IsLater, pieces_of, rest_of};
+ghost use Rattle.lefdef_tokens.specs.Views.{pieces_of, rest_of};
 ghost use Rattle.statement_reader.specs.Endings.{ending_view};
-ghost use Rattle.lef_reader.specs.Parts.{CornersAt, PairAt, corners_view, pair_view, with_rest};
+ghost use Rattle.lef_reader.specs.Parts.{CornersAt, corners_view, with_rest};
 ghost use Rattle.lef_reader.specs.ViaViews.{CutsAt, FourAt, MetalsAt, ShapeAt, ThreeAt, ViaAt, cuts_view, four_view, metals_view, shape_view, stage_view, three_view, via_view};
 
 use crate::parts::{
-    array_count_at, block_ending, dec_at, extent_at, kept_at, name_to_end_at, to_end_at,
+    WordKind, block_ending, kept_at, only_at, to_end_at, two_at, word_at, word_to_end_at,
 };
 use crate::point::{Corners, corners_at};
 use lefdef_tokens::{Cursor, Token, TokenRun, is_word};
@@ -169,7 +169,6 @@ fn is_via_metals(word: &[u8]) -> bool
 #[tactic(auto, unfolding(lef_grammar::specs::ViaBlock::via_corners))]
 fn via_corners_at<'l>(stage: ViaStage, cursor: Cursor<'l>) -> Option<(Corners<'l>, Cursor<'l>)>
     ensures gives { Gives (with_rest corners_view) result (read (via_corners (stage_view stage)) (rest_of cursor.entry)) }
-    ensures later { IfSome result (λ x. IsLater cursor.entry x.1) }
     ensures lent { IfSome result (λ x. CornersAt (pieces_of cursor.entry.tokens) x.0) }
 {
     match stage {
@@ -182,12 +181,11 @@ fn via_corners_at<'l>(stage: ViaStage, cursor: Cursor<'l>) -> Option<(Corners<'l
 #[tactic(auto, unfolding(lef_grammar::specs::ViaBlock::via_shape))]
 fn shape_at<'l>(stage: ViaStage, cursor: Cursor<'l>) -> Option<(ViaShape<'l>, Cursor<'l>)>
     ensures gives { Gives (with_rest shape_view) result (read (via_shape (stage_view stage)) (rest_of cursor.entry)) }
-    ensures later { IfSome result (λ x. IsLater cursor.entry x.1) }
     ensures lent { IfSome result (λ x. ShapeAt (pieces_of cursor.entry.tokens) x.0) }
 {
     let (word, later) = cursor.next()?;
     if is_word(word.bytes, b"LAYER") {
-        let ((name, others), cursor) = name_to_end_at(later)?;
+        let ((name, others), cursor) = word_to_end_at(WordKind::Name, later)?;
         Some((ViaShape::Layer(name, others), cursor))
     } else if is_word(word.bytes, b"RECT") {
         let (corners, cursor) = via_corners_at(stage, later)?;
@@ -200,49 +198,24 @@ fn shape_at<'l>(stage: ViaStage, cursor: Cursor<'l>) -> Option<(ViaShape<'l>, Cu
     }
 }
 
-/// `dec dec ;`, neither below 0
-fn two_extents_at<'l>(cursor: Cursor<'l>) -> Option<((Token<'l>, Token<'l>), Cursor<'l>)>
-    ensures gives { Gives (with_rest pair_view) result (read (extent ⨟ extent ◂ codes ";") (rest_of cursor.entry)) }
-    ensures later { IfSome result (λ x. IsLater cursor.entry x.1) }
-    ensures lent { IfSome result (λ x. PairAt (pieces_of cursor.entry.tokens) x.0) }
-{
-    let (x, cursor) = extent_at(cursor)?;
-    let (y, cursor) = extent_at(cursor)?;
-    let cursor = cursor.key(b";")?;
-    Some(((x, y), cursor))
-}
-
-/// `int int ;`, of rows and columns
-fn array_at<'l>(cursor: Cursor<'l>) -> Option<((Token<'l>, Token<'l>), Cursor<'l>)>
-    ensures gives { Gives (with_rest pair_view) result (read (array_count ⨟ array_count ◂ codes ";") (rest_of cursor.entry)) }
-    ensures later { IfSome result (λ x. IsLater cursor.entry x.1) }
-    ensures lent { IfSome result (λ x. PairAt (pieces_of cursor.entry.tokens) x.0) }
-{
-    let (rows, cursor) = array_count_at(cursor)?;
-    let (columns, cursor) = array_count_at(cursor)?;
-    let cursor = cursor.key(b";")?;
-    Some(((rows, columns), cursor))
-}
-
 /// `VIARULE`, `CUTSIZE`, `CUTSPACING` or `ROWCOL`
 #[tactic(auto, unfolding(lef_grammar::specs::ViaBlock::via_cuts))]
 fn cuts_at<'l>(cursor: Cursor<'l>) -> Option<(ViaCuts<'l>, Cursor<'l>)>
     ensures gives { Gives (with_rest cuts_view) result (read via_cuts (rest_of cursor.entry)) }
-    ensures later { IfSome result (λ x. IsLater cursor.entry x.1) }
     ensures lent { IfSome result (λ x. CutsAt (pieces_of cursor.entry.tokens) x.0) }
 {
     let (word, later) = cursor.next()?;
     if is_word(word.bytes, b"VIARULE") {
-        let (name, cursor) = later.name()?;
-        Some((ViaCuts::Rule(name), cursor.key(b";")?))
+        let (name, cursor) = only_at(WordKind::Name, later)?;
+        Some((ViaCuts::Rule(name), cursor))
     } else if is_word(word.bytes, b"CUTSIZE") {
-        let ((x, y), cursor) = two_extents_at(later)?;
+        let ((x, y), cursor) = two_at(WordKind::Extent, later)?;
         Some((ViaCuts::Size(x, y), cursor))
     } else if is_word(word.bytes, b"CUTSPACING") {
-        let ((x, y), cursor) = two_extents_at(later)?;
+        let ((x, y), cursor) = two_at(WordKind::Extent, later)?;
         Some((ViaCuts::Spacing(x, y), cursor))
     } else if is_word(word.bytes, b"ROWCOL") {
-        let ((rows, columns), cursor) = array_at(later)?;
+        let ((rows, columns), cursor) = two_at(WordKind::ArrayCount, later)?;
         Some((ViaCuts::RowCol(rows, columns), cursor))
     } else {
         None
@@ -252,13 +225,10 @@ fn cuts_at<'l>(cursor: Cursor<'l>) -> Option<(ViaCuts<'l>, Cursor<'l>)>
 /// `name name name ;`
 fn layers_at<'l>(cursor: Cursor<'l>) -> Option<(ViaLayers<'l>, Cursor<'l>)>
     ensures gives { Gives (with_rest three_view) result (read (name ⨟ name ⨟ name ◂ codes ";") (rest_of cursor.entry)) }
-    ensures later { IfSome result (λ x. IsLater cursor.entry x.1) }
     ensures lent { IfSome result (λ x. ThreeAt (pieces_of cursor.entry.tokens) x.0) }
 {
     let (bottom, cursor) = cursor.name()?;
-    let (cut, cursor) = cursor.name()?;
-    let (top, cursor) = cursor.name()?;
-    let cursor = cursor.key(b";")?;
+    let ((cut, top), cursor) = two_at(WordKind::Name, cursor)?;
     Some((ViaLayers { bottom, cut, top }, cursor))
 }
 
@@ -266,14 +236,11 @@ fn layers_at<'l>(cursor: Cursor<'l>) -> Option<(ViaLayers<'l>, Cursor<'l>)>
 #[tactic(auto, unfolding(lef_grammar::specs::ViaBlock::four_distances))]
 fn four_at<'l>(cursor: Cursor<'l>) -> Option<(MetalDistances<'l>, Cursor<'l>)>
     ensures gives { Gives (with_rest four_view) result (read four_distances (rest_of cursor.entry)) }
-    ensures later { IfSome result (λ x. IsLater cursor.entry x.1) }
     ensures lent { IfSome result (λ x. FourAt (pieces_of cursor.entry.tokens) x.0) }
 {
-    let (bottom_x, cursor) = dec_at(cursor)?;
-    let (bottom_y, cursor) = dec_at(cursor)?;
-    let (top_x, cursor) = dec_at(cursor)?;
-    let (top_y, cursor) = dec_at(cursor)?;
-    let cursor = cursor.key(b";")?;
+    let (bottom_x, cursor) = word_at(WordKind::Distance, cursor)?;
+    let (bottom_y, cursor) = word_at(WordKind::Distance, cursor)?;
+    let ((top_x, top_y), cursor) = two_at(WordKind::Distance, cursor)?;
     let distances = MetalDistances {
         bottom_x,
         bottom_y,
@@ -283,23 +250,10 @@ fn four_at<'l>(cursor: Cursor<'l>) -> Option<(MetalDistances<'l>, Cursor<'l>)>
     Some((distances, cursor))
 }
 
-/// `dec dec ;`
-fn two_distances_at<'l>(cursor: Cursor<'l>) -> Option<((Token<'l>, Token<'l>), Cursor<'l>)>
-    ensures gives { Gives (with_rest pair_view) result (read (dec ⨟ dec ◂ codes ";") (rest_of cursor.entry)) }
-    ensures later { IfSome result (λ x. IsLater cursor.entry x.1) }
-    ensures lent { IfSome result (λ x. PairAt (pieces_of cursor.entry.tokens) x.0) }
-{
-    let (x, cursor) = dec_at(cursor)?;
-    let (y, cursor) = dec_at(cursor)?;
-    let cursor = cursor.key(b";")?;
-    Some(((x, y), cursor))
-}
-
 /// `LAYERS`, `ENCLOSURE`, `ORIGIN` or `OFFSET`
 #[tactic(auto, unfolding(lef_grammar::specs::ViaBlock::via_metals))]
 fn metals_at<'l>(cursor: Cursor<'l>) -> Option<(ViaMetals<'l>, Cursor<'l>)>
     ensures gives { Gives (with_rest metals_view) result (read via_metals (rest_of cursor.entry)) }
-    ensures later { IfSome result (λ x. IsLater cursor.entry x.1) }
     ensures lent { IfSome result (λ x. MetalsAt (pieces_of cursor.entry.tokens) x.0) }
 {
     let (word, later) = cursor.next()?;
@@ -310,7 +264,7 @@ fn metals_at<'l>(cursor: Cursor<'l>) -> Option<(ViaMetals<'l>, Cursor<'l>)>
         let (distances, cursor) = four_at(later)?;
         Some((ViaMetals::Enclosure(distances), cursor))
     } else if is_word(word.bytes, b"ORIGIN") {
-        let ((x, y), cursor) = two_distances_at(later)?;
+        let ((x, y), cursor) = two_at(WordKind::Distance, later)?;
         Some((ViaMetals::Origin(x, y), cursor))
     } else if is_word(word.bytes, b"OFFSET") {
         let (distances, cursor) = four_at(later)?;
@@ -328,7 +282,6 @@ pub(crate) fn via_at<'l>(
     cursor: Cursor<'l>,
 ) -> Option<(ViaStatement<'l>, Cursor<'l>)>
     ensures gives { Gives (with_rest via_view) result (read (via_statement name.now (stage_view stage)) (rest_of cursor.entry)) }
-    ensures later { IfSome result (λ x. IsLater cursor.entry x.1) }
     ensures lent { IfSome result (λ x. ViaAt (pieces_of cursor.entry.tokens) x.0) }
 {
     let (word, later) = cursor.next()?;

@@ -1,10 +1,9 @@
 -- Tracks and grids of the program as those of the definitions, and which tokens they are.
-use Rattle.std.specs.Prelude.{ℕ, List}
+use Rattle.std.specs.Prelude.{List}
 use Rattle.def_grammar.specs.Grids.{Axis, along_x, along_y, GcellGrid, GridLines, Tracks}
 use Rattle.statement_model.specs.Tokens as definitions
 use Rattle.lefdef_tokens.specs.Places.{RunAt, StandsAt, past}
 use Rattle.lefdef_tokens.specs.Views.{words_of}
-use Rattle.lefdef_tokens.specs.declared.token.Token.{Token}
 use Rattle.place_parts.specs.declared.grids.Axis as code_axis
 use Rattle.place_parts.specs.declared.grids.Axis.TheVariants.{X, Y}
 use Rattle.place_parts.specs.declared.grids.GcellGridParts.{GcellGridParts}
@@ -18,9 +17,6 @@ axis_view Y = along_y
 abbrev pub tracks_view : TracksParts → Tracks
 tracks_view t = record { axis = axis_view t.axis; start = t.start.bytes.now; count = t.count.bytes.now; step = t.step.bytes.now; rest = words_of t.rest }
 
-abbrev pub two_words_view : Token × Token → List ℕ × List ℕ
-two_words_view p = (p.0.bytes.now, p.1.bytes.now)
-
 abbrev pub lines_view : code.GridLines → GridLines
 lines_view g = record { start = g.start.bytes.now; count = g.count.bytes.now; step = g.step.bytes.now }
 
@@ -30,10 +26,6 @@ gcell_grid_view g = record { axis = axis_view g.axis; lines = lines_view g.lines
 -- of these tokens, the second is where the first track stands, the fourth how many there are, and the sixth their space
 abbrev pub TracksAt : List definitions.Token → TracksParts → Type 0
 TracksAt ps t = StandsAt (past 1 ps) t.start × StandsAt (past 3 ps) t.count × StandsAt (past 5 ps) t.step × RunAt (past 6 ps) t.rest
-
--- count STEP step
-abbrev pub TwoWordsAt : List definitions.Token → Token × Token → Type 0
-TwoWordsAt ps p = StandsAt ps p.0 × StandsAt (past 2 ps) p.1
 
 -- start DO count STEP step
 abbrev pub LinesAt : List definitions.Token → code.GridLines → Type 0

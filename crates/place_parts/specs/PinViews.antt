@@ -1,13 +1,10 @@
 -- Entries of PINS of the program as those of the definitions, and which tokens they are.
 use Rattle.std.specs.Prelude.{List}
-use Rattle.design_model.specs.declared.geometry.Orient.{Orient}
-use Rattle.design_model.specs.declared.geometry.Status.{Status}
 use Rattle.form_meanings.specs.Words.{is_plus}
 use Rattle.form_meanings.specs.Meaning.{items}
 use Rattle.statement_model.specs.Form.{read, spell}
 use Rattle.statement_model.specs.Tokens.{Token}
 use Rattle.def_grammar.specs.Clauses.{mask}
-use Rattle.def_grammar.specs.Parts.{Coordinates}
 use Rattle.def_grammar.specs.Pins.{Clearance, clearance, Pin, PinClause, PinRectangle, PinVia, design_rule_width, no_clearance, pin_clause, pin_has_polygon, pin_has_rectangle, pin_has_via, pin_kept, pin_net, pin_placed, pin_port, spacing}
 use Rattle.lefdef_tokens.specs.Places.{RunAt, StandsAt, behind, past}
 use Rattle.lefdef_tokens.specs.Views.{rest_of, words_of}
@@ -15,7 +12,6 @@ use Rattle.statement_reader.specs.PartViews.{PartsAt}
 use Rattle.statement_reader.specs.declared.parts.Parts.{Parts}
 use Rattle.def_parts.specs.ClauseViews.{KeptAt, MaskAt, kept_view, mask_view}
 use Rattle.def_parts.specs.PointViews.{CornersAt, PointAt, corners_view, point_view}
-use Rattle.place_parts.specs.declared.components.Placement.{Placement}
 use Rattle.place_parts.specs.declared.pins.Clearance as code_clearance
 use Rattle.place_parts.specs.declared.pins.Clearance.TheVariants as clearances
 use Rattle.place_parts.specs.declared.pins.PinClause as code
@@ -23,9 +19,6 @@ use Rattle.place_parts.specs.declared.pins.PinClause.TheVariants as clauses
 use Rattle.place_parts.specs.declared.pins.PinParts.{PinParts}
 use Rattle.place_parts.specs.declared.pins.PinRectangle as code_rectangle
 use Rattle.place_parts.specs.declared.pins.PinVia as code_via
-
-abbrev pub placement_view : Placement → Status × (Coordinates × Orient)
-placement_view p = (p.status, (point_view p.at, p.orient))
 
 abbrev pub clearance_view : code_clearance.Clearance → Clearance
 clearance_view (clearances.Spacing n) = spacing n.bytes.now

@@ -9,6 +9,7 @@ ghost use Rattle.lefdef_tokens.specs.Views.{IsLater, pieces_of, rest_of};
 ghost use Rattle.def_parts.specs.PointViews.{with_rest};
 ghost use Rattle.place_parts.specs.BlockageViews.{blockage_clause_view, blockage_entry_view, blockage_kind_view, blockage_shape_view, blockage_view, BlockageBodyAt, BlockageClauseAt, BlockageEntryAt, BlockagePartsAt, BlockageKindAt, BlockageShapeAt};
 
+use crate::keywords::after_word;
 use def_parts::clauses::KeptClause;
 use def_parts::points::{Corners, Polygon, corners_at, polygon_at};
 use lefdef_tokens::{Cursor, PartEnd, Token, TokenRun, is_plain, is_plus, is_stop, is_word};
@@ -54,20 +55,13 @@ pub enum BlockageEntry<'t> {
 /// A clause ends before the next `+`, `;` or shape.
 struct ShapeOrStop;
 
-/// Whether a word begins a shape.
-fn is_shape(word: &[u8]) -> bool
-    ensures { result ≡ is_shape word.now }
-{
-    is_word(word, b"RECT") || is_word(word, b"POLYGON")
-}
-
 impl PartEnd for ShapeOrStop {
     ghost test = { is_shape_or_stop };
 
     fn is_at(word: &[u8]) -> bool
         ensures { result ≡ is_shape_or_stop word.now }
     {
-        is_stop(word) || is_shape(word)
+        is_stop(word) || BlockageShape::begins(word)
     }
 }
 
@@ -80,29 +74,11 @@ fn blockage_kind_at<'t>(cursor: Cursor<'t>) -> Option<(BlockageKind<'t>, Cursor<
     ensures lent { IfSome result (λ x. BlockageKindAt (pieces_of cursor.entry.tokens) x.0) }
 {
     if cursor.next_is(b"LAYER") {
-        let (layer, cursor) = cursor.key(b"LAYER")?.name()?;
+        let (layer, cursor) = or_none!(cursor.name_behind(b"LAYER"));
         Some((BlockageKind::Layer(layer), cursor))
     } else {
-        let cursor = cursor.key(b"PLACEMENT")?;
-        Some((BlockageKind::Placement, cursor))
+        Some((BlockageKind::Placement, or_none!(cursor.key(b"PLACEMENT"))))
     }
-}
-
-/// `+ word rest`, where the word begins no shape, and the rest goes up to the first shape
-#[tactic(auto, unfolding(def_grammar::specs::Blockages::blockage_clause))]
-fn blockage_clause_at<'t>(cursor: Cursor<'t>) -> Option<(BlockageClause<'t>, Cursor<'t>)>
-    ensures gives { Gives (with_rest blockage_clause_view) result (read blockage_clause (rest_of cursor.entry)) }
-    ensures later { IfSome result (λ x. IsLater cursor.entry x.1) }
-    ensures left { IfSome result (λ x. pieces_of x.1.tokens ≡ behind (spell blockage_clause (blockage_clause_view x.0)) (pieces_of cursor.entry.tokens)) }
-    ensures lent { IfSome result (λ x. BlockageClauseAt (pieces_of cursor.entry.tokens) x.0) }
-{
-    let (keyword, cursor) = cursor.key(b"+")?.next()?;
-    if !is_plain(keyword.bytes) || is_shape(keyword.bytes) {
-        return None;
-    }
-    let (rest, cursor) = cursor.up_to::<ShapeOrStop>();
-    let kept = KeptClause { keyword, rest };
-    Some((BlockageClause { kept }, cursor))
 }
 
 impl<'t> Part<'t> for BlockageClause<'t> {
@@ -128,30 +104,21 @@ impl<'t> Part<'t> for BlockageClause<'t> {
         is_plus(word)
     }
 
+    /// `+ word rest`, where the word begins no shape, and the rest goes up to the first shape
+    #[tactic(auto, unfolding(def_grammar::specs::Blockages::blockage_clause))]
     fn read(cursor: Cursor<'t>) -> Option<(BlockageClause<'t>, Cursor<'t>)>
         ensures gives { Gives (with_rest blockage_clause_view) result (read blockage_clause (rest_of cursor.entry)) }
         ensures later { IfSome result (λ x. IsLater cursor.entry x.1) }
         ensures left { IfSome result (λ x. pieces_of x.1.tokens ≡ behind (spell blockage_clause (blockage_clause_view x.0)) (pieces_of cursor.entry.tokens)) }
         ensures lent { IfSome result (λ x. BlockageClauseAt (pieces_of cursor.entry.tokens) x.0) }
     {
-        blockage_clause_at(cursor)
-    }
-}
-
-/// `RECT` and two points, or `POLYGON` and three points and more
-#[tactic(auto, unfolding(def_grammar::specs::Blockages::blockage_shape, def_grammar::specs::Points::corners, def_grammar::specs::Points::later_point, def_grammar::specs::Parts::point))]
-fn blockage_shape_at<'t>(cursor: Cursor<'t>) -> Option<(BlockageShape<'t>, Cursor<'t>)>
-    ensures gives { Gives (with_rest blockage_shape_view) result (read blockage_shape (rest_of cursor.entry)) }
-    ensures later { IfSome result (λ x. IsLater cursor.entry x.1) }
-    ensures left { IfSome result (λ x. pieces_of x.1.tokens ≡ behind (spell blockage_shape (blockage_shape_view x.0)) (pieces_of cursor.entry.tokens)) }
-    ensures lent { IfSome result (λ x. BlockageShapeAt (pieces_of cursor.entry.tokens) x.0) }
-{
-    if cursor.next_is(b"RECT") {
-        let (corners, cursor) = corners_at(cursor.key(b"RECT")?)?;
-        Some((BlockageShape::Rectangle(corners), cursor))
-    } else {
-        let (polygon, cursor) = polygon_at(cursor.key(b"POLYGON")?)?;
-        Some((BlockageShape::Polygon(polygon), cursor))
+        let (keyword, cursor) = or_none!(or_none!(cursor.key(b"+")).next());
+        if !is_plain(keyword.bytes) || BlockageShape::begins(keyword.bytes) {
+            return None;
+        }
+        let (rest, cursor) = cursor.up_to::<ShapeOrStop>();
+        let kept = KeptClause { keyword, rest };
+        Some((BlockageClause { kept }, cursor))
     }
 }
 
@@ -175,31 +142,41 @@ impl<'t> Part<'t> for BlockageShape<'t> {
     fn begins(word: &[u8]) -> bool
         ensures { result ≡ is_shape word.now }
     {
-        is_shape(word)
+        is_word(word, b"RECT") || is_word(word, b"POLYGON")
     }
 
+    /// `RECT` and two points, or `POLYGON` and three points and more
+    #[tactic(auto, unfolding(def_grammar::specs::Blockages::blockage_shape, def_grammar::specs::Points::corners, def_grammar::specs::Points::later_point, def_grammar::specs::Parts::point))]
     fn read(cursor: Cursor<'t>) -> Option<(BlockageShape<'t>, Cursor<'t>)>
         ensures gives { Gives (with_rest blockage_shape_view) result (read blockage_shape (rest_of cursor.entry)) }
         ensures later { IfSome result (λ x. IsLater cursor.entry x.1) }
         ensures left { IfSome result (λ x. pieces_of x.1.tokens ≡ behind (spell blockage_shape (blockage_shape_view x.0)) (pieces_of cursor.entry.tokens)) }
         ensures lent { IfSome result (λ x. BlockageShapeAt (pieces_of cursor.entry.tokens) x.0) }
     {
-        blockage_shape_at(cursor)
+        if let Some(behind) = after_word(cursor, b"RECT") {
+            let (corners, cursor) = or_none!(corners_at(behind));
+            return Some((BlockageShape::Rectangle(corners), cursor));
+        }
+        let (polygon, cursor) = or_none!(polygon_at(or_none!(cursor.key(b"POLYGON"))));
+        Some((BlockageShape::Polygon(polygon), cursor))
     }
 }
 
-/// `LAYER name` or `PLACEMENT`, `(+ word rest)*`, and one shape or more
+/// `LAYER name` or `PLACEMENT`, `(+ word rest)*`, and one shape or more, before the `;`
 #[tactic(auto, unfolding(def_grammar::specs::Blockages::blockage), using(lefdef_tokens::proofs::PlaceLemmas::behind_append))]
 fn blockage_at<'t>(cursor: Cursor<'t>) -> Option<(BlockageParts<'t>, Cursor<'t>)>
-    ensures gives { Gives (with_rest blockage_view) result (read blockage (rest_of cursor.entry)) }
+    ensures gives { Gives (with_rest blockage_view) result (read (closed is_semicolon blockage) (rest_of cursor.entry)) }
     ensures later { IfSome result (λ x. IsLater cursor.entry x.1) }
     ensures left { IfSome result (λ x. pieces_of x.1.tokens ≡ behind (spell blockage (blockage_view x.0)) (pieces_of cursor.entry.tokens)) }
     ensures lent { IfSome result (λ x. BlockagePartsAt (pieces_of cursor.entry.tokens) x.0) }
 {
-    let (kind, cursor) = blockage_kind_at(cursor)?;
-    let (clauses, cursor) = read_parts::<BlockageClause<'t>>(cursor)?;
-    let (first, cursor) = blockage_shape_at(cursor)?;
-    let (others, cursor) = read_parts::<BlockageShape<'t>>(cursor)?;
+    let (kind, cursor) = or_none!(blockage_kind_at(cursor));
+    let (clauses, cursor) = or_none!(read_parts::<BlockageClause<'t>>(cursor));
+    let (first, cursor) = or_none!(BlockageShape::read(cursor));
+    let (others, cursor) = or_none!(read_parts::<BlockageShape<'t>>(cursor));
+    if !cursor.next_is(b";") {
+        return None;
+    }
     let parts = BlockageParts {
         kind,
         clauses,
@@ -209,21 +186,6 @@ fn blockage_at<'t>(cursor: Cursor<'t>) -> Option<(BlockageParts<'t>, Cursor<'t>)
     Some((parts, cursor))
 }
 
-/// A blockage before the `;`
-fn whole_blockage_at<'t>(cursor: Cursor<'t>) -> Option<(BlockageParts<'t>, Cursor<'t>)>
-    ensures gives { Gives (with_rest blockage_view) result (read (closed is_semicolon blockage) (rest_of cursor.entry)) }
-    ensures later { IfSome result (λ x. IsLater cursor.entry x.1) }
-    ensures left { IfSome result (λ x. pieces_of x.1.tokens ≡ behind (spell (closed is_semicolon blockage) (blockage_view x.0)) (pieces_of cursor.entry.tokens)) }
-    ensures lent { IfSome result (λ x. BlockagePartsAt (pieces_of cursor.entry.tokens) x.0) }
-{
-    let (parts, cursor) = blockage_at(cursor)?;
-    if cursor.next_is(b";") {
-        Some((parts, cursor))
-    } else {
-        None
-    }
-}
-
 /// A blockage, or the tokens before the `;` where they are none
 fn blockage_or_tokens_at<'t>(cursor: Cursor<'t>) -> (BlockageEntry<'t>, Cursor<'t>)
     ensures gives { read (or_else (closed is_semicolon blockage) (upto is_semicolon)) (rest_of cursor.entry) ≡ Some (with_rest blockage_entry_view result) }
@@ -231,7 +193,7 @@ fn blockage_or_tokens_at<'t>(cursor: Cursor<'t>) -> (BlockageEntry<'t>, Cursor<'
     ensures left { pieces_of result.1.tokens ≡ behind (spell (or_else (closed is_semicolon blockage) (upto is_semicolon)) (blockage_entry_view result.0)) (pieces_of cursor.entry.tokens) }
     ensures lent { BlockageBodyAt (pieces_of cursor.entry.tokens) result.0 }
 {
-    match whole_blockage_at(cursor) {
+    match blockage_at(cursor) {
         Some((parts, later)) => (BlockageEntry::Blocks(parts), later),
         None => {
             let (tokens, later) = cursor.up_to_semicolon();
@@ -249,8 +211,8 @@ pub fn blockage_entry_at<'t>(cursor: Cursor<'t>) -> Option<(BlockageEntry<'t>, C
     ensures left { IfSome result (λ x. pieces_of x.1.tokens ≡ behind (spell blockage_form (blockage_entry_view x.0)) (pieces_of cursor.entry.tokens)) }
     ensures lent { IfSome result (λ x. BlockageEntryAt (pieces_of cursor.entry.tokens) x.0) }
 {
-    let cursor = cursor.key(b"-")?;
+    let cursor = or_none!(cursor.key(b"-"));
     let (entry, cursor) = blockage_or_tokens_at(cursor);
-    let cursor = cursor.key(b";")?;
+    let cursor = or_none!(cursor.key(b";"));
     Some((entry, cursor))
 }

@@ -46,12 +46,11 @@ impl<'t> ComponentParts<'t> {
         ensures left { IfSome result (λ x. pieces_of x.1.tokens ≡ behind (spell component_form (component_view x.0)) (pieces_of cursor.entry.tokens)) }
         ensures lent { IfSome result (λ x. ComponentAt (pieces_of cursor.entry.tokens) x.0) }
     {
-        let cursor = cursor.key(b"-")?;
-        let (name, cursor) = cursor.name()?;
-        let (cell, cursor) = cursor.name()?;
+        let (name, cursor) = or_none!(cursor.name_behind(b"-"));
+        let (cell, cursor) = or_none!(cursor.name());
         let (rest, cursor) = cursor.rest();
-        let ((clauses, noted), cursor) = noted_clauses_at(cursor)?;
-        let cursor = cursor.key(b";")?;
+        let ((clauses, noted), cursor) = or_none!(noted_clauses_at(cursor));
+        let cursor = or_none!(cursor.key(b";"));
         let parts = ComponentParts {
             name,
             cell,

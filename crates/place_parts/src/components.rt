@@ -49,42 +49,9 @@ pub(crate) fn spot_at<'t>(cursor: Cursor<'t>) -> Option<((Coordinates<'t>, Orien
     ensures left { IfSome result (λ x. pieces_of x.1.tokens ≡ past 5 (pieces_of cursor.entry.tokens)) }
     ensures lent { IfSome result (λ x. PointAt (pieces_of cursor.entry.tokens) x.0.0) }
 {
-    let (at, cursor) = point_at(cursor)?;
-    let (orient, cursor) = orient_at(cursor)?;
+    let (at, cursor) = or_none!(point_at(cursor));
+    let (orient, cursor) = or_none!(orient_at(cursor));
     Some(((at, orient), cursor))
-}
-
-/// `+` and a clause by its word
-#[tactic(auto, unfolding(def_grammar::specs::Components::clause, def_grammar::specs::Components::placement, def_grammar::specs::Parts::point, def_grammar::specs::Parts::orient))]
-pub(crate) fn clause_at<'t>(cursor: Cursor<'t>) -> Option<(Clause<'t>, Cursor<'t>)>
-    ensures gives { Gives (with_rest clause_view) result (read clause (rest_of cursor.entry)) }
-    ensures later { IfSome result (λ x. IsLater cursor.entry x.1) }
-    ensures left { IfSome result (λ x. pieces_of x.1.tokens ≡ behind (spell clause (clause_view x.0)) (pieces_of cursor.entry.tokens)) }
-    ensures lent { IfSome result (λ x. ClauseAt (pieces_of cursor.entry.tokens) x.0) }
-{
-    let (word, cursor) = cursor.key(b"+")?.next()?;
-    if let Some(status) = Status::of_word(word.bytes) {
-        let ((at, orient), cursor) = spot_at(cursor)?;
-        if !cursor.next_is_stop() {
-            return None;
-        }
-        let placement = Placement { status, at, orient };
-        Some((Clause::Placed(placement), cursor))
-    } else if is_word(word.bytes, b"UNPLACED") {
-        let (rest, cursor) = cursor.rest();
-        Some((Clause::Unplaced(rest), cursor))
-    } else if is_word(word.bytes, b"REGION") {
-        let (name, cursor) = cursor.name()?;
-        if !cursor.next_is_stop() {
-            return None;
-        }
-        Some((Clause::Region(name), cursor))
-    } else if is_plain(word.bytes) {
-        let (rest, cursor) = cursor.rest();
-        Some((Clause::Other(word, rest), cursor))
-    } else {
-        None
-    }
 }
 
 impl<'t> Part<'t> for Clause<'t> {
@@ -110,12 +77,36 @@ impl<'t> Part<'t> for Clause<'t> {
         is_plus(word)
     }
 
+    /// `+` and a clause by its word
+    #[tactic(auto, unfolding(def_grammar::specs::Components::clause, def_grammar::specs::Components::placement, def_grammar::specs::Parts::point, def_grammar::specs::Parts::orient))]
     fn read(cursor: Cursor<'t>) -> Option<(Clause<'t>, Cursor<'t>)>
         ensures gives { Gives (with_rest clause_view) result (read clause (rest_of cursor.entry)) }
         ensures later { IfSome result (λ x. IsLater cursor.entry x.1) }
         ensures left { IfSome result (λ x. pieces_of x.1.tokens ≡ behind (spell clause (clause_view x.0)) (pieces_of cursor.entry.tokens)) }
         ensures lent { IfSome result (λ x. ClauseAt (pieces_of cursor.entry.tokens) x.0) }
     {
-        clause_at(cursor)
+        let (word, cursor) = or_none!(or_none!(cursor.key(b"+")).next());
+        if let Some(status) = Status::of_word(word.bytes) {
+            let ((at, orient), cursor) = or_none!(spot_at(cursor));
+            if !cursor.next_is_stop() {
+                return None;
+            }
+            let placement = Placement { status, at, orient };
+            Some((Clause::Placed(placement), cursor))
+        } else if is_word(word.bytes, b"UNPLACED") {
+            let (rest, cursor) = cursor.rest();
+            Some((Clause::Unplaced(rest), cursor))
+        } else if is_word(word.bytes, b"REGION") {
+            let (name, cursor) = or_none!(cursor.name());
+            if !cursor.next_is_stop() {
+                return None;
+            }
+            Some((Clause::Region(name), cursor))
+        } else if is_plain(word.bytes) {
+            let (rest, cursor) = cursor.rest();
+            Some((Clause::Other(word, rest), cursor))
+        } else {
+            None
+        }
     }
 }

@@ -30,10 +30,10 @@ pub fn die_area_at<'t>(cursor: Cursor<'t>) -> Option<(DieAreaParts<'t>, Cursor<'
     ensures left { IfSome result (λ x. pieces_of x.1.tokens ≡ behind (spell die_area_statement (die_area_view x.0)) (pieces_of cursor.entry.tokens)) }
     ensures lent { IfSome result (λ x. DieAreaAt (pieces_of cursor.entry.tokens) x.0) }
 {
-    let (first, cursor) = point_at(cursor)?;
-    let (second, cursor) = later_point_at(cursor)?;
-    let (others, cursor) = read_parts::<LaterPoint<'t>>(cursor)?;
-    let cursor = cursor.key(b";")?;
+    let (first, cursor) = or_none!(point_at(cursor));
+    let (second, cursor) = or_none!(later_point_at(cursor));
+    let (others, cursor) = or_none!(read_parts::<LaterPoint<'t>>(cursor));
+    let cursor = or_none!(cursor.key(b";"));
     let parts = DieAreaParts {
         first,
         second: second.at,

@@ -1,20 +1,20 @@
 //! TRACKS and GCELLGRID (LEF/DEF 5.8 Language Reference, "Tracks" and "GCell Grid").
 
-ghost use Rattle.std.specs.Prelude.{◌≡◌, ◌+◌, IfSome, codes, length};
+ghost use Rattle.std.specs.Prelude.{◌≡◌, IfSome};
 ghost use Rattle.form_meanings.specs.Words.{Gives};
-ghost use Rattle.statement_model.specs.Form.{number, one_of, read, spell, ◌▸◌, ◌⨟◌};
-ghost use Rattle.def_grammar.specs.Limits.{is_lines, is_size};
+ghost use Rattle.statement_model.specs.Form.{one_of, read, spell};
 ghost use Rattle.def_grammar.specs.Grids.{axes, axis_word, gcell_grid_statement, grid_lines, tracks_statement};
 ghost use Rattle.lefdef_tokens.specs.Places.{behind, past};
 ghost use Rattle.lefdef_tokens.specs.Views.{IsLater, pieces_of, rest_of};
 ghost use Rattle.def_parts.specs.PointViews.{with_rest};
-ghost use Rattle.place_parts.specs.GridViews.{axis_view, gcell_grid_view, lines_view, tracks_view, two_words_view, GcellGridAt, LinesAt, TracksAt, TwoWordsAt};
+ghost use Rattle.place_parts.specs.GridViews.{axis_view, gcell_grid_view, lines_view, tracks_view, GcellGridAt, LinesAt, TracksAt};
 
+use crate::keywords::int_behind;
 use def_parts::number::{int_at, is_in_range, lines_at, size_at};
 use lefdef_tokens::{Cursor, Token, TokenRun, is_word};
 
 /// The axis along which lines follow each other: lines along `X` stand upright.
-#[derive(Clone, Copy, Debug, PartialEq, Eq)]
+#[derive(Clone, Copy)]
 pub enum Axis {
     X,
     Y,
@@ -53,7 +53,7 @@ fn axis_at<'t>(cursor: Cursor<'t>) -> Option<(Axis, Cursor<'t>)>
     ensures later { IfSome result (λ x. IsLater cursor.entry x.1) }
     ensures left { IfSome result (λ x. pieces_of x.1.tokens ≡ past 1 (pieces_of cursor.entry.tokens)) }
 {
-    let (word, cursor) = cursor.next()?;
+    let (word, cursor) = or_none!(cursor.next());
     if is_word(word.bytes, b"X") {
         Some((Axis::X, cursor))
     } else if is_word(word.bytes, b"Y") {
@@ -71,12 +71,12 @@ pub fn tracks_at<'t>(cursor: Cursor<'t>) -> Option<(TracksParts<'t>, Cursor<'t>)
     ensures left { IfSome result (λ x. pieces_of x.1.tokens ≡ behind (spell tracks_statement (tracks_view x.0)) (pieces_of cursor.entry.tokens)) }
     ensures lent { IfSome result (λ x. TracksAt (pieces_of cursor.entry.tokens) x.0) }
 {
-    let (axis, cursor) = axis_at(cursor)?;
-    let (start, cursor) = int_at(cursor)?;
-    let (count, cursor) = int_at(cursor.key(b"DO")?)?;
-    let (step, cursor) = int_at(cursor.key(b"STEP")?)?;
+    let (axis, cursor) = or_none!(axis_at(cursor));
+    let (start, cursor) = or_none!(int_at(cursor));
+    let (count, cursor) = or_none!(int_behind(cursor, b"DO"));
+    let (step, cursor) = or_none!(int_behind(cursor, b"STEP"));
     let (rest, cursor) = cursor.up_to_semicolon();
-    let cursor = cursor.key(b";")?;
+    let cursor = or_none!(cursor.key(b";"));
     let parts = TracksParts {
         axis,
         start,
@@ -87,20 +87,6 @@ pub fn tracks_at<'t>(cursor: Cursor<'t>) -> Option<(TracksParts<'t>, Cursor<'t>)
     Some((parts, cursor))
 }
 
-/// `count STEP step`
-fn count_and_step_at<'t>(cursor: Cursor<'t>) -> Option<((Token<'t>, Token<'t>), Cursor<'t>)>
-    ensures gives { Gives (with_rest two_words_view) result (read (number is_lines ⨟ codes "STEP" ▸ number is_size) (rest_of cursor.entry)) }
-    ensures count { IfSome result (λ x. length (rest_of cursor.entry).words ≡ 3 + length (rest_of x.1).words) }
-    ensures later { IfSome result (λ x. IsLater cursor.entry x.1) }
-    ensures left { IfSome result (λ x. pieces_of x.1.tokens ≡ past 3 (pieces_of cursor.entry.tokens)) }
-    ensures lent { IfSome result (λ x. TwoWordsAt (pieces_of cursor.entry.tokens) x.0) }
-{
-    let (count, cursor) = lines_at(cursor)?;
-    let cursor = cursor.key(b"STEP")?;
-    let (step, cursor) = size_at(cursor)?;
-    Some(((count, step), cursor))
-}
-
 /// `start DO count STEP step`. Where the last line is out of the range of numbers, the one after `DO` is invalid.
 #[tactic(auto, unfolding(def_grammar::specs::Grids::grid_lines))]
 fn grid_lines_at<'t>(cursor: Cursor<'t>) -> Option<(GridLines<'t>, Cursor<'t>)>
@@ -109,9 +95,10 @@ fn grid_lines_at<'t>(cursor: Cursor<'t>) -> Option<(GridLines<'t>, Cursor<'t>)>
     ensures left { IfSome result (λ x. pieces_of x.1.tokens ≡ past 5 (pieces_of cursor.entry.tokens)) }
     ensures lent { IfSome result (λ x. LinesAt (pieces_of cursor.entry.tokens) x.0) }
 {
-    let (start, cursor) = int_at(cursor)?;
-    let counted = cursor.key(b"DO")?;
-    let ((count, step), cursor) = count_and_step_at(counted)?;
+    let (start, cursor) = or_none!(int_at(cursor));
+    let counted = or_none!(cursor.key(b"DO"));
+    let (count, cursor) = or_none!(lines_at(counted));
+    let (step, cursor) = or_none!(size_at(or_none!(cursor.key(b"STEP"))));
     let good = is_in_range(start.bytes, count.bytes, step.bytes);
     let lines = GridLines { start, count, step };
     Some((lines, cursor.noted(good, counted.len())))
@@ -125,8 +112,8 @@ pub fn gcell_grid_at<'t>(cursor: Cursor<'t>) -> Option<(GcellGridParts<'t>, Curs
     ensures left { IfSome result (λ x. pieces_of x.1.tokens ≡ past 7 (pieces_of cursor.entry.tokens)) }
     ensures lent { IfSome result (λ x. GcellGridAt (pieces_of cursor.entry.tokens) x.0) }
 {
-    let (axis, cursor) = axis_at(cursor)?;
-    let (lines, cursor) = grid_lines_at(cursor)?;
-    let cursor = cursor.key(b";")?;
+    let (axis, cursor) = or_none!(axis_at(cursor));
+    let (lines, cursor) = or_none!(grid_lines_at(cursor));
+    let cursor = or_none!(cursor.key(b";"));
     Some((GcellGridParts { axis, lines }, cursor))
 }

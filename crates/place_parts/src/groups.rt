@@ -12,6 +12,7 @@ ghost use Rattle.def_parts.specs.ClauseViews.{bytes_view};
 ghost use Rattle.def_parts.specs.PointViews.{with_rest};
 ghost use Rattle.place_parts.specs.GroupViews.{group_clause_view, group_view, pattern_view, GroupAt, GroupClauseAt, PatternAt};
 
+use crate::keywords::after_word;
 use def_parts::clauses::{KeptClause, kept_clause_at};
 use lefdef_tokens::{Cursor, Token, TokenRun, is_name, is_plain, is_plus};
 use statement_reader::parts::{Part, Parts, read_parts};
@@ -47,24 +48,13 @@ impl<'t> GroupClause<'t> {
         let GroupClause::Region(rest) = self else {
             return None;
         };
-        let (name, others) = rest.split_first()?;
+        let (name, others) = or_none!(rest.split_first());
         if others.is_empty() && is_name(name.bytes) {
             Some(name)
         } else {
             None
         }
     }
-}
-
-/// A word of a pattern
-fn pattern_at<'t>(cursor: Cursor<'t>) -> Option<(Pattern<'t>, Cursor<'t>)>
-    ensures gives { Gives (with_rest pattern_view) result (read (word is_plain) (rest_of cursor.entry)) }
-    ensures later { IfSome result (λ x. IsLater cursor.entry x.1) }
-    ensures left { IfSome result (λ x. pieces_of x.1.tokens ≡ behind (spell (word is_plain) (pattern_view x.0)) (pieces_of cursor.entry.tokens)) }
-    ensures lent { IfSome result (λ x. PatternAt (pieces_of cursor.entry.tokens) x.0) }
-{
-    let (word, cursor) = cursor.plain_word()?;
-    Some((Pattern { word }, cursor))
 }
 
 impl<'t> Part<'t> for Pattern<'t> {
@@ -88,31 +78,15 @@ impl<'t> Part<'t> for Pattern<'t> {
         is_plain(word)
     }
 
+    /// A word of a pattern
     fn read(cursor: Cursor<'t>) -> Option<(Pattern<'t>, Cursor<'t>)>
         ensures gives { Gives (with_rest pattern_view) result (read (word is_plain) (rest_of cursor.entry)) }
         ensures later { IfSome result (λ x. IsLater cursor.entry x.1) }
         ensures left { IfSome result (λ x. pieces_of x.1.tokens ≡ behind (spell (word is_plain) (pattern_view x.0)) (pieces_of cursor.entry.tokens)) }
         ensures lent { IfSome result (λ x. PatternAt (pieces_of cursor.entry.tokens) x.0) }
     {
-        pattern_at(cursor)
-    }
-}
-
-/// `+ REGION rest`, or `+ word rest`
-#[tactic(auto, unfolding(def_grammar::specs::Groups::group_clause))]
-fn group_clause_at<'t>(cursor: Cursor<'t>) -> Option<(GroupClause<'t>, Cursor<'t>)>
-    ensures gives { Gives (with_rest group_clause_view) result (read group_clause (rest_of cursor.entry)) }
-    ensures later { IfSome result (λ x. IsLater cursor.entry x.1) }
-    ensures left { IfSome result (λ x. pieces_of x.1.tokens ≡ behind (spell group_clause (group_clause_view x.0)) (pieces_of cursor.entry.tokens)) }
-    ensures lent { IfSome result (λ x. GroupClauseAt (pieces_of cursor.entry.tokens) x.0) }
-{
-    let cursor = cursor.key(b"+")?;
-    if cursor.next_is(b"REGION") {
-        let (rest, cursor) = cursor.key(b"REGION")?.rest();
-        Some((GroupClause::Region(rest), cursor))
-    } else {
-        let (kept, cursor) = kept_clause_at(cursor)?;
-        Some((GroupClause::Kept(kept), cursor))
+        let (word, cursor) = or_none!(cursor.plain_word());
+        Some((Pattern { word }, cursor))
     }
 }
 
@@ -139,13 +113,21 @@ impl<'t> Part<'t> for GroupClause<'t> {
         is_plus(word)
     }
 
+    /// `+ REGION rest`, or `+ word rest`
+    #[tactic(auto, unfolding(def_grammar::specs::Groups::group_clause))]
     fn read(cursor: Cursor<'t>) -> Option<(GroupClause<'t>, Cursor<'t>)>
         ensures gives { Gives (with_rest group_clause_view) result (read group_clause (rest_of cursor.entry)) }
         ensures later { IfSome result (λ x. IsLater cursor.entry x.1) }
         ensures left { IfSome result (λ x. pieces_of x.1.tokens ≡ behind (spell group_clause (group_clause_view x.0)) (pieces_of cursor.entry.tokens)) }
         ensures lent { IfSome result (λ x. GroupClauseAt (pieces_of cursor.entry.tokens) x.0) }
     {
-        group_clause_at(cursor)
+        let cursor = or_none!(cursor.key(b"+"));
+        if let Some(behind) = after_word(cursor, b"REGION") {
+            let (rest, cursor) = behind.rest();
+            return Some((GroupClause::Region(rest), cursor));
+        }
+        let (kept, cursor) = or_none!(kept_clause_at(cursor));
+        Some((GroupClause::Kept(kept), cursor))
     }
 }
 
@@ -158,11 +140,10 @@ pub fn group_at<'t>(cursor: Cursor<'t>) -> Option<(GroupParts<'t>, Cursor<'t>)>
     ensures left { IfSome result (λ x. pieces_of x.1.tokens ≡ behind (spell group_form (group_view x.0)) (pieces_of cursor.entry.tokens)) }
     ensures lent { IfSome result (λ x. GroupAt (pieces_of cursor.entry.tokens) x.0) }
 {
-    let cursor = cursor.key(b"-")?;
-    let (name, cursor) = cursor.name()?;
-    let (patterns, cursor) = read_parts::<Pattern<'t>>(cursor)?;
-    let (clauses, cursor) = read_parts::<GroupClause<'t>>(cursor)?;
-    let cursor = cursor.key(b";")?;
+    let (name, cursor) = or_none!(cursor.name_behind(b"-"));
+    let (patterns, cursor) = or_none!(read_parts::<Pattern<'t>>(cursor));
+    let (clauses, cursor) = or_none!(read_parts::<GroupClause<'t>>(cursor));
+    let cursor = or_none!(cursor.key(b";"));
     let parts = GroupParts {
         name,
         patterns,

@@ -2,19 +2,18 @@
 
 ghost use Rattle.std.specs.Prelude.{◌≡◌, IfSome, codes};
 ghost use Rattle.form_meanings.specs.Words.{Gives, is_plus, next_passes};
-ghost use Rattle.statement_model.specs.Form.{◌▸◌, ◌⨟◌, empty, left, read, right, spell};
+ghost use Rattle.statement_model.specs.Form.{◌▸◌, ◌⨟◌, left, read, right, spell};
 ghost use Rattle.def_grammar.specs.Parts.{name, rest};
-ghost use Rattle.def_grammar.specs.Clauses.{kept_clause};
 ghost use Rattle.def_grammar.specs.Components.{is_status, placement};
 ghost use Rattle.def_grammar.specs.Pins.{clearance, pin_clause, pin_form, pin_rectangle, pin_shape, pin_via, pin_clause_body};
-ghost use Rattle.lefdef_tokens.specs.Places.{behind, past};
+ghost use Rattle.lefdef_tokens.specs.Places.{behind};
 ghost use Rattle.lefdef_tokens.specs.Views.{IsLater, pieces_of, rest_of};
-ghost use Rattle.def_parts.specs.PointViews.{PointAt, with_rest};
-ghost use Rattle.place_parts.specs.PinViews.{clearance_view, pin_clause_view, pin_rectangle_view, pin_via_view, pin_view, placement_view, ClearanceAt, PinAt, PinBodyAt, PinClauseAt, PinRectangleAt, PinViaAt};
+ghost use Rattle.def_parts.specs.PointViews.{with_rest};
+ghost use Rattle.place_parts.specs.PinViews.{clearance_view, pin_clause_view, pin_view, ClearanceAt, PinAt, PinBodyAt, PinClauseAt};
 
 use crate::components::{Placement, spot_at};
+use crate::keywords::int_behind;
 use def_parts::clauses::{KeptClause, kept_clause_at, mask_at};
-use def_parts::number::int_at;
 use def_parts::point::{Coordinates, point_at};
 use def_parts::points::{Corners, corners_at};
 use design_model::geometry::Status;
@@ -77,20 +76,6 @@ fn next_is_status<'t>(cursor: Cursor<'t>) -> bool
     }
 }
 
-/// `status ( x y ) orient`
-#[tactic(auto, unfolding(def_grammar::specs::Components::placement, def_grammar::specs::Parts::point, def_grammar::specs::Parts::orient))]
-fn placement_at<'t>(cursor: Cursor<'t>) -> Option<(Placement<'t>, Cursor<'t>)>
-    ensures gives { Gives (with_rest placement_view) result (read placement (rest_of cursor.entry)) }
-    ensures later { IfSome result (λ x. IsLater cursor.entry x.1) }
-    ensures left { IfSome result (λ x. pieces_of x.1.tokens ≡ behind (spell placement (placement_view x.0)) (pieces_of cursor.entry.tokens)) }
-    ensures lent { IfSome result (λ x. PointAt (past 1 (pieces_of cursor.entry.tokens)) x.0.at) }
-{
-    let (word, cursor) = cursor.next()?;
-    let status = Status::of_word(word.bytes)?;
-    let ((at, orient), cursor) = spot_at(cursor)?;
-    Some((Placement { status, at, orient }, cursor))
-}
-
 /// `[SPACING int | DESIGNRULEWIDTH int]`
 #[tactic(auto, unfolding(def_grammar::specs::Pins::clearance))]
 fn clearance_at<'t>(cursor: Cursor<'t>) -> Option<(Clearance<'t>, Cursor<'t>)>
@@ -100,73 +85,49 @@ fn clearance_at<'t>(cursor: Cursor<'t>) -> Option<(Clearance<'t>, Cursor<'t>)>
     ensures lent { IfSome result (λ x. ClearanceAt (pieces_of cursor.entry.tokens) x.0) }
 {
     if cursor.next_is(b"SPACING") {
-        let (distance, cursor) = int_at(cursor.key(b"SPACING")?)?;
+        let (distance, cursor) = or_none!(int_behind(cursor, b"SPACING"));
         Some((Clearance::Spacing(distance), cursor))
     } else if cursor.next_is(b"DESIGNRULEWIDTH") {
-        let (width, cursor) = int_at(cursor.key(b"DESIGNRULEWIDTH")?)?;
+        let (width, cursor) = or_none!(int_behind(cursor, b"DESIGNRULEWIDTH"));
         Some((Clearance::DesignRuleWidth(width), cursor))
     } else {
         Some((Clearance::Default, cursor))
     }
 }
 
-/// `layer [MASK word] [SPACING int | DESIGNRULEWIDTH int]` and two points, after `LAYER`
-#[tactic(auto, unfolding(def_grammar::specs::Pins::pin_rectangle, def_grammar::specs::Points::corners, def_grammar::specs::Points::later_point, def_grammar::specs::Parts::point), using(lefdef_tokens::proofs::PlaceLemmas::behind_append))]
-fn pin_rectangle_at<'t>(cursor: Cursor<'t>) -> Option<(PinRectangle<'t>, Cursor<'t>)>
-    ensures gives { Gives (with_rest pin_rectangle_view) result (read pin_rectangle (rest_of cursor.entry)) }
-    ensures later { IfSome result (λ x. IsLater cursor.entry x.1) }
-    ensures left { IfSome result (λ x. pieces_of x.1.tokens ≡ behind (spell pin_rectangle (pin_rectangle_view x.0)) (pieces_of cursor.entry.tokens)) }
-    ensures lent { IfSome result (λ x. PinRectangleAt (pieces_of cursor.entry.tokens) x.0) }
-{
-    let (layer, cursor) = cursor.name()?;
-    let (mask, cursor) = mask_at(cursor)?;
-    let (clearance, cursor) = clearance_at(cursor)?;
-    let (corners, cursor) = corners_at(cursor)?;
-    let rectangle = PinRectangle {
-        layer,
-        mask,
-        clearance,
-        corners,
-    };
-    Some((rectangle, cursor))
-}
-
-/// `name [MASK word]` and a point, after `VIA`
-#[tactic(auto, unfolding(def_grammar::specs::Pins::pin_via, def_grammar::specs::Parts::point))]
-fn pin_via_at<'t>(cursor: Cursor<'t>) -> Option<(PinVia<'t>, Cursor<'t>)>
-    ensures gives { Gives (with_rest pin_via_view) result (read pin_via (rest_of cursor.entry)) }
-    ensures later { IfSome result (λ x. IsLater cursor.entry x.1) }
-    ensures left { IfSome result (λ x. pieces_of x.1.tokens ≡ behind (spell pin_via (pin_via_view x.0)) (pieces_of cursor.entry.tokens)) }
-    ensures lent { IfSome result (λ x. PinViaAt (pieces_of cursor.entry.tokens) x.0) }
-{
-    let (name, cursor) = cursor.name()?;
-    let (mask, cursor) = mask_at(cursor)?;
-    let (at, cursor) = point_at(cursor)?;
-    Some((PinVia { name, mask, at }, cursor))
-}
-
-/// `LAYER` and a rectangle
-#[tactic(auto, unfolding(def_grammar::specs::Pins::pin_shape))]
+/// `LAYER layer [MASK word] [SPACING int | DESIGNRULEWIDTH int]` and two points
+#[tactic(auto, unfolding(def_grammar::specs::Pins::pin_shape, def_grammar::specs::Pins::pin_rectangle, def_grammar::specs::Points::corners, def_grammar::specs::Points::later_point, def_grammar::specs::Parts::point), using(lefdef_tokens::proofs::PlaceLemmas::behind_append))]
 fn rectangle_clause_at<'t>(cursor: Cursor<'t>) -> Option<(PinClause<'t>, Cursor<'t>)>
     ensures gives { Gives (with_rest pin_clause_view) result (read (right (right (right (left (codes "LAYER" ▸ pin_rectangle))))) (rest_of cursor.entry)) }
     ensures later { IfSome result (λ x. IsLater cursor.entry x.1) }
     ensures left { IfSome result (λ x. pieces_of x.1.tokens ≡ behind (spell pin_clause_body (pin_clause_view x.0)) (pieces_of cursor.entry.tokens)) }
     ensures lent { IfSome result (λ x. PinBodyAt (pieces_of cursor.entry.tokens) x.0) }
 {
-    let (rectangle, cursor) = pin_rectangle_at(cursor.key(b"LAYER")?)?;
+    let (layer, cursor) = or_none!(cursor.name_behind(b"LAYER"));
+    let (mask, cursor) = or_none!(mask_at(cursor));
+    let (clearance, cursor) = or_none!(clearance_at(cursor));
+    let (corners, cursor) = or_none!(corners_at(cursor));
+    let rectangle = PinRectangle {
+        layer,
+        mask,
+        clearance,
+        corners,
+    };
     Some((PinClause::Rectangle(rectangle), cursor))
 }
 
-/// `VIA` and a via
-#[tactic(auto, unfolding(def_grammar::specs::Pins::pin_shape))]
+/// `VIA name [MASK word]` and a point
+#[tactic(auto, unfolding(def_grammar::specs::Pins::pin_shape, def_grammar::specs::Pins::pin_via, def_grammar::specs::Parts::point), using(lefdef_tokens::proofs::PlaceLemmas::behind_append))]
 fn via_clause_at<'t>(cursor: Cursor<'t>) -> Option<(PinClause<'t>, Cursor<'t>)>
     ensures gives { Gives (with_rest pin_clause_view) result (read (right (right (right (right (left (codes "VIA" ▸ pin_via)))))) (rest_of cursor.entry)) }
     ensures later { IfSome result (λ x. IsLater cursor.entry x.1) }
     ensures left { IfSome result (λ x. pieces_of x.1.tokens ≡ behind (spell pin_clause_body (pin_clause_view x.0)) (pieces_of cursor.entry.tokens)) }
     ensures lent { IfSome result (λ x. PinBodyAt (pieces_of cursor.entry.tokens) x.0) }
 {
-    let (via, cursor) = pin_via_at(cursor.key(b"VIA")?)?;
-    Some((PinClause::Via(via), cursor))
+    let (name, cursor) = or_none!(cursor.name_behind(b"VIA"));
+    let (mask, cursor) = or_none!(mask_at(cursor));
+    let (at, cursor) = or_none!(point_at(cursor));
+    Some((PinClause::Via(PinVia { name, mask, at }), cursor))
 }
 
 /// `POLYGON layer rest`
@@ -177,21 +138,9 @@ fn polygon_clause_at<'t>(cursor: Cursor<'t>) -> Option<(PinClause<'t>, Cursor<'t
     ensures left { IfSome result (λ x. pieces_of x.1.tokens ≡ behind (spell pin_clause_body (pin_clause_view x.0)) (pieces_of cursor.entry.tokens)) }
     ensures lent { IfSome result (λ x. PinBodyAt (pieces_of cursor.entry.tokens) x.0) }
 {
-    let (layer, cursor) = cursor.key(b"POLYGON")?.name()?;
+    let (layer, cursor) = or_none!(cursor.name_behind(b"POLYGON"));
     let (rest, cursor) = cursor.rest();
     Some((PinClause::Polygon(layer, rest), cursor))
-}
-
-/// `word rest`
-#[tactic(auto, unfolding(def_grammar::specs::Pins::pin_shape))]
-fn other_clause_at<'t>(cursor: Cursor<'t>) -> Option<(PinClause<'t>, Cursor<'t>)>
-    ensures gives { Gives (with_rest pin_clause_view) result (read (right (right (right (right (right (right kept_clause)))))) (rest_of cursor.entry)) }
-    ensures later { IfSome result (λ x. IsLater cursor.entry x.1) }
-    ensures left { IfSome result (λ x. pieces_of x.1.tokens ≡ behind (spell pin_clause_body (pin_clause_view x.0)) (pieces_of cursor.entry.tokens)) }
-    ensures lent { IfSome result (λ x. PinBodyAt (pieces_of cursor.entry.tokens) x.0) }
-{
-    let (kept, cursor) = kept_clause_at(cursor)?;
-    Some((PinClause::Kept(kept), cursor))
 }
 
 /// A rectangle, a via, `POLYGON layer rest` or `word rest`
@@ -209,41 +158,24 @@ fn pin_shape_at<'t>(cursor: Cursor<'t>) -> Option<(PinClause<'t>, Cursor<'t>)>
     } else if cursor.next_is(b"POLYGON") {
         polygon_clause_at(cursor)
     } else {
-        other_clause_at(cursor)
+        let (kept, cursor) = or_none!(kept_clause_at(cursor));
+        Some((PinClause::Kept(kept), cursor))
     }
 }
 
-/// `status ( x y ) orient`, as a clause
+/// `status ( x y ) orient`
+#[tactic(auto, unfolding(def_grammar::specs::Components::placement, def_grammar::specs::Parts::point, def_grammar::specs::Parts::orient))]
 fn placed_clause_at<'t>(cursor: Cursor<'t>) -> Option<(PinClause<'t>, Cursor<'t>)>
     ensures gives { Gives (with_rest pin_clause_view) result (read (left placement) (rest_of cursor.entry)) }
     ensures later { IfSome result (λ x. IsLater cursor.entry x.1) }
     ensures left { IfSome result (λ x. pieces_of x.1.tokens ≡ behind (spell pin_clause_body (pin_clause_view x.0)) (pieces_of cursor.entry.tokens)) }
     ensures lent { IfSome result (λ x. PinBodyAt (pieces_of cursor.entry.tokens) x.0) }
 {
-    let (placement, cursor) = placement_at(cursor)?;
+    let (word, cursor) = or_none!(cursor.next());
+    let status = or_none!(Status::of_word(word.bytes));
+    let ((at, orient), cursor) = or_none!(spot_at(cursor));
+    let placement = Placement { status, at, orient };
     Some((PinClause::Placed(placement), cursor))
-}
-
-/// `NET name`
-fn net_clause_at<'t>(cursor: Cursor<'t>) -> Option<(PinClause<'t>, Cursor<'t>)>
-    ensures gives { Gives (with_rest pin_clause_view) result (read (right (left (codes "NET" ▸ name))) (rest_of cursor.entry)) }
-    ensures later { IfSome result (λ x. IsLater cursor.entry x.1) }
-    ensures left { IfSome result (λ x. pieces_of x.1.tokens ≡ behind (spell pin_clause_body (pin_clause_view x.0)) (pieces_of cursor.entry.tokens)) }
-    ensures lent { IfSome result (λ x. PinBodyAt (pieces_of cursor.entry.tokens) x.0) }
-{
-    let (net, cursor) = cursor.name_behind(b"NET")?;
-    Some((PinClause::Net(net), cursor))
-}
-
-/// `PORT`
-fn port_clause_at<'t>(cursor: Cursor<'t>) -> Option<(PinClause<'t>, Cursor<'t>)>
-    ensures gives { Gives (with_rest pin_clause_view) result (read (right (right (left (codes "PORT" ▸ empty)))) (rest_of cursor.entry)) }
-    ensures later { IfSome result (λ x. IsLater cursor.entry x.1) }
-    ensures left { IfSome result (λ x. pieces_of x.1.tokens ≡ behind (spell pin_clause_body (pin_clause_view x.0)) (pieces_of cursor.entry.tokens)) }
-    ensures lent { IfSome result (λ x. PinBodyAt (pieces_of cursor.entry.tokens) x.0) }
-{
-    let cursor = cursor.key(b"PORT")?;
-    Some((PinClause::Port, cursor))
 }
 
 /// A clause without its `+`
@@ -256,27 +188,12 @@ fn pin_clause_body_at<'t>(cursor: Cursor<'t>) -> Option<(PinClause<'t>, Cursor<'
     if next_is_status(cursor) {
         placed_clause_at(cursor)
     } else if cursor.next_is(b"NET") {
-        net_clause_at(cursor)
+        let (net, cursor) = or_none!(cursor.name_behind(b"NET"));
+        Some((PinClause::Net(net), cursor))
     } else if cursor.next_is(b"PORT") {
-        port_clause_at(cursor)
+        Some((PinClause::Port, or_none!(cursor.key(b"PORT"))))
     } else {
         pin_shape_at(cursor)
-    }
-}
-
-/// `+` and a clause by its word, before a `+` or `;`
-#[tactic(auto, unfolding(def_grammar::specs::Pins::pin_clause))]
-fn pin_clause_at<'t>(cursor: Cursor<'t>) -> Option<(PinClause<'t>, Cursor<'t>)>
-    ensures gives { Gives (with_rest pin_clause_view) result (read pin_clause (rest_of cursor.entry)) }
-    ensures later { IfSome result (λ x. IsLater cursor.entry x.1) }
-    ensures left { IfSome result (λ x. pieces_of x.1.tokens ≡ behind (spell pin_clause (pin_clause_view x.0)) (pieces_of cursor.entry.tokens)) }
-    ensures lent { IfSome result (λ x. PinClauseAt (pieces_of cursor.entry.tokens) x.0) }
-{
-    let (clause, cursor) = pin_clause_body_at(cursor.key(b"+")?)?;
-    if cursor.next_is_stop() {
-        Some((clause, cursor))
-    } else {
-        None
     }
 }
 
@@ -303,13 +220,20 @@ impl<'t> Part<'t> for PinClause<'t> {
         is_plus(word)
     }
 
+    /// `+` and a clause by its word, before a `+` or `;`
+    #[tactic(auto, unfolding(def_grammar::specs::Pins::pin_clause))]
     fn read(cursor: Cursor<'t>) -> Option<(PinClause<'t>, Cursor<'t>)>
         ensures gives { Gives (with_rest pin_clause_view) result (read pin_clause (rest_of cursor.entry)) }
         ensures later { IfSome result (λ x. IsLater cursor.entry x.1) }
         ensures left { IfSome result (λ x. pieces_of x.1.tokens ≡ behind (spell pin_clause (pin_clause_view x.0)) (pieces_of cursor.entry.tokens)) }
         ensures lent { IfSome result (λ x. PinClauseAt (pieces_of cursor.entry.tokens) x.0) }
     {
-        pin_clause_at(cursor)
+        let (clause, cursor) = or_none!(pin_clause_body_at(or_none!(cursor.key(b"+"))));
+        if cursor.next_is_stop() {
+            Some((clause, cursor))
+        } else {
+            None
+        }
     }
 }
 
@@ -322,9 +246,8 @@ pub fn pin_at<'t>(cursor: Cursor<'t>) -> Option<(PinParts<'t>, Cursor<'t>)>
     ensures left { IfSome result (λ x. pieces_of x.1.tokens ≡ behind (spell pin_form (pin_view x.0)) (pieces_of cursor.entry.tokens)) }
     ensures lent { IfSome result (λ x. PinAt (pieces_of cursor.entry.tokens) x.0) }
 {
-    let cursor = cursor.key(b"-")?;
-    let (name, cursor) = cursor.name()?;
-    let (clauses, cursor) = read_parts::<PinClause<'t>>(cursor)?;
-    let cursor = cursor.key(b";")?;
+    let (name, cursor) = or_none!(cursor.name_behind(b"-"));
+    let (clauses, cursor) = or_none!(read_parts::<PinClause<'t>>(cursor));
+    let cursor = or_none!(cursor.key(b";"));
     Some((PinParts { name, clauses }, cursor))
 }

@@ -51,7 +51,7 @@ impl<'t> RegionAt<'t> {
         ensures left { IfSome result (λ x. pieces_of x.1.tokens ≡ behind (spell region_form (region_at_view x.0)) (pieces_of cursor.entry.tokens)) }
         ensures lent { IfSome result (λ x. RegionBegins (pieces_of cursor.entry.tokens) x.0) }
     {
-        let (_, later) = region_at(cursor)?;
+        let (_, later) = or_none!(region_at(cursor));
         Some((RegionAt { cursor }, later))
     }
 
@@ -84,7 +84,7 @@ impl<'t> BlockageAt<'t> {
         ensures left { IfSome result (λ x. pieces_of x.1.tokens ≡ behind (spell blockage_form (blockage_at_view x.0)) (pieces_of cursor.entry.tokens)) }
         ensures lent { IfSome result (λ x. BlockageBegins (pieces_of cursor.entry.tokens) x.0) }
     {
-        let (_, later) = blockage_entry_at(cursor)?;
+        let (_, later) = or_none!(blockage_entry_at(cursor));
         Some((BlockageAt { cursor }, later))
     }
 
@@ -117,7 +117,7 @@ impl<'t> RowAt<'t> {
         ensures left { IfSome result (λ x. pieces_of x.1.tokens ≡ behind (spell row_statement (row_at_view x.0)) (pieces_of cursor.entry.tokens)) }
         ensures lent { IfSome result (λ x. RowBegins (pieces_of cursor.entry.tokens) x.0) }
     {
-        let (_, later) = row_at(cursor)?;
+        let (_, later) = or_none!(row_at(cursor));
         Some((RowAt { cursor }, later))
     }
 

@@ -2,14 +2,14 @@
 
 ghost use Rattle.std.specs.Prelude.{◌≡◌, IfSome, codes};
 ghost use Rattle.form_meanings.specs.Words.{Gives, is_plus};
-ghost use Rattle.statement_model.specs.Form.{◌▸◌, left, on, one_of, read, right, spell};
+ghost use Rattle.statement_model.specs.Form.{◌▸◌, left, on, one_of, read, spell};
 ghost use Rattle.def_grammar.specs.Clauses.{kept_clause};
 ghost use Rattle.def_grammar.specs.Points.{is_open};
 ghost use Rattle.def_grammar.specs.Regions.{later_corners, region_clause, region_form, region_kind_word, region_kinds};
 ghost use Rattle.lefdef_tokens.specs.Places.{behind, past};
 ghost use Rattle.lefdef_tokens.specs.Views.{IsLater, pieces_of, rest_of};
 ghost use Rattle.def_parts.specs.PointViews.{with_rest};
-ghost use Rattle.place_parts.specs.RegionViews.{later_corners_view, region_clause_view, region_kind_view, region_view, LaterCornersAt, RegionBodyAt, RegionClauseAt, RegionPartsAt};
+ghost use Rattle.place_parts.specs.RegionViews.{later_corners_view, region_clause_view, region_view, LaterCornersAt, RegionBodyAt, RegionClauseAt, RegionPartsAt};
 
 use def_parts::clauses::{KeptClause, kept_clause_at};
 use def_parts::points::{Corners, corners_at, is_open, later_point_at};
@@ -17,7 +17,7 @@ use lefdef_tokens::{Cursor, Token, is_plus, is_word};
 use statement_reader::parts::{Part, Parts, read_parts};
 
 /// What a region is to its components.
-#[derive(Clone, Copy, Debug, PartialEq, Eq)]
+#[derive(Clone, Copy)]
 pub enum RegionKind {
     /// Its components stand within it, and no others do.
     Fence,
@@ -47,43 +47,22 @@ pub struct RegionParts<'t> {
     pub clauses: Parts<'t, RegionClause<'t>>,
 }
 
-/// `FENCE` or `GUIDE`
+/// `TYPE FENCE|GUIDE`
 #[tactic(auto, unfolding(def_grammar::specs::Regions::region_kind_word))]
-fn region_kind_at<'t>(cursor: Cursor<'t>) -> Option<(RegionKind, Cursor<'t>)>
-    ensures gives { Gives (with_rest region_kind_view) result (read (one_of region_kind_word region_kinds) (rest_of cursor.entry)) }
-    ensures later { IfSome result (λ x. IsLater cursor.entry x.1) }
-    ensures left { IfSome result (λ x. pieces_of x.1.tokens ≡ past 1 (pieces_of cursor.entry.tokens)) }
-{
-    let (word, cursor) = cursor.next()?;
-    if is_word(word.bytes, b"FENCE") {
-        Some((RegionKind::Fence, cursor))
-    } else if is_word(word.bytes, b"GUIDE") {
-        Some((RegionKind::Guide, cursor))
-    } else {
-        None
-    }
-}
-
-/// `TYPE kind`
 fn type_clause_at<'t>(cursor: Cursor<'t>) -> Option<(RegionClause<'t>, Cursor<'t>)>
     ensures gives { Gives (with_rest region_clause_view) result (read (left (codes "TYPE" ▸ one_of region_kind_word region_kinds)) (rest_of cursor.entry)) }
     ensures later { IfSome result (λ x. IsLater cursor.entry x.1) }
     ensures left { IfSome result (λ x. pieces_of x.1.tokens ≡ past 2 (pieces_of cursor.entry.tokens)) }
     ensures lent { IfSome result (λ x. RegionBodyAt (pieces_of cursor.entry.tokens) x.0) }
 {
-    let (kind, cursor) = region_kind_at(cursor.key(b"TYPE")?)?;
-    Some((RegionClause::Kind(kind), cursor))
-}
-
-/// `word rest`
-fn other_clause_at<'t>(cursor: Cursor<'t>) -> Option<(RegionClause<'t>, Cursor<'t>)>
-    ensures gives { Gives (with_rest region_clause_view) result (read (right kept_clause) (rest_of cursor.entry)) }
-    ensures later { IfSome result (λ x. IsLater cursor.entry x.1) }
-    ensures left { IfSome result (λ x. pieces_of x.1.tokens ≡ behind (spell (right kept_clause) (region_clause_view x.0)) (pieces_of cursor.entry.tokens)) }
-    ensures lent { IfSome result (λ x. RegionBodyAt (pieces_of cursor.entry.tokens) x.0) }
-{
-    let (kept, cursor) = kept_clause_at(cursor)?;
-    Some((RegionClause::Kept(kept), cursor))
+    let (word, cursor) = or_none!(or_none!(cursor.key(b"TYPE")).next());
+    if is_word(word.bytes, b"FENCE") {
+        Some((RegionClause::Kind(RegionKind::Fence), cursor))
+    } else if is_word(word.bytes, b"GUIDE") {
+        Some((RegionClause::Kind(RegionKind::Guide), cursor))
+    } else {
+        None
+    }
 }
 
 /// `TYPE kind`, or `word rest`
@@ -96,23 +75,8 @@ fn region_clause_body_at<'t>(cursor: Cursor<'t>) -> Option<(RegionClause<'t>, Cu
     if cursor.next_is(b"TYPE") {
         type_clause_at(cursor)
     } else {
-        other_clause_at(cursor)
-    }
-}
-
-/// `+ TYPE kind`, or `+ word rest`, before a `+` or `;`
-#[tactic(auto, unfolding(def_grammar::specs::Regions::region_clause))]
-fn region_clause_at<'t>(cursor: Cursor<'t>) -> Option<(RegionClause<'t>, Cursor<'t>)>
-    ensures gives { Gives (with_rest region_clause_view) result (read region_clause (rest_of cursor.entry)) }
-    ensures later { IfSome result (λ x. IsLater cursor.entry x.1) }
-    ensures left { IfSome result (λ x. pieces_of x.1.tokens ≡ behind (spell region_clause (region_clause_view x.0)) (pieces_of cursor.entry.tokens)) }
-    ensures lent { IfSome result (λ x. RegionClauseAt (pieces_of cursor.entry.tokens) x.0) }
-{
-    let (clause, cursor) = region_clause_body_at(cursor.key(b"+")?)?;
-    if cursor.next_is_stop() {
-        Some((clause, cursor))
-    } else {
-        None
+        let (kept, cursor) = or_none!(kept_clause_at(cursor));
+        Some((RegionClause::Kept(kept), cursor))
     }
 }
 
@@ -139,31 +103,21 @@ impl<'t> Part<'t> for RegionClause<'t> {
         is_plus(word)
     }
 
+    /// `+ TYPE kind`, or `+ word rest`, before a `+` or `;`
+    #[tactic(auto, unfolding(def_grammar::specs::Regions::region_clause))]
     fn read(cursor: Cursor<'t>) -> Option<(RegionClause<'t>, Cursor<'t>)>
         ensures gives { Gives (with_rest region_clause_view) result (read region_clause (rest_of cursor.entry)) }
         ensures later { IfSome result (λ x. IsLater cursor.entry x.1) }
         ensures left { IfSome result (λ x. pieces_of x.1.tokens ≡ behind (spell region_clause (region_clause_view x.0)) (pieces_of cursor.entry.tokens)) }
         ensures lent { IfSome result (λ x. RegionClauseAt (pieces_of cursor.entry.tokens) x.0) }
     {
-        region_clause_at(cursor)
+        let (clause, cursor) = or_none!(region_clause_body_at(or_none!(cursor.key(b"+"))));
+        if cursor.next_is_stop() {
+            Some((clause, cursor))
+        } else {
+            None
+        }
     }
-}
-
-/// Two points, after another one
-#[tactic(auto, unfolding(def_grammar::specs::Regions::later_corners, def_grammar::specs::Points::later_point))]
-fn later_corners_at<'t>(cursor: Cursor<'t>) -> Option<(LaterCorners<'t>, Cursor<'t>)>
-    ensures gives { Gives (with_rest later_corners_view) result (read later_corners (rest_of cursor.entry)) }
-    ensures later { IfSome result (λ x. IsLater cursor.entry x.1) }
-    ensures left { IfSome result (λ x. pieces_of x.1.tokens ≡ behind (spell later_corners (later_corners_view x.0)) (pieces_of cursor.entry.tokens)) }
-    ensures lent { IfSome result (λ x. LaterCornersAt (pieces_of cursor.entry.tokens) x.0) }
-{
-    let (first, cursor) = later_point_at(cursor)?;
-    let (second, cursor) = later_point_at(cursor)?;
-    let corners = Corners {
-        first: first.at,
-        second: second.at,
-    };
-    Some((LaterCorners { corners }, cursor))
 }
 
 impl<'t> Part<'t> for LaterCorners<'t> {
@@ -189,13 +143,21 @@ impl<'t> Part<'t> for LaterCorners<'t> {
         is_open(word)
     }
 
+    /// Two points, after another one
+    #[tactic(auto, unfolding(def_grammar::specs::Regions::later_corners, def_grammar::specs::Points::later_point))]
     fn read(cursor: Cursor<'t>) -> Option<(LaterCorners<'t>, Cursor<'t>)>
         ensures gives { Gives (with_rest later_corners_view) result (read later_corners (rest_of cursor.entry)) }
         ensures later { IfSome result (λ x. IsLater cursor.entry x.1) }
         ensures left { IfSome result (λ x. pieces_of x.1.tokens ≡ behind (spell later_corners (later_corners_view x.0)) (pieces_of cursor.entry.tokens)) }
         ensures lent { IfSome result (λ x. LaterCornersAt (pieces_of cursor.entry.tokens) x.0) }
     {
-        later_corners_at(cursor)
+        let (first, cursor) = or_none!(later_point_at(cursor));
+        let (second, cursor) = or_none!(later_point_at(cursor));
+        let corners = Corners {
+            first: first.at,
+            second: second.at,
+        };
+        Some((LaterCorners { corners }, cursor))
     }
 }
 
@@ -208,12 +170,11 @@ pub fn region_at<'t>(cursor: Cursor<'t>) -> Option<(RegionParts<'t>, Cursor<'t>)
     ensures left { IfSome result (λ x. pieces_of x.1.tokens ≡ behind (spell region_form (region_view x.0)) (pieces_of cursor.entry.tokens)) }
     ensures lent { IfSome result (λ x. RegionPartsAt (pieces_of cursor.entry.tokens) x.0) }
 {
-    let cursor = cursor.key(b"-")?;
-    let (name, cursor) = cursor.name()?;
-    let (first, cursor) = corners_at(cursor)?;
-    let (others, cursor) = read_parts::<LaterCorners<'t>>(cursor)?;
-    let (clauses, cursor) = read_parts::<RegionClause<'t>>(cursor)?;
-    let cursor = cursor.key(b";")?;
+    let (name, cursor) = or_none!(cursor.name_behind(b"-"));
+    let (first, cursor) = or_none!(corners_at(cursor));
+    let (others, cursor) = or_none!(read_parts::<LaterCorners<'t>>(cursor));
+    let (clauses, cursor) = or_none!(read_parts::<RegionClause<'t>>(cursor));
+    let cursor = or_none!(cursor.key(b";"));
     let parts = RegionParts {
         name,
         first,

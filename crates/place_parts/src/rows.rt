@@ -8,8 +8,9 @@ ghost use Rattle.def_grammar.specs.Rows.{row_clause, row_statement, site_array};
 ghost use Rattle.lefdef_tokens.specs.Places.{behind};
 ghost use Rattle.lefdef_tokens.specs.Views.{IsLater, pieces_of, rest_of};
 ghost use Rattle.def_parts.specs.PointViews.{with_rest};
-ghost use Rattle.place_parts.specs.RowViews.{row_clause_view, row_view, site_array_view, sites_view, step_view, RowClauseAt, RowPartsAt, SiteArrayAt, SitesAt, StepAt};
+ghost use Rattle.place_parts.specs.RowViews.{row_clause_view, row_view, sites_view, step_view, RowClauseAt, RowPartsAt, SitesAt, StepAt};
 
+use crate::keywords::after_word;
 use def_parts::clauses::{KeptClause, kept_clause_at};
 use def_parts::number::count_at;
 use def_parts::point::{Coordinates, orient_at};
@@ -51,59 +52,33 @@ fn step_at<'t>(cursor: Cursor<'t>) -> Option<(Option<Coordinates<'t>>, Cursor<'t
     ensures left { IfSome result (λ x. pieces_of x.1.tokens ≡ behind (spell (opt_on (codes "STEP") two_numbers) (step_view x.0)) (pieces_of cursor.entry.tokens)) }
     ensures lent { IfSome result (λ x. StepAt (pieces_of cursor.entry.tokens) x.0) }
 {
-    if cursor.next_is(b"STEP") {
-        let (step, cursor) = two_numbers_at(cursor.key(b"STEP")?)?;
-        Some((Some(step), cursor))
-    } else {
-        Some((None, cursor))
-    }
-}
-
-/// `columns BY rows [STEP x y]`
-#[tactic(auto, unfolding(def_grammar::specs::Rows::site_array))]
-fn site_array_at<'t>(cursor: Cursor<'t>) -> Option<(SiteArray<'t>, Cursor<'t>)>
-    ensures gives { Gives (with_rest site_array_view) result (read site_array (rest_of cursor.entry)) }
-    ensures later { IfSome result (λ x. IsLater cursor.entry x.1) }
-    ensures left { IfSome result (λ x. pieces_of x.1.tokens ≡ behind (spell site_array (site_array_view x.0)) (pieces_of cursor.entry.tokens)) }
-    ensures lent { IfSome result (λ x. SiteArrayAt (pieces_of cursor.entry.tokens) x.0) }
-{
-    let (columns, cursor) = count_at(cursor)?;
-    let cursor = cursor.key(b"BY")?;
-    let (rows, cursor) = count_at(cursor)?;
-    let (step, cursor) = step_at(cursor)?;
-    let sites = SiteArray {
-        columns,
-        rows,
-        step,
+    let Some(behind) = after_word(cursor, b"STEP") else {
+        return Some((None, cursor));
     };
-    Some((sites, cursor))
+    let (step, cursor) = or_none!(two_numbers_at(behind));
+    Some((Some(step), cursor))
 }
 
 /// `[DO columns BY rows [STEP x y]]`
+#[tactic(auto, unfolding(def_grammar::specs::Rows::site_array))]
 fn sites_at<'t>(cursor: Cursor<'t>) -> Option<(Option<SiteArray<'t>>, Cursor<'t>)>
     ensures gives { Gives (with_rest sites_view) result (read (opt_on (codes "DO") site_array) (rest_of cursor.entry)) }
     ensures later { IfSome result (λ x. IsLater cursor.entry x.1) }
     ensures left { IfSome result (λ x. pieces_of x.1.tokens ≡ behind (spell (opt_on (codes "DO") site_array) (sites_view x.0)) (pieces_of cursor.entry.tokens)) }
     ensures lent { IfSome result (λ x. SitesAt (pieces_of cursor.entry.tokens) x.0) }
 {
-    if cursor.next_is(b"DO") {
-        let (sites, cursor) = site_array_at(cursor.key(b"DO")?)?;
-        Some((Some(sites), cursor))
-    } else {
-        Some((None, cursor))
-    }
-}
-
-/// `+ word rest`
-#[tactic(auto, unfolding(def_grammar::specs::Rows::row_clause))]
-fn row_clause_at<'t>(cursor: Cursor<'t>) -> Option<(RowClause<'t>, Cursor<'t>)>
-    ensures gives { Gives (with_rest row_clause_view) result (read row_clause (rest_of cursor.entry)) }
-    ensures later { IfSome result (λ x. IsLater cursor.entry x.1) }
-    ensures left { IfSome result (λ x. pieces_of x.1.tokens ≡ behind (spell row_clause (row_clause_view x.0)) (pieces_of cursor.entry.tokens)) }
-    ensures lent { IfSome result (λ x. RowClauseAt (pieces_of cursor.entry.tokens) x.0) }
-{
-    let (kept, cursor) = kept_clause_at(cursor.key(b"+")?)?;
-    Some((RowClause { kept }, cursor))
+    let Some(behind) = after_word(cursor, b"DO") else {
+        return Some((None, cursor));
+    };
+    let (columns, cursor) = or_none!(count_at(behind));
+    let (rows, cursor) = or_none!(count_at(or_none!(cursor.key(b"BY"))));
+    let (step, cursor) = or_none!(step_at(cursor));
+    let sites = SiteArray {
+        columns,
+        rows,
+        step,
+    };
+    Some((Some(sites), cursor))
 }
 
 impl<'t> Part<'t> for RowClause<'t> {
@@ -129,13 +104,16 @@ impl<'t> Part<'t> for RowClause<'t> {
         is_plus(word)
     }
 
+    /// `+ word rest`
+    #[tactic(auto, unfolding(def_grammar::specs::Rows::row_clause))]
     fn read(cursor: Cursor<'t>) -> Option<(RowClause<'t>, Cursor<'t>)>
         ensures gives { Gives (with_rest row_clause_view) result (read row_clause (rest_of cursor.entry)) }
         ensures later { IfSome result (λ x. IsLater cursor.entry x.1) }
         ensures left { IfSome result (λ x. pieces_of x.1.tokens ≡ behind (spell row_clause (row_clause_view x.0)) (pieces_of cursor.entry.tokens)) }
         ensures lent { IfSome result (λ x. RowClauseAt (pieces_of cursor.entry.tokens) x.0) }
     {
-        row_clause_at(cursor)
+        let (kept, cursor) = or_none!(kept_clause_at(or_none!(cursor.key(b"+"))));
+        Some((RowClause { kept }, cursor))
     }
 }
 
@@ -147,13 +125,13 @@ pub fn row_at<'t>(cursor: Cursor<'t>) -> Option<(RowParts<'t>, Cursor<'t>)>
     ensures left { IfSome result (λ x. pieces_of x.1.tokens ≡ behind (spell row_statement (row_view x.0)) (pieces_of cursor.entry.tokens)) }
     ensures lent { IfSome result (λ x. RowPartsAt (pieces_of cursor.entry.tokens) x.0) }
 {
-    let (name, cursor) = cursor.name()?;
-    let (site, cursor) = cursor.name()?;
-    let (origin, cursor) = two_numbers_at(cursor)?;
-    let (orient, cursor) = orient_at(cursor)?;
-    let (sites, cursor) = sites_at(cursor)?;
-    let (clauses, cursor) = read_parts::<RowClause<'t>>(cursor)?;
-    let cursor = cursor.key(b";")?;
+    let (name, cursor) = or_none!(cursor.name());
+    let (site, cursor) = or_none!(cursor.name());
+    let (origin, cursor) = or_none!(two_numbers_at(cursor));
+    let (orient, cursor) = or_none!(orient_at(cursor));
+    let (sites, cursor) = or_none!(sites_at(cursor));
+    let (clauses, cursor) = or_none!(read_parts::<RowClause<'t>>(cursor));
+    let cursor = or_none!(cursor.key(b";"));
     let parts = RowParts {
         name,
         site,

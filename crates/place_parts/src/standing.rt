@@ -14,14 +14,14 @@ ghost use Rattle.statement_reader.specs.PartViews.{PartsAt, left_after, tokens_a
 ghost use Rattle.place_parts.specs.ClauseViews.{clause_view, clauses_of};
 ghost use Rattle.place_parts.specs.StandingViews.{standing_by, standing_of};
 
-use crate::components::{Clause, clause_at};
+use crate::components::Clause;
 use def_parts::number::int_of;
 use design_model::geometry::{Orient, Status};
-use lefdef_tokens::{Cursor, is_plus};
-use statement_reader::parts::{Parts, read_parts};
+use lefdef_tokens::Cursor;
+use statement_reader::parts::{Part, Parts, read_parts};
 
 /// How and where a component is placed, in database units.
-#[derive(Clone, Copy, Debug, PartialEq, Eq)]
+#[derive(Clone, Copy)]
 pub struct Spot {
     pub status: Status,
     pub orient: Orient,
@@ -30,7 +30,7 @@ pub struct Spot {
 }
 
 /// What the clause that places a component says.
-#[derive(Clone, Copy, Debug, PartialEq, Eq)]
+#[derive(Clone, Copy)]
 pub enum Standing {
     Unplaced,
     At(Spot),
@@ -82,17 +82,6 @@ fn note_region<'t>(region: &mut Option<&'t [u8]>, clause: &Clause<'t>)
     }
 }
 
-/// Whether a clause is next.
-#[inline(always)]
-fn next_is_clause<'t>(cursor: Cursor<'t>) -> bool
-    ensures { result ≡ next_passes is_plus (rest_of cursor.entry) }
-{
-    match cursor.peek() {
-        Some(token) => is_plus(token.bytes),
-        None => false,
-    }
-}
-
 /// What comes after the next clauses, which are at most `most`, with what they say; or `None` where one of them has no form.
 #[inline(always)]
 fn pass_clauses<'t>(cursor: Cursor<'t>, most: usize) -> Option<(Noted<'t>, Cursor<'t>)>
@@ -107,15 +96,15 @@ fn pass_clauses<'t>(cursor: Cursor<'t>, most: usize) -> Option<(Noted<'t>, Curso
     let mut standing = None;
     let mut region = None;
     for _ in 0..most {
-        if !next_is_clause(left) {
+        if !left.next_is_plus() {
             return Some((Noted { standing, region }, left));
         }
-        let (clause, later) = clause_at(left)?;
+        let (clause, later) = Clause::read(left)?;
         note_standing(&mut standing, &clause);
         note_region(&mut region, &clause);
         left = later;
     }
-    let goes_on = next_is_clause(left);
+    let goes_on = left.next_is_plus();
     if goes_on {
         None
     } else {

@@ -1,2 +1,4 @@
 mod ArrayTokens
+mod ClosedForms
+mod Keywords
 mod StandLemmas

@@ -1,12 +1,14 @@
 -- Points, vias and paths of the program as those of the definitions, and which tokens they are.
-use Rattle.std.specs.Prelude.{ℕ, List, Option, codes, IfSome}
+use Rattle.std.specs.Prelude.{ℕ, Bool, true, false, List, Option, codes, IfSome}
 use Rattle.std.specs.Option.{option_map}
 use Rattle.form_meanings.specs.Words.{Rest}
 use Rattle.form_meanings.specs.Meaning.{items}
-use Rattle.statement_model.specs.Form.{Form, number, read, spell, ◌▸◌, ◌⨟◌}
+use Rattle.statement_model.specs.Form.{Form, number, read, seen, spell, ◌▸◌, ◌◂◌, ◌⨟◌}
 use Rattle.def_grammar.specs.Clauses.{mask}
 use Rattle.def_grammar.specs.Limits.{is_copies}
-use Rattle.def_grammar.specs.Wiring.{WirePoint, WireVia, wire_via, ViaArray, SpecialVia, special_via, PathItem, path_mask, path_virtual, path_rectangle, path_point, path_via, goes_on, path_item, Path, wire_start}
+use Rattle.def_grammar.specs.Numbers.{is_int}
+use Rattle.def_grammar.specs.Points.{is_coordinate}
+use Rattle.def_grammar.specs.Wiring.{WirePoint, WireVia, wire_via, ViaArray, SpecialVia, special_via, PathItem, path_mask, path_virtual, path_rectangle, path_point, path_via, goes_on, path_item, Path, as_wire_point, extension, wire_start}
 use Rattle.statement_model.specs.Tokens as tokens
 use Rattle.lefdef_tokens.specs.Places.{StandsAt, behind, past}
 use Rattle.lefdef_tokens.specs.Views.{rest_of}
@@ -28,6 +30,15 @@ use Rattle.wire_parts.specs.declared.paths.Path as code_path
 
 abbrev pub wire_point_view : code_point.WirePoint → WirePoint
 wire_point_view p = record { at = point_view p.at; extension = mask_view p.extension }
+
+-- the numbers of a point, where each can be * or none
+abbrev pub is_number : Bool → List ℕ → Bool
+is_number true = is_coordinate
+is_number false = is_int
+
+-- a point of a path, whose numbers can be *, or its first one
+abbrev pub point_by : Bool → Form WirePoint
+point_by can_be_star = seen as_wire_point (codes "(" ▸ number (is_number can_be_star) ⨟ number (is_number can_be_star) ⨟ extension ◂ codes ")")
 
 -- how far a wire goes past a point, and what is left after it
 abbrev pub extension_view : Option Token × Unseen → Option (List ℕ) × Rest

@@ -11,6 +11,7 @@
 //! clause that hasn't its form is kept, and says nothing.
 #![tactic(auto)]
 
+mod keyword;
 pub mod net_wires;
 pub mod nets;
 pub mod paths;

@@ -11,6 +11,7 @@ ghost use Rattle.def_parts.specs.ClauseViews.{OptionAt, mask_view};
 ghost use Rattle.def_parts.specs.PointViews.{with_rest};
 ghost use Rattle.wire_parts.specs.NetViews.{NetAt, NetClauseAt, NetEntryAt, net_by_word, net_clause_view, net_entry_view, net_view};
 
+use crate::keyword::past_keyword;
 use crate::terminals::Terminal;
 use crate::wiring::{Wiring, wiring_at};
 use def_parts::clauses::{KeptClause, kept_clause_at};
@@ -110,23 +111,6 @@ fn listed_or_kept_at<'t>(cursor: Cursor<'t>) -> Option<(NetClause<'t>, Cursor<'t
     Some((NetClause::Other(clause), cursor))
 }
 
-/// `+ SUBNET any*`, or another clause behind its `+`
-#[tactic(auto, unfolding(def_grammar::specs::Nets::net_clause))]
-fn net_clause_at<'t>(cursor: Cursor<'t>) -> Option<(NetClause<'t>, Cursor<'t>)>
-    ensures gives { Gives (with_rest net_clause_view) result (read net_clause (rest_of cursor.entry)) }
-    ensures later { IfSome result (λ x. IsLater cursor.entry x.1) }
-    ensures left { IfSome result (λ x. pieces_of x.1.tokens ≡ behind (spell net_clause (net_clause_view x.0)) (pieces_of cursor.entry.tokens)) }
-    ensures lent { IfSome result (λ x. NetClauseAt (past 1 (pieces_of cursor.entry.tokens)) x.0) }
-{
-    let cursor = cursor.key(b"+")?;
-    if cursor.next_is(b"SUBNET") {
-        let (tokens, cursor) = cursor.key(b"SUBNET")?.up_to_semicolon();
-        Some((NetClause::Subnet(tokens), cursor))
-    } else {
-        listed_or_kept_at(cursor)
-    }
-}
-
 impl<'t> Part<'t> for NetClause<'t> {
     ghost use Rattle.def_grammar.specs.Nets.{NetClause as TheClause};
 
@@ -150,13 +134,20 @@ impl<'t> Part<'t> for NetClause<'t> {
         is_plus(word)
     }
 
+    #[tactic(auto, unfolding(def_grammar::specs::Nets::net_clause))]
     fn read(cursor: Cursor<'t>) -> Option<(NetClause<'t>, Cursor<'t>)>
         ensures gives { Gives (with_rest net_clause_view) result (read net_clause (rest_of cursor.entry)) }
         ensures later { IfSome result (λ x. IsLater cursor.entry x.1) }
         ensures left { IfSome result (λ x. pieces_of x.1.tokens ≡ behind (spell net_clause (net_clause_view x.0)) (pieces_of cursor.entry.tokens)) }
         ensures lent { IfSome result (λ x. NetClauseAt (past 1 (pieces_of cursor.entry.tokens)) x.0) }
     {
-        net_clause_at(cursor)
+        let cursor = cursor.key(b"+")?;
+        if let Some(cursor) = past_keyword(cursor, b"SUBNET") {
+            let (tokens, cursor) = cursor.up_to_semicolon();
+            Some((NetClause::Subnet(tokens), cursor))
+        } else {
+            listed_or_kept_at(cursor)
+        }
     }
 }
 
@@ -186,8 +177,8 @@ fn must_join_or_net_at<'t>(cursor: Cursor<'t>) -> Option<(NetEntry<'t>, Cursor<'
     ensures left { IfSome result (λ x. pieces_of x.1.tokens ≡ behind (spell (on (codes "MUSTJOIN") (upto is_semicolon) net) (net_entry_view x.0)) (pieces_of cursor.entry.tokens)) }
     ensures lent { IfSome result (λ x. NetEntryAt (pieces_of cursor.entry.tokens) x.0) }
 {
-    if cursor.next_is(b"MUSTJOIN") {
-        let (tokens, cursor) = cursor.key(b"MUSTJOIN")?.up_to_semicolon();
+    if let Some(cursor) = past_keyword(cursor, b"MUSTJOIN") {
+        let (tokens, cursor) = cursor.up_to_semicolon();
         Some((NetEntry::MustJoin(tokens), cursor))
     } else {
         let (net, cursor) = net_at(cursor)?;

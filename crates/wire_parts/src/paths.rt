@@ -2,20 +2,21 @@
 //! Wiring Statement").
 
 ghost use Rattle.std.specs.Prelude.{◌≡◌, List, codes, true, IfSome};
-ghost use Rattle.form_meanings.specs.Words.{Gives, is_place, is_plain, next_passes};
+ghost use Rattle.form_meanings.specs.Words.{Gives, is_place, next_passes};
 ghost use Rattle.statement_model.specs.Tokens as definitions;
-ghost use Rattle.statement_model.specs.Form.{Form, ◌▸◌, ◌◂◌, alt, left, opt, read, right, spell, word};
+ghost use Rattle.statement_model.specs.Form.{Form, ◌◂◌, alt, number, opt, read, right, spell};
 ghost use Rattle.def_grammar.specs.Parts.{orient};
-ghost use Rattle.def_grammar.specs.Points.{is_open, later_point};
-ghost use Rattle.def_grammar.specs.Wiring.{array_size, extension, goes_on, is_orient, net_path, special_path, path_item, special_via, via_array, wire_point, wire_rectangle, wire_start, wire_via};
-ghost use Rattle.lefdef_tokens.specs.Unseens.{Finds, IsFurther, unseen_rest};
+ghost use Rattle.def_grammar.specs.Points.{is_open};
+ghost use Rattle.def_grammar.specs.Wiring.{array_size, extension, goes_on, is_orient, net_path, special_path, path_item, special_via, via_array, wire_point, wire_rectangle, wire_via};
+ghost use Rattle.lefdef_tokens.specs.Unseens.{Finds, IsFurther, unseen_rest, unseen_word};
 ghost use Rattle.lefdef_tokens.specs.Places.{StandsAt, behind, past};
-ghost use Rattle.lefdef_tokens.specs.Views.{IsLater, pieces_of, rest_of};
+ghost use Rattle.lefdef_tokens.specs.Views.{IsLater, pieces_of, rest_of, word_of};
 ghost use Rattle.def_parts.specs.ClauseViews.{OptionAt, mask_view};
 ghost use Rattle.def_parts.specs.PointViews.{corners_view, same, with_rest};
 ghost use Rattle.statement_reader.specs.PartViews.{left_after, tokens_after};
-ghost use Rattle.wire_parts.specs.PathViews.{array_counts, counts_view, net_path_view, special_path_view, ItemAt, PathAt, SpecialViaAt, ViaArrayAt, extension_view, RectangleAt, WirePointAt, WireViaAt, item_view, special_via_view, via_array_view, wire_point_view, wire_via_view};
+ghost use Rattle.wire_parts.specs.PathViews.{array_counts, counts_view, is_number, net_path_view, point_by, special_path_view, ItemAt, PathAt, SpecialViaAt, ViaArrayAt, extension_view, RectangleAt, WirePointAt, WireViaAt, item_view, special_via_view, via_array_view, wire_point_view, wire_via_view};
 
+use crate::keyword::past_keyword;
 use def_parts::clauses::mask_at;
 use def_parts::number::{
     coordinate_at, copies_at, few_digits_at, few_digits_or_star_at, few_digits_size_at, int_at,
@@ -120,99 +121,85 @@ fn short_end_at<'t>(left: Unseen<'t>) -> Option<(Option<Token<'t>>, Unseen<'t>)>
     Some((Some(number), left))
 }
 
-/// `( x y [extension] )`, which begins a path, where each has one to nine digits, as most do; `None` says nothing
-#[tactic(auto, unfolding(def_grammar::specs::Wiring::wire_start))]
+/// A number of a point, which can be `*` but in a path's first point
 #[inline(always)]
-fn short_start_at<'t>(cursor: Cursor<'t>) -> Option<(WirePoint<'t>, Cursor<'t>)>
-    ensures gives { Finds (with_rest wire_point_view) result (read wire_start (rest_of cursor.entry)) }
+fn number_at<'t>(can_be_star: bool, cursor: Cursor<'t>) -> Option<(Token<'t>, Cursor<'t>)>
+    ensures gives { Gives word_of result (read (number (is_number can_be_star)) (rest_of cursor.entry)) }
     ensures later { IfSome result (λ x. IsLater cursor.entry x.1) }
-    ensures left { IfSome result (λ x. pieces_of x.1.tokens ≡ behind (spell wire_start (wire_point_view x.0)) (pieces_of cursor.entry.tokens)) }
-    ensures lent { IfSome result (λ x. WirePointAt (pieces_of cursor.entry.tokens) x.0) }
+    ensures left { IfSome result (λ x. pieces_of x.1.tokens ≡ past 1 (pieces_of cursor.entry.tokens)) }
+    ensures lent { IfSome result (λ x. StandsAt (pieces_of cursor.entry.tokens) x.0) }
 {
-    let (x, left) = few_digits_at(cursor.past(b"(")?)?;
-    let (y, left) = few_digits_at(left)?;
-    let (extension, left) = short_end_at(left)?;
-    let at = Coordinates { x, y };
-    Some((WirePoint { at, extension }, left.seen()))
-}
-
-/// `( x y [extension] )`, which begins a path, whatever stands there
-#[tactic(auto, unfolding(def_grammar::specs::Wiring::wire_start))]
-#[cold]
-#[inline(never)]
-fn any_start_at<'t>(cursor: Cursor<'t>) -> Option<(WirePoint<'t>, Cursor<'t>)>
-    ensures gives { Gives (with_rest wire_point_view) result (read wire_start (rest_of cursor.entry)) }
-    ensures later { IfSome result (λ x. IsLater cursor.entry x.1) }
-    ensures left { IfSome result (λ x. pieces_of x.1.tokens ≡ behind (spell wire_start (wire_point_view x.0)) (pieces_of cursor.entry.tokens)) }
-    ensures lent { IfSome result (λ x. WirePointAt (pieces_of cursor.entry.tokens) x.0) }
-{
-    let (x, cursor) = int_at(cursor.key(b"(")?)?;
-    let (y, cursor) = int_at(cursor)?;
-    let (extension, cursor) = extension_at(cursor)?;
-    let cursor = cursor.key(b")")?;
-    let at = Coordinates { x, y };
-    Some((WirePoint { at, extension }, cursor))
-}
-
-/// `( x y [extension] )`, which begins a path
-#[inline(always)]
-fn wire_start_at<'t>(cursor: Cursor<'t>) -> Option<(WirePoint<'t>, Cursor<'t>)>
-    ensures gives { Gives (with_rest wire_point_view) result (read wire_start (rest_of cursor.entry)) }
-    ensures later { IfSome result (λ x. IsLater cursor.entry x.1) }
-    ensures left { IfSome result (λ x. pieces_of x.1.tokens ≡ behind (spell wire_start (wire_point_view x.0)) (pieces_of cursor.entry.tokens)) }
-    ensures lent { IfSome result (λ x. WirePointAt (pieces_of cursor.entry.tokens) x.0) }
-{
-    match short_start_at(cursor) {
-        Some(found) => Some(found),
-        None => any_start_at(cursor),
+    if can_be_star {
+        coordinate_at(cursor)
+    } else {
+        int_at(cursor)
     }
 }
 
-/// `( x y [extension] )`, where x and y can be `*` and each other has one to nine digits, as most do; `None` says nothing
-#[tactic(auto, unfolding(def_grammar::specs::Wiring::wire_point))]
+/// The same, where it is `*` or has one to nine digits, as most do; `None` says nothing
 #[inline(always)]
-fn short_wire_point_at<'t>(cursor: Cursor<'t>) -> Option<(WirePoint<'t>, Cursor<'t>)>
-    ensures gives { Finds (with_rest wire_point_view) result (read wire_point (rest_of cursor.entry)) }
+fn short_number_at<'t>(can_be_star: bool, left: Unseen<'t>) -> Option<(Token<'t>, Unseen<'t>)>
+    ensures gives { Finds unseen_word result (read (number (is_number can_be_star)) (unseen_rest left.entry)) }
+    ensures further { IfSome result (λ x. IsFurther left.entry.tokens x.1.tokens) }
+    ensures left { IfSome result (λ x. pieces_of x.1.tokens ≡ past 1 (pieces_of left.entry.tokens)) }
+    ensures lent { IfSome result (λ x. StandsAt (pieces_of left.entry.tokens) x.0) }
+{
+    if can_be_star {
+        few_digits_or_star_at(left)
+    } else {
+        few_digits_at(left)
+    }
+}
+
+/// `( x y [extension] )`, where each number is short; `None` says nothing
+#[inline(always)]
+fn short_wire_point_at<'t>(
+    can_be_star: bool,
+    cursor: Cursor<'t>,
+) -> Option<(WirePoint<'t>, Cursor<'t>)>
+    ensures gives { Finds (with_rest wire_point_view) result (read (point_by can_be_star) (rest_of cursor.entry)) }
     ensures later { IfSome result (λ x. IsLater cursor.entry x.1) }
-    ensures left { IfSome result (λ x. pieces_of x.1.tokens ≡ behind (spell wire_point (wire_point_view x.0)) (pieces_of cursor.entry.tokens)) }
+    ensures left { IfSome result (λ x. pieces_of x.1.tokens ≡ behind (spell (point_by can_be_star) (wire_point_view x.0)) (pieces_of cursor.entry.tokens)) }
     ensures lent { IfSome result (λ x. WirePointAt (pieces_of cursor.entry.tokens) x.0) }
 {
-    let (x, left) = few_digits_or_star_at(cursor.past(b"(")?)?;
-    let (y, left) = few_digits_or_star_at(left)?;
+    let (x, left) = short_number_at(can_be_star, cursor.past(b"(")?)?;
+    let (y, left) = short_number_at(can_be_star, left)?;
     let (extension, left) = short_end_at(left)?;
     let at = Coordinates { x, y };
     Some((WirePoint { at, extension }, left.seen()))
 }
 
-/// `( x y [extension] )`, where x and y can be `*`, whatever stands there
-#[tactic(auto, unfolding(def_grammar::specs::Wiring::wire_point))]
+/// `( x y [extension] )`, whatever stands there
 #[cold]
 #[inline(never)]
-fn any_wire_point_at<'t>(cursor: Cursor<'t>) -> Option<(WirePoint<'t>, Cursor<'t>)>
-    ensures gives { Gives (with_rest wire_point_view) result (read wire_point (rest_of cursor.entry)) }
+fn any_wire_point_at<'t>(
+    can_be_star: bool,
+    cursor: Cursor<'t>,
+) -> Option<(WirePoint<'t>, Cursor<'t>)>
+    ensures gives { Gives (with_rest wire_point_view) result (read (point_by can_be_star) (rest_of cursor.entry)) }
     ensures later { IfSome result (λ x. IsLater cursor.entry x.1) }
-    ensures left { IfSome result (λ x. pieces_of x.1.tokens ≡ behind (spell wire_point (wire_point_view x.0)) (pieces_of cursor.entry.tokens)) }
+    ensures left { IfSome result (λ x. pieces_of x.1.tokens ≡ behind (spell (point_by can_be_star) (wire_point_view x.0)) (pieces_of cursor.entry.tokens)) }
     ensures lent { IfSome result (λ x. WirePointAt (pieces_of cursor.entry.tokens) x.0) }
 {
-    let (x, cursor) = coordinate_at(cursor.key(b"(")?)?;
-    let (y, cursor) = coordinate_at(cursor)?;
+    let (x, cursor) = number_at(can_be_star, cursor.key(b"(")?)?;
+    let (y, cursor) = number_at(can_be_star, cursor)?;
     let (extension, cursor) = extension_at(cursor)?;
     let cursor = cursor.key(b")")?;
     let at = Coordinates { x, y };
     Some((WirePoint { at, extension }, cursor))
 }
 
-/// `( x y [extension] )`, where x and y can be `*`
+/// `( x y [extension] )`
 #[inline(always)]
-fn wire_point_at<'t>(cursor: Cursor<'t>) -> Option<(WirePoint<'t>, Cursor<'t>)>
-    ensures gives { Gives (with_rest wire_point_view) result (read wire_point (rest_of cursor.entry)) }
+fn wire_point_at<'t>(can_be_star: bool, cursor: Cursor<'t>) -> Option<(WirePoint<'t>, Cursor<'t>)>
+    ensures gives { Gives (with_rest wire_point_view) result (read (point_by can_be_star) (rest_of cursor.entry)) }
     ensures later { IfSome result (λ x. IsLater cursor.entry x.1) }
-    ensures left { IfSome result (λ x. pieces_of x.1.tokens ≡ behind (spell wire_point (wire_point_view x.0)) (pieces_of cursor.entry.tokens)) }
+    ensures left { IfSome result (λ x. pieces_of x.1.tokens ≡ behind (spell (point_by can_be_star) (wire_point_view x.0)) (pieces_of cursor.entry.tokens)) }
     ensures lent { IfSome result (λ x. WirePointAt (pieces_of cursor.entry.tokens) x.0) }
 {
-    match short_wire_point_at(cursor) {
+    match short_wire_point_at(can_be_star, cursor) {
         Some(found) => Some(found),
-        None => any_wire_point_at(cursor),
+        None => any_wire_point_at(can_be_star, cursor),
     }
 }
 
@@ -353,8 +340,8 @@ pub fn special_via_at<'t>(cursor: Cursor<'t>) -> Option<(SpecialVia<'t>, Cursor<
     ensures lent { IfSome result (λ x. SpecialViaAt (pieces_of cursor.entry.tokens) x.0) }
 {
     let (via, cursor) = wire_via_at(cursor)?;
-    if cursor.next_is(b"DO") {
-        let (array, cursor) = via_array_at(cursor.key(b"DO")?)?;
+    if let Some(cursor) = past_keyword(cursor, b"DO") {
+        let (array, cursor) = via_array_at(cursor)?;
         let array = Some(array);
         Some((SpecialVia { via, array }, cursor))
     } else {
@@ -393,47 +380,8 @@ fn goes_on(word: &[u8]) -> bool
     is_open(word) || (is_name(word) && !is_word(word, b"NEW") && !is_word(word, b"DO"))
 }
 
-/// `MASK word`
-#[inline(always)]
-fn mask_item_at<'t, V: PathVia<'t>>(cursor: Cursor<'t>) -> Option<(PathItem<'t, V>, Cursor<'t>)>
-    ensures gives { Gives (with_rest (item_view V.view)) result (read (left (codes "MASK" ▸ word is_plain)) (rest_of cursor.entry)) }
-    ensures later { IfSome result (λ x. IsLater cursor.entry x.1) }
-    ensures left { IfSome result (λ x. pieces_of x.1.tokens ≡ behind (spell (left (codes "MASK" ▸ word is_plain)) (item_view V.view x.0)) (pieces_of cursor.entry.tokens)) }
-    ensures lent { IfSome result (λ x. ItemAt V.lent (pieces_of cursor.entry.tokens) x.0) }
-{
-    let (word, cursor) = cursor.plain_word_behind(b"MASK")?;
-    Some((PathItem::Mask(word), cursor))
-}
-
-/// `VIRTUAL ( x y )`, a point without wire
-#[tactic(auto, unfolding(def_grammar::specs::Points::later_point))]
-#[inline(always)]
-fn virtual_item_at<'t, V: PathVia<'t>>(cursor: Cursor<'t>) -> Option<(PathItem<'t, V>, Cursor<'t>)>
-    ensures gives { Gives (with_rest (item_view V.view)) result (read (right (left (codes "VIRTUAL" ▸ later_point))) (rest_of cursor.entry)) }
-    ensures later { IfSome result (λ x. IsLater cursor.entry x.1) }
-    ensures left { IfSome result (λ x. pieces_of x.1.tokens ≡ behind (spell (right (left (codes "VIRTUAL" ▸ later_point))) (item_view V.view x.0)) (pieces_of cursor.entry.tokens)) }
-    ensures lent { IfSome result (λ x. ItemAt V.lent (pieces_of cursor.entry.tokens) x.0) }
-{
-    let (point, cursor) = later_point_at(cursor.key(b"VIRTUAL")?)?;
-    Some((PathItem::Virtual(point.at), cursor))
-}
-
-/// `RECT ( x1 y1 x2 y2 )`
-#[tactic(auto, unfolding(def_grammar::specs::Wiring::wire_rectangle))]
-#[inline(always)]
-fn rectangle_item_at<'t, V: PathVia<'t>>(
-    cursor: Cursor<'t>,
-) -> Option<(PathItem<'t, V>, Cursor<'t>)>
-    ensures gives { Gives (with_rest (item_view V.view)) result (read (right (right (left (codes "RECT" ▸ wire_rectangle)))) (rest_of cursor.entry)) }
-    ensures later { IfSome result (λ x. IsLater cursor.entry x.1) }
-    ensures left { IfSome result (λ x. pieces_of x.1.tokens ≡ behind (spell (right (right (left (codes "RECT" ▸ wire_rectangle)))) (item_view V.view x.0)) (pieces_of cursor.entry.tokens)) }
-    ensures lent { IfSome result (λ x. ItemAt V.lent (pieces_of cursor.entry.tokens) x.0) }
-{
-    let (corners, cursor) = wire_rectangle_at(cursor.key(b"RECT")?)?;
-    Some((PathItem::Rectangle(corners), cursor))
-}
-
 /// A point, or a via
+#[tactic(auto, unfolding(def_grammar::specs::Wiring::wire_point))]
 #[inline(always)]
 fn point_or_via_at<'t, V: PathVia<'t>>(cursor: Cursor<'t>) -> Option<(PathItem<'t, V>, Cursor<'t>)>
     ensures gives { Gives (with_rest (item_view V.view)) result (read (right (right (right (alt is_open wire_point V.form)))) (rest_of cursor.entry)) }
@@ -442,30 +390,11 @@ fn point_or_via_at<'t, V: PathVia<'t>>(cursor: Cursor<'t>) -> Option<(PathItem<'
     ensures lent { IfSome result (λ x. ItemAt V.lent (pieces_of cursor.entry.tokens) x.0) }
 {
     if next_is_open(cursor) {
-        let (at, cursor) = wire_point_at(cursor)?;
+        let (at, cursor) = wire_point_at(true, cursor)?;
         Some((PathItem::Point(at), cursor))
     } else {
         let (via, cursor) = V::read(cursor)?;
         Some((PathItem::Via(via), cursor))
-    }
-}
-
-/// A mask, a point, a point without wire, a rectangle, or a via
-#[inline(always)]
-fn path_item_at<'t, V: PathVia<'t>>(cursor: Cursor<'t>) -> Option<(PathItem<'t, V>, Cursor<'t>)>
-    ensures gives { Gives (with_rest (item_view V.view)) result (read (path_item V.form) (rest_of cursor.entry)) }
-    ensures later { IfSome result (λ x. IsLater cursor.entry x.1) }
-    ensures left { IfSome result (λ x. pieces_of x.1.tokens ≡ behind (spell (path_item V.form) (item_view V.view x.0)) (pieces_of cursor.entry.tokens)) }
-    ensures lent { IfSome result (λ x. ItemAt V.lent (pieces_of cursor.entry.tokens) x.0) }
-{
-    if cursor.next_is(b"MASK") {
-        mask_item_at(cursor)
-    } else if cursor.next_is(b"VIRTUAL") {
-        virtual_item_at(cursor)
-    } else if cursor.next_is(b"RECT") {
-        rectangle_item_at(cursor)
-    } else {
-        point_or_via_at(cursor)
     }
 }
 
@@ -477,30 +406,6 @@ fn next_goes_on<'t>(cursor: Cursor<'t>) -> bool
     match cursor.peek() {
         Some(token) => goes_on(token.bytes),
         None => false,
-    }
-}
-
-/// What comes after a point with few digits, or after a via, as most items are; `None` says nothing.
-#[inline(always)]
-fn usual_item_past<'t, V: PathVia<'t>>(cursor: Cursor<'t>) -> Option<Cursor<'t>>
-    ensures begins { IfSome result (λ x. next_passes goes_on (rest_of cursor.entry) ≡ true) }
-    ensures gives { Finds rest_of result (left_after (read (path_item V.form) (rest_of cursor.entry))) }
-    ensures later { IfSome result (λ x. IsLater cursor.entry x) }
-    ensures left { Finds (λ x. pieces_of x.tokens) result (tokens_after (spell (path_item V.form)) (pieces_of cursor.entry.tokens) (read (path_item V.form) (rest_of cursor.entry))) }
-{
-    if !next_goes_on(cursor)
-        || cursor.next_is(b"MASK")
-        || cursor.next_is(b"VIRTUAL")
-        || cursor.next_is(b"RECT")
-    {
-        return None;
-    }
-    if next_is_open(cursor) {
-        let (_, later) = short_wire_point_at(cursor)?;
-        Some(later)
-    } else {
-        let (_, later) = V::read(cursor)?;
-        Some(later)
     }
 }
 
@@ -528,6 +433,7 @@ impl<'t, V: PathVia<'t>> Part<'t> for PathItem<'t, V> {
         goes_on(word)
     }
 
+    #[tactic(auto, unfolding(def_grammar::specs::Points::later_point))]
     #[inline(always)]
     fn read(cursor: Cursor<'t>) -> Option<(PathItem<'t, V>, Cursor<'t>)>
         ensures gives { Gives (with_rest (item_view V.view)) result (read (path_item V.form) (rest_of cursor.entry)) }
@@ -535,11 +441,23 @@ impl<'t, V: PathVia<'t>> Part<'t> for PathItem<'t, V> {
         ensures left { IfSome result (λ x. pieces_of x.1.tokens ≡ behind (spell (path_item V.form) (item_view V.view x.0)) (pieces_of cursor.entry.tokens)) }
         ensures lent { IfSome result (λ x. ItemAt V.lent (pieces_of cursor.entry.tokens) x.0) }
     {
-        path_item_at(cursor)
+        if cursor.next_is(b"MASK") {
+            let (word, cursor) = cursor.plain_word_behind(b"MASK")?;
+            Some((PathItem::Mask(word), cursor))
+        } else if let Some(cursor) = past_keyword(cursor, b"VIRTUAL") {
+            let (point, cursor) = later_point_at(cursor)?;
+            Some((PathItem::Virtual(point.at), cursor))
+        } else if let Some(cursor) = past_keyword(cursor, b"RECT") {
+            let (corners, cursor) = wire_rectangle_at(cursor)?;
+            Some((PathItem::Rectangle(corners), cursor))
+        } else {
+            point_or_via_at(cursor)
+        }
     }
 }
 
 impl<'t, V: PathVia<'t>> UsualPart<'t> for PathItem<'t, V> {
+    #[tactic(auto, unfolding(def_grammar::specs::Wiring::wire_point))]
     #[inline(always)]
     fn skip(cursor: Cursor<'t>) -> Option<Cursor<'t>>
         ensures begins { IfSome result (λ x. next_passes goes_on (rest_of cursor.entry) ≡ true) }
@@ -547,12 +465,25 @@ impl<'t, V: PathVia<'t>> UsualPart<'t> for PathItem<'t, V> {
         ensures later { IfSome result (λ x. IsLater cursor.entry x) }
         ensures left { Finds (λ x. pieces_of x.tokens) result (tokens_after (spell (path_item V.form)) (pieces_of cursor.entry.tokens) (read (path_item V.form) (rest_of cursor.entry))) }
     {
-        usual_item_past::<V>(cursor)
+        if !next_goes_on(cursor)
+            || cursor.next_is(b"MASK")
+            || cursor.next_is(b"VIRTUAL")
+            || cursor.next_is(b"RECT")
+        {
+            return None;
+        }
+        if next_is_open(cursor) {
+            let (_, later) = short_wire_point_at(true, cursor)?;
+            Some(later)
+        } else {
+            let (_, later) = V::read(cursor)?;
+            Some(later)
+        }
     }
 }
 
 /// `[MASK word]`, the first point, and what the path goes on with
-#[tactic(auto, unfolding(def_grammar::specs::Wiring::net_path, def_grammar::specs::Wiring::net_item), using(lefdef_tokens::proofs::PlaceLemmas::behind_append))]
+#[tactic(auto, unfolding(def_grammar::specs::Wiring::net_path, def_grammar::specs::Wiring::net_item, def_grammar::specs::Wiring::wire_start), using(lefdef_tokens::proofs::PlaceLemmas::behind_append))]
 #[inline(always)]
 pub fn net_path_at<'t>(cursor: Cursor<'t>) -> Option<(Path<'t, WireVia<'t>>, Cursor<'t>)>
     ensures gives { Gives (with_rest net_path_view) result (read net_path (rest_of cursor.entry)) }
@@ -561,13 +492,13 @@ pub fn net_path_at<'t>(cursor: Cursor<'t>) -> Option<(Path<'t, WireVia<'t>>, Cur
     ensures lent { IfSome result (λ x. PathAt (pieces_of cursor.entry.tokens) x.0) }
 {
     let (mask, cursor) = mask_at(cursor)?;
-    let (start, cursor) = wire_start_at(cursor)?;
+    let (start, cursor) = wire_point_at(false, cursor)?;
     let (items, cursor) = read_usual_parts::<PathItem<'t, WireVia<'t>>>(cursor)?;
     Some((Path { mask, start, items }, cursor))
 }
 
 /// What comes after a path whose points have few digits and whose other items are vias; `None` says nothing.
-#[tactic(auto, unfolding(def_grammar::specs::Wiring::net_path, def_grammar::specs::Wiring::net_item), using(lefdef_tokens::proofs::PlaceLemmas::behind_append))]
+#[tactic(auto, unfolding(def_grammar::specs::Wiring::net_path, def_grammar::specs::Wiring::net_item, def_grammar::specs::Wiring::wire_start), using(lefdef_tokens::proofs::PlaceLemmas::behind_append))]
 #[inline(always)]
 pub(crate) fn usual_net_path_past<'t>(cursor: Cursor<'t>) -> Option<Cursor<'t>>
     ensures gives { Finds rest_of result (left_after (read net_path (rest_of cursor.entry))) }
@@ -575,12 +506,12 @@ pub(crate) fn usual_net_path_past<'t>(cursor: Cursor<'t>) -> Option<Cursor<'t>>
     ensures left { Finds (λ x. pieces_of x.tokens) result (tokens_after (spell net_path) (pieces_of cursor.entry.tokens) (read net_path (rest_of cursor.entry))) }
 {
     let (_, cursor) = mask_at(cursor)?;
-    let (_, cursor) = short_start_at(cursor)?;
+    let (_, cursor) = short_wire_point_at(false, cursor)?;
     skip_parts::<PathItem<'t, WireVia<'t>>>(cursor)
 }
 
 /// `[MASK word]`, the first point, and what the path of a special net goes on with
-#[tactic(auto, unfolding(def_grammar::specs::Wiring::special_path, def_grammar::specs::Wiring::special_item), using(lefdef_tokens::proofs::PlaceLemmas::behind_append))]
+#[tactic(auto, unfolding(def_grammar::specs::Wiring::special_path, def_grammar::specs::Wiring::special_item, def_grammar::specs::Wiring::wire_start), using(lefdef_tokens::proofs::PlaceLemmas::behind_append))]
 pub fn special_path_at<'t>(cursor: Cursor<'t>) -> Option<(Path<'t, SpecialVia<'t>>, Cursor<'t>)>
     ensures gives { Gives (with_rest special_path_view) result (read special_path (rest_of cursor.entry)) }
     ensures later { IfSome result (λ x. IsLater cursor.entry x.1) }
@@ -588,7 +519,7 @@ pub fn special_path_at<'t>(cursor: Cursor<'t>) -> Option<(Path<'t, SpecialVia<'t
     ensures lent { IfSome result (λ x. PathAt (pieces_of cursor.entry.tokens) x.0) }
 {
     let (mask, cursor) = mask_at(cursor)?;
-    let (start, cursor) = wire_start_at(cursor)?;
+    let (start, cursor) = wire_point_at(false, cursor)?;
     let (items, cursor) = read_usual_parts::<PathItem<'t, SpecialVia<'t>>>(cursor)?;
     Some((Path { mask, start, items }, cursor))
 }

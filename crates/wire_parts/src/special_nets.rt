@@ -1,18 +1,18 @@
 //! Entries of SPECIALNETS (LEF/DEF 5.8 Language Reference, "Special Nets").
 
 ghost use Rattle.std.specs.Prelude.{◌≡◌, codes, IfSome};
-ghost use Rattle.form_meanings.specs.Words.{Gives, is_plain, is_plus};
+ghost use Rattle.form_meanings.specs.Words.{Gives, is_plus};
 ghost use Rattle.statement_model.specs.Form.{◌▸◌, ◌⨟◌, left, or_else, read, right, spell, word};
 ghost use Rattle.def_grammar.specs.Clauses.{kept_clause};
 ghost use Rattle.def_grammar.specs.Parts.{name};
 ghost use Rattle.def_grammar.specs.Points.{corners, polygon};
 ghost use Rattle.def_grammar.specs.SpecialNets.{placed_via, special_clause, special_listed, special_net_form, special_shape};
-ghost use Rattle.def_grammar.specs.Wiring.{special_wiring};
 ghost use Rattle.lefdef_tokens.specs.Places.{behind, past};
 ghost use Rattle.lefdef_tokens.specs.Views.{IsLater, pieces_of, rest_of};
 ghost use Rattle.def_parts.specs.PointViews.{with_rest};
 ghost use Rattle.wire_parts.specs.SpecialNetViews.{PlacedViaAt, SpecialClauseAt, SpecialNetAt, of_listed, of_shape, placed_via_view, special_by_word, special_clause_view, special_net_view};
 
+use crate::keyword::past_keyword;
 use crate::paths::{WireVia, wire_via_at};
 use crate::terminals::Terminal;
 use crate::wiring::{SpecialWiring, special_wiring_at};
@@ -83,17 +83,6 @@ fn rectangle_clause_at<'t>(cursor: Cursor<'t>) -> Option<(SpecialClause<'t>, Cur
     Some((SpecialClause::Rectangle(layer, corners), cursor))
 }
 
-/// `VIA ..`
-fn vias_clause_at<'t>(cursor: Cursor<'t>) -> Option<(SpecialClause<'t>, Cursor<'t>)>
-    ensures gives { Gives (with_rest special_clause_view) result (read (of_shape (right (left (codes "VIA" ▸ placed_via)))) (rest_of cursor.entry)) }
-    ensures later { IfSome result (λ x. IsLater cursor.entry x.1) }
-    ensures left { IfSome result (λ x. pieces_of x.1.tokens ≡ behind (spell (of_shape (right (left (codes "VIA" ▸ placed_via)))) (special_clause_view x.0)) (pieces_of cursor.entry.tokens)) }
-    ensures lent { IfSome result (λ x. SpecialClauseAt (pieces_of cursor.entry.tokens) x.0) }
-{
-    let (via, cursor) = placed_via_at(cursor.key(b"VIA")?)?;
-    Some((SpecialClause::Vias(via), cursor))
-}
-
 /// `POLYGON layer ..`
 fn polygon_clause_at<'t>(cursor: Cursor<'t>) -> Option<(SpecialClause<'t>, Cursor<'t>)>
     ensures gives { Gives (with_rest special_clause_view) result (read (of_shape (right (right (left (codes "POLYGON" ▸ name ⨟ polygon))))) (rest_of cursor.entry)) }
@@ -106,17 +95,6 @@ fn polygon_clause_at<'t>(cursor: Cursor<'t>) -> Option<(SpecialClause<'t>, Curso
     Some((SpecialClause::Polygon(layer, polygon), cursor))
 }
 
-/// A wiring clause
-fn wiring_clause_at<'t>(cursor: Cursor<'t>) -> Option<(SpecialClause<'t>, Cursor<'t>)>
-    ensures gives { Gives (with_rest special_clause_view) result (read (of_shape (right (right (right special_wiring)))) (rest_of cursor.entry)) }
-    ensures later { IfSome result (λ x. IsLater cursor.entry x.1) }
-    ensures left { IfSome result (λ x. pieces_of x.1.tokens ≡ behind (spell (of_shape (right (right (right special_wiring)))) (special_clause_view x.0)) (pieces_of cursor.entry.tokens)) }
-    ensures lent { IfSome result (λ x. SpecialClauseAt (pieces_of cursor.entry.tokens) x.0) }
-{
-    let (wiring, cursor) = special_wiring_at(cursor)?;
-    Some((SpecialClause::Wiring(wiring), cursor))
-}
-
 /// `RECT layer ..`, `VIA ..`, `POLYGON layer ..`, or wiring
 #[tactic(auto, unfolding(def_grammar::specs::SpecialNets::special_shape))]
 fn shape_at<'t>(cursor: Cursor<'t>) -> Option<(SpecialClause<'t>, Cursor<'t>)>
@@ -127,46 +105,15 @@ fn shape_at<'t>(cursor: Cursor<'t>) -> Option<(SpecialClause<'t>, Cursor<'t>)>
 {
     if cursor.next_is(b"RECT") {
         rectangle_clause_at(cursor)
-    } else if cursor.next_is(b"VIA") {
-        vias_clause_at(cursor)
+    } else if let Some(cursor) = past_keyword(cursor, b"VIA") {
+        let (via, cursor) = placed_via_at(cursor)?;
+        Some((SpecialClause::Vias(via), cursor))
     } else if cursor.next_is(b"POLYGON") {
         polygon_clause_at(cursor)
     } else {
-        wiring_clause_at(cursor)
+        let (wiring, cursor) = special_wiring_at(cursor)?;
+        Some((SpecialClause::Wiring(wiring), cursor))
     }
-}
-
-/// `USE word`
-fn use_clause_at<'t>(cursor: Cursor<'t>) -> Option<(SpecialClause<'t>, Cursor<'t>)>
-    ensures gives { Gives (with_rest special_clause_view) result (read (of_listed (left (codes "USE" ▸ word is_plain))) (rest_of cursor.entry)) }
-    ensures later { IfSome result (λ x. IsLater cursor.entry x.1) }
-    ensures left { IfSome result (λ x. pieces_of x.1.tokens ≡ behind (spell (of_listed (left (codes "USE" ▸ word is_plain))) (special_clause_view x.0)) (pieces_of cursor.entry.tokens)) }
-    ensures lent { IfSome result (λ x. SpecialClauseAt (pieces_of cursor.entry.tokens) x.0) }
-{
-    let (word, cursor) = cursor.plain_word_behind(b"USE")?;
-    Some((SpecialClause::Use(word), cursor))
-}
-
-/// `SHAPE word`
-fn shape_clause_at<'t>(cursor: Cursor<'t>) -> Option<(SpecialClause<'t>, Cursor<'t>)>
-    ensures gives { Gives (with_rest special_clause_view) result (read (of_listed (right (left (codes "SHAPE" ▸ word is_plain)))) (rest_of cursor.entry)) }
-    ensures later { IfSome result (λ x. IsLater cursor.entry x.1) }
-    ensures left { IfSome result (λ x. pieces_of x.1.tokens ≡ behind (spell (of_listed (right (left (codes "SHAPE" ▸ word is_plain)))) (special_clause_view x.0)) (pieces_of cursor.entry.tokens)) }
-    ensures lent { IfSome result (λ x. SpecialClauseAt (pieces_of cursor.entry.tokens) x.0) }
-{
-    let (word, cursor) = cursor.plain_word_behind(b"SHAPE")?;
-    Some((SpecialClause::Shape(word), cursor))
-}
-
-/// `MASK word`
-fn mask_clause_at<'t>(cursor: Cursor<'t>) -> Option<(SpecialClause<'t>, Cursor<'t>)>
-    ensures gives { Gives (with_rest special_clause_view) result (read (of_listed (right (right (left (codes "MASK" ▸ word is_plain))))) (rest_of cursor.entry)) }
-    ensures later { IfSome result (λ x. IsLater cursor.entry x.1) }
-    ensures left { IfSome result (λ x. pieces_of x.1.tokens ≡ behind (spell (of_listed (right (right (left (codes "MASK" ▸ word is_plain))))) (special_clause_view x.0)) (pieces_of cursor.entry.tokens)) }
-    ensures lent { IfSome result (λ x. SpecialClauseAt (pieces_of cursor.entry.tokens) x.0) }
-{
-    let (word, cursor) = cursor.plain_word_behind(b"MASK")?;
-    Some((SpecialClause::Mask(word), cursor))
 }
 
 /// The body of a clause but SUBNET, whatever comes behind it: `USE word`, `SHAPE word`, `MASK word`, a shape, or wiring
@@ -177,11 +124,14 @@ pub fn special_body_at<'t>(cursor: Cursor<'t>) -> Option<(SpecialClause<'t>, Cur
     ensures lent { IfSome result (λ x. SpecialClauseAt (pieces_of cursor.entry.tokens) x.0) }
 {
     if cursor.next_is(b"USE") {
-        use_clause_at(cursor)
+        let (word, cursor) = cursor.plain_word_behind(b"USE")?;
+        Some((SpecialClause::Use(word), cursor))
     } else if cursor.next_is(b"SHAPE") {
-        shape_clause_at(cursor)
+        let (word, cursor) = cursor.plain_word_behind(b"SHAPE")?;
+        Some((SpecialClause::Shape(word), cursor))
     } else if cursor.next_is(b"MASK") {
-        mask_clause_at(cursor)
+        let (word, cursor) = cursor.plain_word_behind(b"MASK")?;
+        Some((SpecialClause::Mask(word), cursor))
     } else {
         shape_at(cursor)
     }
@@ -217,23 +167,6 @@ fn listed_or_kept_at<'t>(cursor: Cursor<'t>) -> Option<(SpecialClause<'t>, Curso
     Some((SpecialClause::Other(clause), cursor))
 }
 
-/// `+ SUBNET any*`, or another clause behind its `+`
-#[tactic(auto, unfolding(def_grammar::specs::SpecialNets::special_clause))]
-fn special_clause_at<'t>(cursor: Cursor<'t>) -> Option<(SpecialClause<'t>, Cursor<'t>)>
-    ensures gives { Gives (with_rest special_clause_view) result (read special_clause (rest_of cursor.entry)) }
-    ensures later { IfSome result (λ x. IsLater cursor.entry x.1) }
-    ensures left { IfSome result (λ x. pieces_of x.1.tokens ≡ behind (spell special_clause (special_clause_view x.0)) (pieces_of cursor.entry.tokens)) }
-    ensures lent { IfSome result (λ x. SpecialClauseAt (past 1 (pieces_of cursor.entry.tokens)) x.0) }
-{
-    let cursor = cursor.key(b"+")?;
-    if cursor.next_is(b"SUBNET") {
-        let (tokens, cursor) = cursor.key(b"SUBNET")?.up_to_semicolon();
-        Some((SpecialClause::Subnet(tokens), cursor))
-    } else {
-        listed_or_kept_at(cursor)
-    }
-}
-
 impl<'t> Part<'t> for SpecialClause<'t> {
     ghost use Rattle.def_grammar.specs.SpecialNets.{SpecialClause as TheClause};
 
@@ -257,13 +190,20 @@ impl<'t> Part<'t> for SpecialClause<'t> {
         is_plus(word)
     }
 
+    #[tactic(auto, unfolding(def_grammar::specs::SpecialNets::special_clause))]
     fn read(cursor: Cursor<'t>) -> Option<(SpecialClause<'t>, Cursor<'t>)>
         ensures gives { Gives (with_rest special_clause_view) result (read special_clause (rest_of cursor.entry)) }
         ensures later { IfSome result (λ x. IsLater cursor.entry x.1) }
         ensures left { IfSome result (λ x. pieces_of x.1.tokens ≡ behind (spell special_clause (special_clause_view x.0)) (pieces_of cursor.entry.tokens)) }
         ensures lent { IfSome result (λ x. SpecialClauseAt (past 1 (pieces_of cursor.entry.tokens)) x.0) }
     {
-        special_clause_at(cursor)
+        let cursor = cursor.key(b"+")?;
+        if let Some(cursor) = past_keyword(cursor, b"SUBNET") {
+            let (tokens, cursor) = cursor.up_to_semicolon();
+            Some((SpecialClause::Subnet(tokens), cursor))
+        } else {
+            listed_or_kept_at(cursor)
+        }
     }
 }
 

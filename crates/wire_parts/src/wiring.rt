@@ -3,9 +3,9 @@
 
 ghost use Rattle.std.specs.Prelude.{◌≡◌, codes, not, true, IfSome};
 ghost use Rattle.std.specs.Option.{option_map};
-ghost use Rattle.form_meanings.specs.Words.{Gives, is_plain, is_plus, is_stop, next_passes};
+ghost use Rattle.form_meanings.specs.Words.{Gives, is_plus, is_stop, next_passes};
 ghost use Rattle.form_meanings.specs.Meaning.{find};
-ghost use Rattle.statement_model.specs.Form.{◌▸◌, ◌⨟◌, empty, left, many, on, opt_on, read, right, spell, word};
+ghost use Rattle.statement_model.specs.Form.{◌⨟◌, empty, many, on, opt_on, read, spell};
 ghost use Rattle.def_grammar.specs.Parts.{int, name};
 ghost use Rattle.def_grammar.specs.Wiring.{is_new, new_special_wire, new_wire, special_wire, special_wires, special_wiring, taper, wire, wire_mark, wiring, wiring_status, wiring_statuses, wiring_word};
 ghost use Rattle.lefdef_tokens.specs.Unseens.{Finds};
@@ -16,13 +16,14 @@ ghost use Rattle.def_parts.specs.PointViews.{with_rest};
 ghost use Rattle.statement_reader.specs.PartViews.{left_after, tokens_after};
 ghost use Rattle.wire_parts.specs.WiringViews.{MarkAt, SpecialKindAt, SpecialWireAt, SpecialWiresAt, SpecialWiringAt, TaperAt, WireAt, WiringAt, first_and_others, kind_view, mark_view, special_kind_view, special_wire_view, special_wiring_view, status_view, taper_view, wire_view, wires_view, wiring_view};
 
+use crate::keyword::past_keyword;
 use crate::paths::{Path, SpecialVia, WireVia, net_path_at, special_path_at, usual_net_path_past};
 use def_parts::number::{int_at, size_at};
 use lefdef_tokens::{Cursor, Token, is_plus, is_stop, is_word};
 use statement_reader::parts::{Part, Parts, UsualPart, read_parts, read_usual_parts};
 
 /// How wiring was made.
-#[derive(Clone, Copy, Debug, PartialEq, Eq)]
+#[derive(Clone, Copy)]
 pub enum WiringStatus {
     /// An edit may take its place.
     Routed,
@@ -146,8 +147,7 @@ pub fn taper_at<'t>(cursor: Cursor<'t>) -> Option<(Taper<'t>, Cursor<'t>)>
     ensures left { IfSome result (λ x. pieces_of x.1.tokens ≡ behind (spell taper (taper_view x.0)) (pieces_of cursor.entry.tokens)) }
     ensures lent { IfSome result (λ x. TaperAt (pieces_of cursor.entry.tokens) x.0) }
 {
-    if cursor.next_is(b"TAPER") {
-        let cursor = cursor.key(b"TAPER")?;
+    if let Some(cursor) = past_keyword(cursor, b"TAPER") {
         Some((Taper::Layer, cursor))
     } else if cursor.next_is(b"TAPERRULE") {
         let (rule, cursor) = cursor.name_behind(b"TAPERRULE")?;
@@ -165,8 +165,8 @@ fn style_at<'t>(cursor: Cursor<'t>) -> Option<(Option<Token<'t>>, Cursor<'t>)>
     ensures left { IfSome result (λ x. pieces_of x.1.tokens ≡ behind (spell (opt_on (codes "STYLE") int) (mask_view x.0)) (pieces_of cursor.entry.tokens)) }
     ensures lent { IfSome result (λ x. MaskAt (pieces_of cursor.entry.tokens) x.0) }
 {
-    if cursor.next_is(b"STYLE") {
-        let (number, cursor) = int_at(cursor.key(b"STYLE")?)?;
+    if let Some(cursor) = past_keyword(cursor, b"STYLE") {
+        let (number, cursor) = int_at(cursor)?;
         Some((Some(number), cursor))
     } else {
         Some((None, cursor))
@@ -195,18 +195,6 @@ pub fn wire_at<'t>(cursor: Cursor<'t>) -> Option<(Wire<'t>, Cursor<'t>)>
     Some((wire, cursor))
 }
 
-/// `NEW wire`
-#[tactic(auto, unfolding(def_grammar::specs::Wiring::new_wire))]
-#[inline(always)]
-fn new_wire_at<'t>(cursor: Cursor<'t>) -> Option<(Wire<'t>, Cursor<'t>)>
-    ensures gives { Gives (with_rest wire_view) result (read new_wire (rest_of cursor.entry)) }
-    ensures later { IfSome result (λ x. IsLater cursor.entry x.1) }
-    ensures left { IfSome result (λ x. pieces_of x.1.tokens ≡ behind (spell new_wire (wire_view x.0)) (pieces_of cursor.entry.tokens)) }
-    ensures lent { IfSome result (λ x. WireAt (past 1 (pieces_of cursor.entry.tokens)) x.0) }
-{
-    wire_at(cursor.key(b"NEW")?)
-}
-
 // As a part that is repeated, a wire is one behind NEW.
 impl<'t> Part<'t> for Wire<'t> {
     ghost use Rattle.def_grammar.specs.Wiring.{Wire as TheWire};
@@ -232,6 +220,7 @@ impl<'t> Part<'t> for Wire<'t> {
         is_word(word, b"NEW")
     }
 
+    #[tactic(auto, unfolding(def_grammar::specs::Wiring::new_wire))]
     #[inline(always)]
     fn read(cursor: Cursor<'t>) -> Option<(Wire<'t>, Cursor<'t>)>
         ensures gives { Gives (with_rest wire_view) result (read new_wire (rest_of cursor.entry)) }
@@ -239,29 +228,12 @@ impl<'t> Part<'t> for Wire<'t> {
         ensures left { IfSome result (λ x. pieces_of x.1.tokens ≡ behind (spell new_wire (wire_view x.0)) (pieces_of cursor.entry.tokens)) }
         ensures lent { IfSome result (λ x. WireAt (past 1 (pieces_of cursor.entry.tokens)) x.0) }
     {
-        new_wire_at(cursor)
+        wire_at(cursor.key(b"NEW")?)
     }
-}
-
-/// What comes after `NEW` and a wire with a usual path; `None` says nothing.
-#[tactic(auto, unfolding(def_grammar::specs::Wiring::new_wire, def_grammar::specs::Wiring::wire), using(lefdef_tokens::proofs::PlaceLemmas::behind_append))]
-#[inline(always)]
-fn usual_wire_past<'t>(cursor: Cursor<'t>) -> Option<Cursor<'t>>
-    ensures begins { IfSome result (λ x. next_passes is_new (rest_of cursor.entry) ≡ true) }
-    ensures gives { Finds rest_of result (left_after (read new_wire (rest_of cursor.entry))) }
-    ensures later { IfSome result (λ x. IsLater cursor.entry x) }
-    ensures left { Finds (λ x. pieces_of x.tokens) result (tokens_after (spell new_wire) (pieces_of cursor.entry.tokens) (read new_wire (rest_of cursor.entry))) }
-{
-    if !cursor.next_is(b"NEW") {
-        return None;
-    }
-    let (_, cursor) = cursor.name_behind(b"NEW")?;
-    let (_, cursor) = taper_at(cursor)?;
-    let (_, cursor) = style_at(cursor)?;
-    usual_net_path_past(cursor)
 }
 
 impl<'t> UsualPart<'t> for Wire<'t> {
+    #[tactic(auto, unfolding(def_grammar::specs::Wiring::new_wire, def_grammar::specs::Wiring::wire), using(lefdef_tokens::proofs::PlaceLemmas::behind_append))]
     #[inline(always)]
     fn skip(cursor: Cursor<'t>) -> Option<Cursor<'t>>
         ensures begins { IfSome result (λ x. next_passes is_new (rest_of cursor.entry) ≡ true) }
@@ -269,7 +241,13 @@ impl<'t> UsualPart<'t> for Wire<'t> {
         ensures later { IfSome result (λ x. IsLater cursor.entry x) }
         ensures left { Finds (λ x. pieces_of x.tokens) result (tokens_after (spell new_wire) (pieces_of cursor.entry.tokens) (read new_wire (rest_of cursor.entry))) }
     {
-        usual_wire_past(cursor)
+        if !cursor.next_is(b"NEW") {
+            return None;
+        }
+        let (_, cursor) = cursor.name_behind(b"NEW")?;
+        let (_, cursor) = taper_at(cursor)?;
+        let (_, cursor) = style_at(cursor)?;
+        usual_net_path_past(cursor)
     }
 }
 
@@ -280,8 +258,7 @@ fn wiring_kind_at<'t>(cursor: Cursor<'t>) -> Option<(WiringKind, Cursor<'t>)>
     ensures later { IfSome result (λ x. IsLater cursor.entry x.1) }
     ensures left { IfSome result (λ x. pieces_of x.1.tokens ≡ behind (spell (on (codes "NOSHIELD") empty wiring_status) (kind_view x.0)) (pieces_of cursor.entry.tokens)) }
 {
-    if cursor.next_is(b"NOSHIELD") {
-        let cursor = cursor.key(b"NOSHIELD")?;
+    if let Some(cursor) = past_keyword(cursor, b"NOSHIELD") {
         Some((WiringKind::NoShield, cursor))
     } else {
         let (status, cursor) = wiring_status_at(cursor)?;
@@ -309,57 +286,6 @@ pub fn wiring_at<'t>(cursor: Cursor<'t>) -> Option<(Wiring<'t>, Cursor<'t>)>
     Some((wiring, cursor))
 }
 
-/// `SHAPE word`
-fn shape_mark_at<'t>(cursor: Cursor<'t>) -> Option<(WireMark<'t>, Cursor<'t>)>
-    ensures gives { Gives (with_rest mark_view) result (read (left (codes "SHAPE" ▸ word is_plain)) (rest_of cursor.entry)) }
-    ensures later { IfSome result (λ x. IsLater cursor.entry x.1) }
-    ensures left { IfSome result (λ x. pieces_of x.1.tokens ≡ behind (spell (left (codes "SHAPE" ▸ word is_plain)) (mark_view x.0)) (pieces_of cursor.entry.tokens)) }
-    ensures lent { IfSome result (λ x. MarkAt (pieces_of cursor.entry.tokens) x.0) }
-{
-    let (word, cursor) = cursor.plain_word_behind(b"SHAPE")?;
-    Some((WireMark::Shape(word), cursor))
-}
-
-/// `STYLE number`
-fn style_mark_at<'t>(cursor: Cursor<'t>) -> Option<(WireMark<'t>, Cursor<'t>)>
-    ensures gives { Gives (with_rest mark_view) result (read (right (left (codes "STYLE" ▸ int))) (rest_of cursor.entry)) }
-    ensures later { IfSome result (λ x. IsLater cursor.entry x.1) }
-    ensures left { IfSome result (λ x. pieces_of x.1.tokens ≡ behind (spell (right (left (codes "STYLE" ▸ int))) (mark_view x.0)) (pieces_of cursor.entry.tokens)) }
-    ensures lent { IfSome result (λ x. MarkAt (pieces_of cursor.entry.tokens) x.0) }
-{
-    let (number, cursor) = int_at(cursor.key(b"STYLE")?)?;
-    Some((WireMark::Style(number), cursor))
-}
-
-/// `MASK word`
-fn mask_mark_at<'t>(cursor: Cursor<'t>) -> Option<(WireMark<'t>, Cursor<'t>)>
-    ensures gives { Gives (with_rest mark_view) result (read (right (right (codes "MASK" ▸ word is_plain))) (rest_of cursor.entry)) }
-    ensures later { IfSome result (λ x. IsLater cursor.entry x.1) }
-    ensures left { IfSome result (λ x. pieces_of x.1.tokens ≡ behind (spell (right (right (codes "MASK" ▸ word is_plain))) (mark_view x.0)) (pieces_of cursor.entry.tokens)) }
-    ensures lent { IfSome result (λ x. MarkAt (pieces_of cursor.entry.tokens) x.0) }
-{
-    let (word, cursor) = cursor.plain_word_behind(b"MASK")?;
-    Some((WireMark::Mask(word), cursor))
-}
-
-/// `+ SHAPE word`, `+ STYLE number`, or `+ MASK word`
-#[tactic(auto, unfolding(def_grammar::specs::Wiring::wire_mark))]
-fn wire_mark_at<'t>(cursor: Cursor<'t>) -> Option<(WireMark<'t>, Cursor<'t>)>
-    ensures gives { Gives (with_rest mark_view) result (read wire_mark (rest_of cursor.entry)) }
-    ensures later { IfSome result (λ x. IsLater cursor.entry x.1) }
-    ensures left { IfSome result (λ x. pieces_of x.1.tokens ≡ behind (spell wire_mark (mark_view x.0)) (pieces_of cursor.entry.tokens)) }
-    ensures lent { IfSome result (λ x. MarkAt (past 1 (pieces_of cursor.entry.tokens)) x.0) }
-{
-    let cursor = cursor.key(b"+")?;
-    if cursor.next_is(b"SHAPE") {
-        shape_mark_at(cursor)
-    } else if cursor.next_is(b"STYLE") {
-        style_mark_at(cursor)
-    } else {
-        mask_mark_at(cursor)
-    }
-}
-
 impl<'t> Part<'t> for WireMark<'t> {
     ghost use Rattle.def_grammar.specs.Wiring.{WireMark as TheMark};
 
@@ -384,14 +310,24 @@ impl<'t> Part<'t> for WireMark<'t> {
         is_plus(word)
     }
 
-    #[inline(always)]
+    #[tactic(auto, unfolding(def_grammar::specs::Wiring::wire_mark))]
     fn read(cursor: Cursor<'t>) -> Option<(WireMark<'t>, Cursor<'t>)>
         ensures gives { Gives (with_rest mark_view) result (read wire_mark (rest_of cursor.entry)) }
         ensures later { IfSome result (λ x. IsLater cursor.entry x.1) }
         ensures left { IfSome result (λ x. pieces_of x.1.tokens ≡ behind (spell wire_mark (mark_view x.0)) (pieces_of cursor.entry.tokens)) }
         ensures lent { IfSome result (λ x. MarkAt (past 1 (pieces_of cursor.entry.tokens)) x.0) }
     {
-        wire_mark_at(cursor)
+        let cursor = cursor.key(b"+")?;
+        if cursor.next_is(b"SHAPE") {
+            let (word, cursor) = cursor.plain_word_behind(b"SHAPE")?;
+            Some((WireMark::Shape(word), cursor))
+        } else if let Some(cursor) = past_keyword(cursor, b"STYLE") {
+            let (number, cursor) = int_at(cursor)?;
+            Some((WireMark::Style(number), cursor))
+        } else {
+            let (word, cursor) = cursor.plain_word_behind(b"MASK")?;
+            Some((WireMark::Mask(word), cursor))
+        }
     }
 }
 
@@ -414,17 +350,6 @@ pub fn special_wire_at<'t>(cursor: Cursor<'t>) -> Option<(SpecialWire<'t>, Curso
         path,
     };
     Some((wire, cursor))
-}
-
-/// `NEW swire`, a wire of a special net
-#[tactic(auto, unfolding(def_grammar::specs::Wiring::new_special_wire))]
-fn new_special_wire_at<'t>(cursor: Cursor<'t>) -> Option<(SpecialWire<'t>, Cursor<'t>)>
-    ensures gives { Gives (with_rest special_wire_view) result (read new_special_wire (rest_of cursor.entry)) }
-    ensures later { IfSome result (λ x. IsLater cursor.entry x.1) }
-    ensures left { IfSome result (λ x. pieces_of x.1.tokens ≡ behind (spell new_special_wire (special_wire_view x.0)) (pieces_of cursor.entry.tokens)) }
-    ensures lent { IfSome result (λ x. SpecialWireAt (past 1 (pieces_of cursor.entry.tokens)) x.0) }
-{
-    special_wire_at(cursor.key(b"NEW")?)
 }
 
 // As a part that is repeated, a special wire is one behind NEW.
@@ -452,6 +377,7 @@ impl<'t> Part<'t> for SpecialWire<'t> {
         is_word(word, b"NEW")
     }
 
+    #[tactic(auto, unfolding(def_grammar::specs::Wiring::new_special_wire))]
     #[inline(always)]
     fn read(cursor: Cursor<'t>) -> Option<(SpecialWire<'t>, Cursor<'t>)>
         ensures gives { Gives (with_rest special_wire_view) result (read new_special_wire (rest_of cursor.entry)) }
@@ -459,7 +385,7 @@ impl<'t> Part<'t> for SpecialWire<'t> {
         ensures left { IfSome result (λ x. pieces_of x.1.tokens ≡ behind (spell new_special_wire (special_wire_view x.0)) (pieces_of cursor.entry.tokens)) }
         ensures lent { IfSome result (λ x. SpecialWireAt (past 1 (pieces_of cursor.entry.tokens)) x.0) }
     {
-        new_special_wire_at(cursor)
+        special_wire_at(cursor.key(b"NEW")?)
     }
 }
 

@@ -1,9 +1,0 @@
-use Rattle.std.proofs.Common.{◌≡◌, drop}
-use Rattle.lef_grammar.specs.Definitions.{via_record}
-use Rattle.form_meanings.specs.Firsts.{first_of, front}
-use Rattle.lef_grammar.specs.ViaBlock.{cut_spacing_of}
-use Rattle.cell_library.specs.Records.{records_view}
-use Rattle.cell_library.proofs.via.cut_spacing_of.Given as goal
-
-abbrev pub invariant-loop-statement : goal.invariant-loop-statement
-invariant-loop-statement l = first_of cut_spacing_of (front via_record (records_view (drop l.statement-index l.behind))) ≡ first_of cut_spacing_of (front via_record (records_view l.behind))
