@@ -40,6 +40,10 @@ pub if_ok : {T E : Type 0} {P Q : T → Type 0} (r : Result T E) → ((x : T) �
 if_ok (Ok x) f h = f x h
 if_ok (Err e) f h = h
 
+pub if_all : {T E Q : Type 0} (r : Result T E) → Q → IfOk r (λ _. Q)
+if_all (Ok x) q = q
+if_all (Err e) q = tt
+
 pub isnt_zero : (n : ℕ) → 0 < n → (n == 0) ≡ false
 isnt_zero n some = grind (arith, nat_tests)
 

@@ -1,7 +1,6 @@
 -- The number in the header of a section stands before the section's END and an entry that is taken out.
-use Rattle.std.proofs.Common.{◌≡◌, ◌≤◌, ◌-◌, ℕ, suc, List, Option, Some, length, take, drop, refl, subst}
+use Rattle.std.proofs.Common.{◌≡◌, ◌-◌, suc, ℕ, List, Option, Some, length, refl, subst}
 use Rattle.design_model.specs.declared.mode.Section.{Section}
-use Rattle.statement_model.specs.Cuts.{end_of_all}
 use Rattle.statement_model.specs.Reading.{pos_of}
 use Rattle.statement_model.specs.Tokens.{Token}
 use Rattle.def_grammar.specs.Located.{located}
@@ -9,7 +8,7 @@ use Rattle.def_grammar.specs.Records.{Record}
 use Rattle.edit_rules.specs.Plans.{Plan, StatementChange, cut_of}
 use Rattle.edit_rules.specs.SectionEdits.{count_change, entries_in, is_end, is_header, put_change, take_change, taking, tokens_where, two_changes}
 use Rattle.edit_laws.specs.PlanLaws.{StandInOrder}
-use Rattle.def_splice.specs.LookupViews.{MayPut, StandWithin}
+use Rattle.def_splice.specs.LookupViews.{CountsBefore, MayPut, StandWithin}
 
 -- what is said of a plan is said of its changes
 pub of_plan : (text : List ℕ) (plan : Plan) → StandInOrder text plan → StandWithin text plan.changes
@@ -21,10 +20,6 @@ both_found text first second a b hs ps one two stand =
     let P : Option (List Token) → Type 0 = λ o. StandWithin text (two_changes o a second b) in
     let Q : Option (List Token) → Type 0 = λ o. StandWithin text (two_changes (Some hs) a o b) in
     subst Q two (subst P one stand)
-
--- the number in a header ends no later than a place
-abbrev pub CountsBefore : ℕ → List Token → Type 0
-CountsBefore place hs = (2 ≤ length hs) × (end_of_all (take 1 (drop 1 hs)) ≤ place)
 
 module _ (text : List ℕ) (design : List Record) (s : Section) (hs : List Token) (head : tokens_where (is_header s) (located text design) ≡ Some hs) where
   pub before_end : (put : List ℕ) (es : List Token) → tokens_where (is_end s) (located text design) ≡ Some es → MayPut text design s put → CountsBefore (pos_of es) hs

@@ -1,7 +1,8 @@
 -- Statements that a test finds among those of a text.
-use Rattle.std.specs.Prelude.{ℕ, Bool, true, false, List, [], ◌∷◌, Option, Some, None, if◌then◌else◌}
+use Rattle.std.specs.Prelude.{ℕ, ◌≤◌, Bool, true, false, List, [], ◌∷◌, length, take, drop, Option, Some, None, if◌then◌else◌}
 use Rattle.std.specs.List.{list_any}
 use Rattle.design_model.specs.declared.mode.Section.{Section}
+use Rattle.statement_model.specs.Cuts.{end_of_all}
 use Rattle.statement_model.specs.Tokens.{Token}
 use Rattle.def_grammar.specs.Records.{Entry, Record}
 use Rattle.def_grammar.specs.Terminals.{Terminal}
@@ -38,6 +39,10 @@ section_plan_of library text design change = section_plan library (located text 
 -- changes lie within their statements, and their cuts stand in order within a text
 abbrev pub StandWithin : List ℕ → List (List Token × StatementChange) → Type 0
 StandWithin text changes = StandInOrder text (record { refusals = []; changes = changes })
+
+-- the number in a header ends no later than a place
+abbrev pub CountsBefore : ℕ → List Token → Type 0
+CountsBefore place hs = (2 ≤ length hs) × (end_of_all (take 1 (drop 1 hs)) ≤ place)
 
 -- so do those that put these bytes, which say some entry, into a section of a text with this design
 abbrev pub MayPut : List ℕ → List Record → Section → List ℕ → Type 0

@@ -18,6 +18,11 @@ use Rattle.edit_rules.specs.Runs.{Makes, MayWantMemory, WantsMemory}
 abbrev pub cut_view : {A : Type 0} → Splice A → Cut
 cut_view s = record { lo = s.lo; hi = s.hi; put = s.put }
 
+-- bytes and then others, one after the other
+abbrev pub joined : List ℕ → List (List ℕ) → List ℕ
+joined all [] = all
+joined all (p ∷ ps) = joined (all ++ p) ps
+
 -- the text with the splices made
 abbrev pub made : {A : Type 0} → List (Splice A) → List ℕ → List ℕ
 made splices text = with_cuts (map cut_view splices) text

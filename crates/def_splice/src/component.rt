@@ -15,7 +15,7 @@ ghost use Rattle.def_splice.specs.SpliceViews.{is_placed, AreInOrder, IsWithin, 
 use crate::lookups::{LookUps, has_macro};
 use crate::lying::in_text;
 use crate::place::{entry_placed, is_held};
-use crate::token_splices::{change_splice, over_tokens};
+use crate::token_splices::{change_splice, made_one, over_tokens};
 use cell_library::library::Library;
 use design_model::MAX_TEXT;
 use design_model::geometry::Orient;
@@ -76,8 +76,7 @@ fn entry_unplaced<'t, A: Allocator>(
     if !is_placed(&clause) {
         return Ok(None);
     }
-    let splice = over_tokens(alloc, tokens, b"UNPLACED")?;
-    Ok(Some(splice))
+    made_one(over_tokens(alloc, tokens, &[b"UNPLACED"]))
 }
 
 /// The splice that unplaces a component of a text that reads, or why that is refused.
@@ -115,8 +114,7 @@ fn entry_remastered<'t, A: Allocator + Copy>(
     if !has_macro(library, cell) {
         return Err(EditRefusal::Refused(EditCode::UnknownName));
     }
-    let splice = change_splice(alloc, entry, 2, 1, cell)?;
-    Ok(Some(splice))
+    made_one(change_splice(alloc, entry, 2, 1, &[cell]))
 }
 
 /// The splice that gives a component of a text that reads another macro, or why that is refused.

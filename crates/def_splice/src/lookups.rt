@@ -174,10 +174,10 @@ pub fn with_tokens<'t>(found: Option<(Statement<'t>, Lying<'t>)>) -> Option<(Ent
     let Some((statement, tokens)) = found else {
         return None;
     };
-    match statement {
-        Statement::Entry(entry) => Some((entry, tokens)),
-        _ => None,
-    }
+    let Some(entry) = statement.entry() else {
+        return None;
+    };
+    Some((entry, tokens))
 }
 
 /// Whether the design has a pin of this name.
@@ -238,7 +238,7 @@ pub fn is_pin<A: Allocator + Copy, L: LookUps>(
     requires { IsOk (read_def (L.text lookups.now)) }
     ensures { (design : List Record) → read_def (L.text lookups.now) ≡ Ok design → result ≡ is_pin library.now design owner.now pin.now }
 {
-    let are_names = is_name_text(owner) && is_name_text(pin);
+    let are_names = is_name_text(owner) & is_name_text(pin);
     if !are_names {
         return false;
     }
@@ -250,7 +250,7 @@ pub fn is_unknown_layer<A: Allocator + Copy>(library: &Library<'_, A>, layer: Op
     ensures { result ≡ is_unknown_layer library.now (lent (λ l. l.now) layer.entry) }
 {
     match layer {
-        Some(name) => !(is_name_text(name) && library.layer_named(name).is_some()),
+        Some(name) => !(is_name_text(name) & library.layer_named(name).is_some()),
         None => false,
     }
 }
@@ -259,5 +259,5 @@ pub fn is_unknown_layer<A: Allocator + Copy>(library: &Library<'_, A>, layer: Op
 pub fn has_macro<A: Allocator + Copy>(library: &Library<'_, A>, name: &[u8]) -> bool
     ensures { result ≡ is_known_macro library.now name.now }
 {
-    is_name_text(name) && library.macro_of(name).is_some()
+    is_name_text(name) & library.macro_of(name).is_some()
 }

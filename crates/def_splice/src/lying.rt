@@ -54,7 +54,7 @@ impl<'t> Lying<'t> {
         ensures order { IfOk result (λ s. s.lo ≤ s.hi) }
         ensures within { IfOk result (λ s. s.hi ≤ self.entry.at + length self.entry.tokens.text.now) }
     {
-        let splice = change_splice(alloc, self.tokens, before, taken, put)?;
+        let splice = change_splice(alloc, self.tokens, before, taken, &[put])?;
         Ok(moved(splice, self.at))
     }
 }

@@ -10,7 +10,7 @@ use lefdef_tokens::{is_name, is_word};
 fn is_visible(byte: u8) -> bool
     ensures { result ≡ is_visible byte }
 {
-    byte > 32 && byte != 127
+    (byte > 32) & (byte != 127)
 }
 
 /// Whether bytes begin neither a comment nor a string.
@@ -19,7 +19,7 @@ fn begins_word(bytes: &[u8]) -> bool
 {
     match bytes {
         [] => false,
-        [first, ..] => !(*first == b'#' || *first == b'"'),
+        [first, ..] => !((*first == b'#') | (*first == b'"')),
     }
 }
 
@@ -34,12 +34,12 @@ fn are_visible(bytes: &[u8]) -> bool
 pub fn is_name_text(name: &[u8]) -> bool
     ensures { result ≡ is_name_text name.now }
 {
-    begins_word(name) && are_visible(name) && is_name(name)
+    begins_word(name) & are_visible(name) & is_name(name)
 }
 
 /// Whether a component may have this name: it stands for no pin of the design.
 pub fn is_component_name(name: &[u8]) -> bool
     ensures { result ≡ is_component_name name.now }
 {
-    is_name_text(name) && !(is_word(name, b"PIN") || is_word(name, b"VPIN"))
+    is_name_text(name) & !(is_word(name, b"PIN") | is_word(name, b"VPIN"))
 }

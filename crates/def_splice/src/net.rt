@@ -17,7 +17,7 @@ use crate::lookups::{LookUps, is_pin, listing_entry, net_entry, with_tokens};
 use crate::lying::in_text;
 use crate::net_terminals::{terminal_tokens, tokens_to_end};
 use crate::terminals::Named;
-use crate::token_splices::change_splice;
+use crate::token_splices::{change_splice, made_one};
 use cell_library::library::Library;
 use def_reader::entry::Entry;
 use design_model::MAX_TEXT;
@@ -25,18 +25,6 @@ use edit_laws::editing::edits_stand_in_order;
 use edit_model::edit::{EditCode, EditRefusal, Splice, Splices};
 use lefdef_tokens::TokenRun;
 use std::alloc::{AllocError, Allocator};
-
-/// `( owner pin )`, with a space before it.
-fn terminal_text<A: Allocator>(alloc: A, owner: &[u8], pin: &[u8]) -> Result<Vec<u8, A>, AllocError>
-    ensures { IfOk result (λ v. v.items ≡ terminal_text owner.now pin.now) }
-{
-    let mut put = Vec::from_slice(alloc, b" ( ")?;
-    put.extend_from_slice(owner)?;
-    put.push(b' ')?;
-    put.extend_from_slice(pin)?;
-    put.extend_from_slice(b" )")?;
-    Ok(put)
-}
 
 /// The splice that puts a terminal behind those of an entry.
 fn entry_connected<'t, A: Allocator + Copy>(
@@ -51,9 +39,8 @@ fn entry_connected<'t, A: Allocator + Copy>(
     ensures cut { IfOk result (λ s. cut_view s ≡ change_cut tokens.entry.text.now (pieces_of tokens.entry) (front_of (terminals_of (entry_view entry.now))) 0 (terminal_text owner.now pin.now)) }
     ensures within { IfOk result (IsWithin (length tokens.entry.text.now)) }
 {
-    let put = terminal_text(alloc, owner, pin)?;
     let before = tokens_to_end(entry, tokens);
-    change_splice(alloc, tokens, before, 0, &put)
+    change_splice(alloc, tokens, before, 0, &[b" ( ", owner, b" ", pin, b" )"])
 }
 
 /// Why a terminal isn't connected to a net.
@@ -96,8 +83,8 @@ pub fn connect_splices<A: Allocator + Copy, L: LookUps>(
     if let Some(code) = connect_refusal(library, lookups, owner, pin) {
         return Err(EditRefusal::Refused(code));
     }
-    let splice = entry_connected(alloc, &entry, tokens.tokens, owner, pin)?;
-    in_text(alloc, lookups.len(), tokens, Ok(Some(splice)))
+    let splice = made_one(entry_connected(alloc, &entry, tokens.tokens, owner, pin));
+    in_text(alloc, lookups.len(), tokens, splice)
 }
 
 /// The splice that takes a terminal out of an entry, or why that is refused.
@@ -117,8 +104,7 @@ fn entry_disconnected<'t, A: Allocator>(
     let Some((before, taken)) = terminal_tokens(entry, tokens, &named) else {
         return Err(EditRefusal::Refused(EditCode::Connection));
     };
-    let splice = change_splice(alloc, tokens, before, taken, b"")?;
-    Ok(Some(splice))
+    made_one(change_splice(alloc, tokens, before, taken, &[]))
 }
 
 /// The splice that takes a terminal from a net of a text that reads, or why that is refused.

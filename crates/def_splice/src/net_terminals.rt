@@ -1,37 +1,18 @@
 //! How many tokens of an entry of NETS or SPECIALNETS stand before its terminals' end, before one of them, and are its own.
 
-ghost use Rattle.std.specs.Prelude.{◌≡◌, ◌≤◌, ◌+◌, [], List, length, true, false, IfSome, MatchOption};
+ghost use Rattle.std.specs.Prelude.{◌≡◌, ◌≤◌, ◌+◌, length, true, false, IfSome, MatchOption};
 ghost use Rattle.std.specs.List.{list_any};
-ghost use Rattle.form_meanings.specs.Meaning.{spell_all};
-ghost use Rattle.statement_model.specs.Form.{spell};
-ghost use Rattle.statement_model.specs.Tokens as definitions;
-ghost use Rattle.def_grammar.specs.Terminals.{terminal};
-ghost use Rattle.lefdef_tokens.specs.Places.{behind, past};
 ghost use Rattle.lefdef_tokens.specs.Views.{pieces_of, words_of};
-ghost use Rattle.statement_reader.specs.PartViews.{PartsAt};
 ghost use Rattle.wire_parts.specs.TerminalViews.{terminals_of as terminals_left};
 ghost use Rattle.def_reader.specs.EntryViews.{EntryAt, entry_view};
 ghost use Rattle.edit_rules.specs.NetEdits.{before_terminal, front_of, is_terminal, lists, terminals_of};
 ghost use Rattle.def_splice.specs.NetViews.{tokens_taken, IsAround};
 
-use crate::terminals::{Named, TerminalKind};
+use crate::terminals::{Named, TerminalKind, terminals_in};
 use def_reader::entry::Entry;
 use lefdef_tokens::TokenRun;
 use statement_reader::parts::Parts;
-use wire_parts::nets::NetEntry;
 use wire_parts::terminals::Terminal;
-
-/// The terminals of an entry of a net, and how many tokens are left behind them.
-fn terminals_in<'t>(entry: &Entry<'t>) -> Option<(Parts<'t, Terminal<'t>>, usize)>
-    ensures gives { MatchOption result (terminals_of (entry_view entry.now) ≡ []) (λ x. terminals_of (entry_view entry.now) ≡ terminals_left x.0) }
-    ensures lent { (ps : List definitions.Token) → EntryAt ps entry.now → IfSome result (λ x. PartsAt (past 2 ps) x.0 × (x.1 ≡ length (behind (spell_all (spell terminal) (terminals_left x.0)) (past 2 ps)))) }
-{
-    match entry {
-        Entry::Net(NetEntry::Net(net)) => Some((net.terminals.again(), net.clauses.cursor.len())),
-        Entry::SpecialNet(net) => Some((net.terminals.again(), net.clauses.cursor.len())),
-        _ => None,
-    }
-}
 
 /// How many tokens of an entry stand before the end of its terminals.
 pub fn tokens_to_end<'t>(entry: &Entry<'t>, tokens: TokenRun<'t>) -> usize

@@ -13,7 +13,7 @@ ghost use Rattle.place_parts.specs.ComponentViews.{component_view};
 ghost use Rattle.def_splice.specs.SpliceViews.{clause_cut, cut_view, IsWithin, MakesOne, Moves};
 
 use crate::put::{placed_text, put_apart};
-use crate::token_splices::over_tokens;
+use crate::token_splices::{made_one, over_tokens};
 use design_model::geometry::{Orient, Status};
 use edit_model::edit::{EditCode, EditRefusal, Splice};
 use lefdef_tokens::TokenRun;
@@ -58,14 +58,13 @@ fn clause_splice<'t, A: Allocator>(
     requires some { 0 < length (words_of entry) }
     requires same { IfSome clause (λ run. run.text.now ≡ entry.text.now) }
     ensures gives { IfOk result (λ s. cut_view s ≡ clause_cut entry.entry.text.now (pieces_of entry.entry) (option_map pieces_of clause.entry) put.now) }
-    ensures order { IfOk result (λ s. s.lo ≤ s.hi) }
-    ensures within { IfOk result (λ s. s.hi ≤ length entry.entry.text.now) }
+    ensures within { IfOk result (IsWithin (length entry.entry.text.now)) }
 {
     match clause {
-        Some(tokens) => over_tokens(alloc, tokens, put),
+        Some(tokens) => over_tokens(alloc, tokens, &[put]),
         None => {
             let end = entry.front(entry.len() - 1).span().hi;
-            put_apart(alloc, entry.text, end, end, b" + ", put)
+            put_apart(alloc, entry.text, end, end, &[b" + ", put])
         }
     }
 }
@@ -74,7 +73,7 @@ fn clause_splice<'t, A: Allocator>(
 pub fn is_out(number: i64) -> bool
     ensures { result ≡ is_out number }
 {
-    number < -2147483647 || 2147483647 < number
+    (number < -2147483647) | (2147483647 < number)
 }
 
 /// The splice that places the component of an entry: a clause `PLACED ( x y ) orient` in the place of the one that places
@@ -92,10 +91,9 @@ pub fn entry_placed<'t, A: Allocator + Copy>(
     ensures within { IfOk result (λ splice. IfSome splice (IsWithin (length entry.entry.text.now))) }
 {
     let clause = movable(component.placing_tokens(entry))?;
-    if is_out(x) || is_out(y) {
+    if is_out(x) | is_out(y) {
         return Err(EditRefusal::Refused(EditCode::Number));
     }
     let put = placed_text(alloc, x, y, orient)?;
-    let splice = clause_splice(alloc, entry, clause, &put)?;
-    Ok(Some(splice))
+    made_one(clause_splice(alloc, entry, clause, &put))
 }

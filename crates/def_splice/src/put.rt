@@ -1,10 +1,10 @@
 //! The bytes that a splice puts.
 
-ghost use Rattle.std.specs.Prelude.{◌≡◌, ◌≤◌, ◌++◌, drop, length, IfOk};
+ghost use Rattle.std.specs.Prelude.{◌≡◌, ◌≤◌, [], drop, length, map, IfOk};
 ghost use Rattle.statement_model.specs.Cuts.{space_before};
 ghost use Rattle.edit_rules.specs.ComponentEdits.{placed_text};
 ghost use Rattle.edit_rules.specs.Plans.{ends_open, put_apart, space_between};
-ghost use Rattle.def_splice.specs.SpliceViews.{cut_view};
+ghost use Rattle.def_splice.specs.SpliceViews.{cut_view, joined};
 
 use design_model::geometry::Orient;
 use design_model::sequence::Sequence;
@@ -13,6 +13,17 @@ use itoa::Buffer;
 use lefdef_tokens::is_white;
 use std::alloc::{AllocError, Allocator};
 use unit_numbers::print;
+
+/// These bytes, one after the other.
+pub fn joined<A: Allocator>(alloc: A, parts: &[&[u8]]) -> Result<Vec<u8, A>, AllocError>
+    ensures { IfOk result (λ v. v.items ≡ joined [] (map (λ p. p.now) parts.now)) }
+{
+    let mut all = Vec::new(alloc);
+    for part in parts {
+        all.extend_from_slice(part)?;
+    }
+    Ok(all)
+}
 
 /// `PLACED ( x y ) orient`.
 pub fn placed_text<A: Allocator>(
@@ -23,14 +34,19 @@ pub fn placed_text<A: Allocator>(
 ) -> Result<Vec<u8, A>, AllocError>
     ensures { IfOk result (λ v. v.items ≡ placed_text x y orient) }
 {
-    let mut buffer = Buffer::new();
-    let mut put = Vec::from_slice(alloc, b"PLACED ( ")?;
-    put.extend_from_slice(print(x, &mut buffer).as_bytes())?;
-    put.push(b' ')?;
-    put.extend_from_slice(print(y, &mut buffer).as_bytes())?;
-    put.extend_from_slice(b" ) ")?;
-    put.extend_from_slice(orient.word())?;
-    Ok(put)
+    let mut first = Buffer::new();
+    let mut second = Buffer::new();
+    joined(
+        alloc,
+        &[
+            b"PLACED ( ",
+            print(x, &mut first).as_bytes(),
+            b" ",
+            print(y, &mut second).as_bytes(),
+            b" ) ",
+            orient.word(),
+        ],
+    )
 }
 
 /// Whether a byte behind these would be glued to them.
@@ -67,21 +83,19 @@ fn space_between(put: &[u8], text: &[u8], at: usize) -> &'static [u8]
     }
 }
 
-/// The splice that puts a lead and then bytes in the place of those from `lo` up to `hi`, and a space after them where
-/// what follows would be glued to them.
+/// The splice that puts bytes in the place of those from `lo` up to `hi`, and a space after them where what follows would be
+/// glued to them.
 pub fn put_apart<A: Allocator>(
     alloc: A,
     text: &[u8],
     lo: usize,
     hi: usize,
-    lead: &[u8],
-    put: &[u8],
+    parts: &[&[u8]],
 ) -> Result<Splice<A>, AllocError>
     requires { hi ≤ length text.now }
-    ensures { IfOk result (λ s. cut_view s ≡ put_apart text.now lo hi (lead.now ++ put.now)) }
+    ensures { IfOk result (λ s. cut_view s ≡ put_apart text.now lo hi (joined [] (map (λ p. p.now) parts.now))) }
 {
-    let mut all = Vec::from_slice(alloc, lead)?;
-    all.extend_from_slice(put)?;
+    let mut all = joined(alloc, parts)?;
     let space = space_between(&all, text, hi);
     all.extend_from_slice(space)?;
     Ok(Splice {

@@ -1,6 +1,6 @@
 //! The splices of an edit of a section: an entry put last into it, or taken out.
 
-ghost use Rattle.std.specs.Prelude.{◌≡◌, ◌≤◌, ◌<◌, ◌||◌, length, List, Ok, IfOk, IsOk};
+ghost use Rattle.std.specs.Prelude.{◌≡◌, ◌≤◌, ◌<◌, ◌∷◌, [], decimal, length, List, Ok, IfOk, IsOk};
 ghost use Rattle.design_model.specs.declared.TheConstants.{MAX_TEXT};
 ghost use Rattle.design_model.specs.declared.mode.Section.TheVariants.{Components};
 ghost use Rattle.statement_model.specs.Form.{spell};
@@ -13,8 +13,8 @@ ghost use Rattle.place_parts.specs.ComponentViews.{component_view};
 ghost use Rattle.edit_rules.specs.Edits.{lent, of_section};
 ghost use Rattle.edit_rules.specs.Plans.{cuts_for, lowest};
 ghost use Rattle.edit_rules.specs.SectionEdits.{add_blockage, add_component, putting, remove_component, taking};
-ghost use Rattle.def_splice.specs.SpliceViews.{AreCuts, AreInOrder, MakesSplices};
-ghost use Rattle.def_splice.specs.LookupViews.{section_plan_of, MayPut, StandWithin};
+ghost use Rattle.def_splice.specs.SpliceViews.{change_cut, AreCuts, AreInOrder, MakesSplices};
+ghost use Rattle.def_splice.specs.LookupViews.{section_plan_of, CountsBefore, MayPut, StandWithin};
 ghost use Rattle.def_splice.specs.Lying.{LiesIn, lying_tokens};
 
 use crate::fitting::two_splices;
@@ -22,16 +22,44 @@ use crate::lookups::{LookUps, has_macro, has_section, is_unknown_layer};
 use crate::lying::Lying;
 use crate::names::is_component_name;
 use crate::place::{is_held, is_out};
-use crate::section_texts::{blockage_text, component_text, count_text};
+use crate::section_texts::{blockage_text, component_text};
 use cell_library::library::Library;
 use design_model::MAX_TEXT;
 use design_model::mode::Section;
 use design_model::sequence::Sequence;
 use edit_laws::editing::edits_stand_in_order;
 use edit_model::edit::{EditCode, EditRefusal, Splices};
+use itoa::Buffer;
 use lefdef_tokens::TokenRun;
 use place_parts::component_parts::ComponentParts;
 use std::alloc::Allocator;
+
+/// The splices that set the number of entries in the header of a section and, in a statement behind it, put bytes in the place of
+/// some of the first tokens.
+fn counted<A: Allocator + Copy, L: LookUps>(
+    alloc: A,
+    lookups: &L,
+    header: Lying<'_>,
+    count: usize,
+    statement: Lying<'_>,
+    taken: usize,
+    put: &[u8],
+) -> Result<Splices<A>, EditRefusal>
+    requires fits { length (L.text lookups.now) ≤ MAX_TEXT }
+    requires head { LiesIn (L.text lookups.now) header }
+    requires lies { LiesIn (L.text lookups.now) statement }
+    requires some { 0 < length (words_of statement.tokens) }
+    requires tokens { taken ≤ length (words_of statement.tokens) }
+    requires behind { CountsBefore (change_cut (L.text lookups.now) (lying_tokens statement) 0 taken put.now).lo (lying_tokens header) }
+    ensures cuts { AreCuts (L.text lookups.now) (change_cut (L.text lookups.now) (lying_tokens header.entry) 1 1 (decimal count) ∷ change_cut (L.text lookups.now) (lying_tokens statement.entry) 0 taken put.now ∷ []) result }
+    ensures order { IfOk result (λ ss. AreInOrder 0 ss (length (L.text lookups.now))) }
+{
+    let mut buffer = Buffer::new();
+    let number = buffer.format(count).as_bytes();
+    let first = header.change_splice(alloc, 1, 1, number)?;
+    let second = statement.change_splice(alloc, 0, taken, put)?;
+    two_splices(alloc, lookups.len(), first, second)
+}
 
 /// The splices that put an entry's bytes before the `END` of a section, and its new number of entries into its header. There are
 /// none in a text without that section.
@@ -53,10 +81,15 @@ fn entry_put<A: Allocator + Copy, L: LookUps>(
     let Some(end) = lookups.end(section) else {
         return Ok(Sequence::new(alloc));
     };
-    let number = count_text(alloc, lookups.entries_in(section) + 1)?;
-    let first = header.change_splice(alloc, 1, 1, &number)?;
-    let second = end.change_splice(alloc, 0, 0, put)?;
-    two_splices(alloc, lookups.len(), first, second)
+    counted(
+        alloc,
+        lookups,
+        header,
+        lookups.entries_in(section) + 1,
+        end,
+        0,
+        put,
+    )
 }
 
 /// Why a component isn't added.
@@ -173,10 +206,15 @@ fn entry_taken<A: Allocator + Copy, L: LookUps>(
         return Ok(Sequence::new(alloc));
     };
     let count = lookups.entries_in(Section::Components).saturating_sub(1);
-    let number = count_text(alloc, count)?;
-    let first = header.change_splice(alloc, 1, 1, &number)?;
-    let second = entry.change_splice(alloc, 0, entry.tokens.len(), b"")?;
-    two_splices(alloc, lookups.len(), first, second)
+    counted(
+        alloc,
+        lookups,
+        header,
+        count,
+        entry,
+        entry.tokens.len(),
+        b"",
+    )
 }
 
 /// Whether the component of an entry is held where it is.

@@ -56,7 +56,7 @@ impl StatementKind for EndOf {
 }
 
 /// An entry that lists a terminal of a kind.
-#[derive(Clone, Copy, Drop)]
+#[derive(Drop)]
 pub struct Lists<K> {
     pub terminal: K,
 }

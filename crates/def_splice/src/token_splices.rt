@@ -1,14 +1,14 @@
 //! Splices over the tokens of a statement.
 
-ghost use Rattle.std.specs.Prelude.{◌≡◌, ◌≤◌, ◌+◌, ◌++◌, length, drop, take, IfOk};
-ghost use Rattle.statement_model.specs.Cuts.{end_of_all};
+ghost use Rattle.std.specs.Prelude.{◌≡◌, ◌≤◌, ◌+◌, ◌∷◌, [], ℕ, List, length, drop, map, take, IfOk, IfSome, None};
+ghost use Rattle.statement_model.specs.Cuts.{end_of_all, Cut};
 ghost use Rattle.statement_model.specs.Reading.{pos_of};
-ghost use Rattle.edit_rules.specs.Plans.{gap_after, put_apart};
+ghost use Rattle.edit_rules.specs.Plans.{cuts_for, gap_after, lowest, put_apart, Plan};
 ghost use Rattle.lefdef_tokens.specs.Views.{pieces_of, words_of};
-ghost use Rattle.def_splice.specs.SpliceViews.{change_cut, cut_view};
+ghost use Rattle.def_splice.specs.SpliceViews.{change_cut, cut_view, joined, IsWithin, MakesOne};
 
 use crate::put::put_apart;
-use edit_model::edit::Splice;
+use edit_model::edit::{EditRefusal, Splice};
 use lefdef_tokens::TokenRun;
 use std::alloc::{AllocError, Allocator};
 
@@ -25,14 +25,13 @@ fn tokens_behind<'t>(statement: TokenRun<'t>, before: usize, count: usize) -> To
 pub fn over_tokens<'t, A: Allocator>(
     alloc: A,
     tokens: TokenRun<'t>,
-    put: &[u8],
+    parts: &[&[u8]],
 ) -> Result<Splice<A>, AllocError>
-    ensures cut { IfOk result (λ s. cut_view s ≡ put_apart tokens.entry.text.now (pos_of (pieces_of tokens.entry)) (end_of_all (pieces_of tokens.entry)) put.now) }
-    ensures order { IfOk result (λ s. s.lo ≤ s.hi) }
-    ensures within { IfOk result (λ s. s.hi ≤ length tokens.entry.text.now) }
+    ensures cut { IfOk result (λ s. cut_view s ≡ put_apart tokens.entry.text.now (pos_of (pieces_of tokens.entry)) (end_of_all (pieces_of tokens.entry)) (joined [] (map (λ p. p.now) parts.now))) }
+    ensures within { IfOk result (IsWithin (length tokens.entry.text.now)) }
 {
     let span = tokens.span();
-    put_apart(alloc, tokens.text, span.lo, span.hi, b"", put)
+    put_apart(alloc, tokens.text, span.lo, span.hi, parts)
 }
 
 /// Where bytes go behind some tokens of a statement, or before its first.
@@ -54,17 +53,29 @@ pub fn change_splice<'t, A: Allocator>(
     statement: TokenRun<'t>,
     before: usize,
     taken: usize,
-    put: &[u8],
+    parts: &[&[u8]],
 ) -> Result<Splice<A>, AllocError>
     requires { before + taken ≤ length (words_of statement) }
-    ensures cut { IfOk result (λ s. cut_view s ≡ change_cut statement.entry.text.now (pieces_of statement.entry) before taken put.now) }
-    ensures order { IfOk result (λ s. s.lo ≤ s.hi) }
-    ensures within { IfOk result (λ s. s.hi ≤ length statement.entry.text.now) }
+    ensures cut { IfOk result (λ s. cut_view s ≡ change_cut statement.entry.text.now (pieces_of statement.entry) before taken (joined [] (map (λ p. p.now) parts.now))) }
+    ensures within { IfOk result (IsWithin (length statement.entry.text.now)) }
 {
     if taken == 0 {
         let place = place_behind(statement, before);
-        put_apart(alloc, statement.text, place, place, b"", put)
+        put_apart(alloc, statement.text, place, place, parts)
     } else {
-        over_tokens(alloc, tokens_behind(statement, before, taken), put)
+        over_tokens(alloc, tokens_behind(statement, before, taken), parts)
+    }
+}
+
+/// What is made of an entry that nothing refuses to change: this splice.
+pub fn made_one<A: Allocator>(
+    made: Result<Splice<A>, AllocError>,
+) -> Result<Option<Splice<A>>, EditRefusal>
+    ensures gives { (text : List ℕ) → (plan : Plan) → (cut : Cut) → lowest plan.refusals ≡ None → cuts_for text plan.changes ≡ cut ∷ [] → IfOk made (λ s. cut_view s ≡ cut) → MakesOne text plan result }
+    ensures within { (n : ℕ) → IfOk made (IsWithin n) → IfOk result (λ splice. IfSome splice (IsWithin n)) }
+{
+    match made {
+        Ok(splice) => Ok(Some(splice)),
+        Err(_) => Err(EditRefusal::Memory),
     }
 }

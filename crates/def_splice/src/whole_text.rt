@@ -19,7 +19,7 @@ ghost use Rattle.def_splice.specs.Lying.{lying_component, lying_statement, lying
 use crate::lookups::LookUps;
 use crate::lying::Lying;
 use crate::statement_kinds::{EndOf, HeaderOf, Lists};
-use crate::statement_search::first_statement;
+use crate::statement_search::{StatementKind, first_statement};
 use crate::terminals::{Named, OfComponent, TerminalKind};
 use def_reader::records::{self, Statements};
 use def_reader::statement::Statement;
@@ -41,6 +41,18 @@ fn in_whole(tokens: TokenRun<'_>) -> Lying<'_>
     ensures at { result.at ≡ 0 }
 {
     Lying { tokens, at: 0 }
+}
+
+/// The tokens of the first statement of a kind.
+fn first_tokens<'t, K: StatementKind>(text: &'t [u8], kind: &K) -> Option<Lying<'t>>
+    requires { IsOk (read_def text.now) }
+    ensures gives { (design : List Record) → read_def text.now ≡ Ok design → option_map lying_tokens result ≡ tokens_where (K.holds kind.now) (located text.now design) }
+    ensures lies { IfSome result (λ x. LiesIn text.now x) }
+{
+    let Some(read) = first_statement(text, kind) else {
+        return None;
+    };
+    Some(in_whole(read.tokens))
 }
 
 /// How many entries of a section a statement is: one or none.
@@ -121,10 +133,7 @@ impl<'t> LookUps for WholeText<'t> {
         ensures gives { (design : List Record) → read_def self.now.text.now ≡ Ok design → option_map lying_tokens result ≡ tokens_where (is_header section) (located self.now.text.now design) }
         ensures lies { IfSome result (λ x. LiesIn self.now.text.now x) }
     {
-        let Some(read) = first_statement(self.text, &HeaderOf { section }) else {
-            return None;
-        };
-        Some(in_whole(read.tokens))
+        first_tokens(self.text, &HeaderOf { section })
     }
 
     fn end(&self, section: Section) -> Option<Lying<'_>>
@@ -132,10 +141,7 @@ impl<'t> LookUps for WholeText<'t> {
         ensures gives { (design : List Record) → read_def self.now.text.now ≡ Ok design → option_map lying_tokens result ≡ tokens_where (is_end section) (located self.now.text.now design) }
         ensures lies { IfSome result (λ x. LiesIn self.now.text.now x) }
     {
-        let Some(read) = first_statement(self.text, &EndOf { section }) else {
-            return None;
-        };
-        Some(in_whole(read.tokens))
+        first_tokens(self.text, &EndOf { section })
     }
 
     fn entries_in(&self, section: Section) -> usize

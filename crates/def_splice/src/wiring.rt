@@ -1,6 +1,6 @@
 //! The splices of edits of the wiring of a net.
 
-ghost use Rattle.std.specs.Prelude.{◌≡◌, ◌≤◌, ◌<◌, ◌+◌, ◌-◌, ℕ, length, List, Ok, IfOk, IfSome, IsOk};
+ghost use Rattle.std.specs.Prelude.{◌≡◌, ◌≤◌, ◌<◌, ◌+◌, ◌-◌, ◌++◌, ℕ, length, List, Ok, IfOk, IfSome, IsOk};
 ghost use Rattle.design_model.specs.declared.TheConstants.{MAX_TEXT};
 ghost use Rattle.def_grammar.specs.Located.{entry_at, located};
 ghost use Rattle.def_grammar.specs.Records.{read_def, Record};
@@ -10,12 +10,12 @@ ghost use Rattle.edit_rules.specs.Plans.{lowest};
 ghost use Rattle.lefdef_tokens.specs.Views.{pieces_of, words_of};
 ghost use Rattle.def_splice.specs.Lying.{AreFirm, LiesIn, lying_tokens};
 ghost use Rattle.def_splice.specs.SpliceViews.{AreInOrder, FollowsAll, IsWithin, MakesOne, MakesSplices};
-ghost use Rattle.def_splice.specs.WiringPlanViews.{put_text, route_refusals, route_so, unroute_refusals, unroute_so, FoundWired};
+ghost use Rattle.def_splice.specs.WiringPlanViews.{put_text, route_refusals, route_so, unroute_so, FoundWired};
 ghost use Rattle.net_wiring.specs.WiringViews.{is_said, reads_wiring};
 
 use crate::lookups::{LookUps, net_entry, with_tokens};
 use crate::lying::{Lying, in_text};
-use crate::token_splices::change_splice;
+use crate::token_splices::{change_splice, made_one};
 use cell_library::library::Library;
 use design_model::MAX_TEXT;
 use edit_laws::editing::edits_stand_in_order;
@@ -25,7 +25,7 @@ use net_wiring::wiring_clauses::{
     EntryClauses, NetSection, RoleTest, WiringClauses, any, is_barred, wiring_place,
 };
 use net_wiring::wiring_text::is_wiring;
-use std::alloc::{AllocError, Allocator};
+use std::alloc::Allocator;
 
 /// The clauses of the entry of a net, where it may have wiring, and the entry's tokens.
 fn wired_entry<'a, L: LookUps>(lookups: &'a L, net: &[u8]) -> Option<(EntryClauses<'a>, Lying<'a>)>
@@ -42,18 +42,14 @@ fn wired_entry<'a, L: LookUps>(lookups: &'a L, net: &[u8]) -> Option<(EntryClaus
     Some((clauses, tokens))
 }
 
-/// Why wiring that a text says isn't put in the place of that of these clauses.
-fn route_refusal<C: WiringClauses>(
-    section: NetSection,
-    clauses: C,
-    wiring: &[u8],
-) -> Option<EditCode>
-    ensures { result ≡ lowest (route_refusals (C.left clauses) (is_said (reads_wiring section) wiring.now)) }
+/// Why the wiring of these clauses isn't changed, to a text that says wiring or doesn't.
+fn wiring_refusal<C: WiringClauses>(clauses: C, said: bool) -> Option<EditCode>
+    ensures { result ≡ lowest (route_refusals (C.left clauses) said) }
 {
     if any(clauses, RoleTest::Held) {
         return Some(EditCode::Fixed);
     }
-    if !is_wiring(section, wiring) {
+    if !said {
         return Some(EditCode::WiringText);
     }
     if is_barred(clauses) {
@@ -62,20 +58,15 @@ fn route_refusal<C: WiringClauses>(
     None
 }
 
-/// Wiring as it is put: with a space before it where it takes no token's place.
-fn put_text<A: Allocator, C: WiringClauses>(
-    alloc: A,
-    clauses: C,
-    wiring: &[u8],
-) -> Result<Vec<u8, A>, AllocError>
-    ensures { IfOk result (λ v. v.items ≡ put_text (C.left clauses) wiring.now) }
+/// Wiring as it is put, behind a space where it takes no token's place.
+fn spaced<'w, C: WiringClauses>(clauses: C, wiring: &'w [u8]) -> (&'w [u8], &'w [u8])
+    ensures { result.0.now ++ result.1.now ≡ put_text (C.left clauses) wiring.entry.now }
 {
     if any(clauses, RoleTest::Wiring) {
-        return Vec::from_slice(alloc, wiring);
+        (b"", wiring)
+    } else {
+        (b" ", wiring)
     }
-    let mut put = Vec::from_slice(alloc, b" ")?;
-    put.extend_from_slice(wiring)?;
-    Ok(put)
 }
 
 /// The splice that puts a text in the place of the wiring of an entry, or behind its clauses.
@@ -92,13 +83,12 @@ fn entry_routed<'t, A: Allocator + Copy, C: WiringClauses>(
     ensures firm { IfOk result (λ _. AreFirm (route_so (pieces_of entry.entry) (length (words_of entry.entry) - C.tokens clauses) wiring.now (C.left clauses) (is_said (reads_wiring section) wiring.now)).changes) }
     ensures within { IfOk result (λ splice. IfSome splice (IsWithin (length entry.entry.text.now))) }
 {
-    if let Some(code) = route_refusal(section, clauses, wiring) {
+    if let Some(code) = wiring_refusal(clauses, is_wiring(section, wiring)) {
         return Err(EditRefusal::Refused(code));
     }
     let place = wiring_place(entry, clauses);
-    let put = put_text(alloc, clauses, wiring)?;
-    let splice = change_splice(alloc, entry, place.before, place.taken, &put)?;
-    Ok(Some(splice))
+    let (space, wiring) = spaced(clauses, wiring);
+    made_one(change_splice(alloc, entry, place.before, place.taken, &[space, wiring]))
 }
 
 /// The splices that do so in the text of `len` bytes in which the entry was found.
@@ -159,19 +149,6 @@ pub fn route_splices<A: Allocator + Copy, L: LookUps>(
     }
 }
 
-/// Why the wiring of these clauses isn't taken out.
-fn unroute_refusal<C: WiringClauses>(clauses: C) -> Option<EditCode>
-    ensures { result ≡ lowest (unroute_refusals (C.left clauses)) }
-{
-    if any(clauses, RoleTest::Held) {
-        return Some(EditCode::Fixed);
-    }
-    if is_barred(clauses) {
-        return Some(EditCode::WiringApart);
-    }
-    None
-}
-
 /// The splice that takes the wiring out of an entry. There is none where it has no wiring.
 fn entry_unrouted<'t, A: Allocator, C: WiringClauses>(
     alloc: A,
@@ -184,15 +161,14 @@ fn entry_unrouted<'t, A: Allocator, C: WiringClauses>(
     ensures firm { IfOk result (λ _. AreFirm (unroute_so (pieces_of entry.entry) (length (words_of entry.entry) - C.tokens clauses) (C.left clauses)).changes) }
     ensures within { IfOk result (λ splice. IfSome splice (IsWithin (length entry.entry.text.now))) }
 {
-    if let Some(code) = unroute_refusal(clauses) {
+    if let Some(code) = wiring_refusal(clauses, true) {
         return Err(EditRefusal::Refused(code));
     }
     if !any(clauses, RoleTest::Wiring) {
         return Ok(None);
     }
     let place = wiring_place(entry, clauses);
-    let splice = change_splice(alloc, entry, place.before, place.taken, b"")?;
-    Ok(Some(splice))
+    made_one(change_splice(alloc, entry, place.before, place.taken, &[]))
 }
 
 /// The splices that do so in the text of `len` bytes in which the entry was found.

@@ -5,7 +5,6 @@ pub mod FitLemmas
 pub mod HeightLemmas
 pub mod HullLemmas
 pub mod KeptLemmas
-pub mod OwnLines
 pub mod PatternLemmas
 pub mod Ranges
 pub mod SkipLemmas

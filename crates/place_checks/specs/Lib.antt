@@ -5,7 +5,6 @@ pub mod Hulls
 pub mod IndexViews
 pub mod KeptOrders
 pub mod KeptViews
-pub mod OneLines
 pub mod Outlines
 pub mod Patterns
 pub mod PlaceViews

@@ -22,9 +22,13 @@ assigned_view a = record { region = a.region.now; patterns = a.pattern.now ∷ [
 abbrev pub starred_view : Starred → Assignment
 starred_view a = record { region = a.region.now; patterns = starred_pattern a.pattern ∷ [] }
 
+-- an assignment to a region by one pattern
+abbrev pub pattern_view : List ℕ → List ℕ → Assignment
+pattern_view region pattern = record { region = region; patterns = pattern ∷ [] }
+
 -- an assignment for each pattern of one
 abbrev pub by_pattern : Assignment → List Assignment
-by_pattern a = map (λ p. record { region = a.region; patterns = p ∷ [] }) a.patterns
+by_pattern a = map (pattern_view a.region) a.patterns
 
 abbrev pub by_patterns : List Assignment → List Assignment
 by_patterns all = flat_map by_pattern all

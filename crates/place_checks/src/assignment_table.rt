@@ -1,27 +1,28 @@
 //! The patterns by which groups assign components to regions, for look-ups by a component's name (LEF/DEF 5.8 Language
 //! Reference, "Groups").
 
-ghost use Rattle.std.specs.Prelude.{◌≡◌, ◌++◌, false, true, map, IsSortedByKey, MatchOption, OnOk};
+ghost use Rattle.std.specs.Prelude.{◌≡◌, ◌++◌, ◌∷◌, [], false, true, map, IsSortedByKey, MatchOption, OnOk};
 ghost use Rattle.std.specs.Cmp.Lexicographic.{slice_cmp};
 ghost use Rattle.std.specs.List.{list_any};
 ghost use Rattle.std.specs.Option.{option_map, option_to_list};
 ghost use Rattle.std.specs.Ordering.{is_eq, nat_cmp};
 ghost use Rattle.lefdef_tokens.specs.Views.{word_view};
 ghost use Rattle.place_kernels.specs.Views.{starred_pattern};
-ghost use Rattle.place_checks.specs.Patterns.{assigned_view, by_pattern, has_star, is_starred, regions_for, starred_view, with_star, without_star};
+ghost use Rattle.place_checks.specs.Patterns.{assigned_view, by_pattern, has_star, is_starred, pattern_view, regions_for, starred_view, with_star, without_star};
 ghost use Rattle.place_checks.specs.PlaceViews.{assignment_view};
 
 use crate::assigned::{Assigned, Starred};
 use crate::groups::Assignment;
 use crate::placed_box::PlacedBox;
+use crate::pushing::put_behind;
 use place_kernels::patterns::StarredPattern;
 use std::alloc::{AllocError, Allocator, Global};
 
 /// The patterns of all groups: those without a star in the order of their bytes, and the others.
 #[derive(Drop)]
 pub struct AssignmentTable<'t, A: Allocator = Global> {
-    named: Vec<Assigned<'t>, A>,
-    starred: Vec<Starred<'t>, A>,
+    pub(crate) named: Vec<Assigned<'t>, A>,
+    pub(crate) starred: Vec<Starred<'t>, A>,
     ghost sorted: { IsSortedByKey (λ a. a.pattern.now) (slice_cmp nat_cmp) named.items },
     ghost starless: { list_any is_starred named.items ≡ false },
 }
@@ -31,6 +32,29 @@ pub(crate) fn starred_of<'t>(pattern: &'t [u8]) -> Option<StarredPattern<'t>>
     ensures { MatchOption result (has_star pattern.now ≡ false) (λ p. (starred_pattern p ≡ pattern.now) × (has_star pattern.now ≡ true)) }
 {
     StarredPattern::of(pattern)
+}
+
+/// Adds a pattern to those with a star or to those without.
+fn push_pattern<'t, A: Allocator>(
+    pattern: &'t [u8],
+    region: &'t [u8],
+    named: &mut Vec<Assigned<'t>, A>,
+    starred: &mut Vec<Starred<'t>, A>,
+) -> Result<(), AllocError>
+    ensures named { OnOk result (map assigned_view named.new.items ≡ map assigned_view named.old.items ++ without_star (pattern_view region.entry.now pattern.entry.now ∷ [])) }
+    ensures starred { OnOk result (map starred_view starred.new.items ≡ map starred_view starred.old.items ++ with_star (pattern_view region.entry.now pattern.entry.now ∷ [])) }
+{
+    match starred_of(pattern) {
+        Some(cut) => {
+            let pattern = Starred {
+                pattern: cut,
+                bytes: pattern,
+                region,
+            };
+            put_behind(pattern, starred)
+        }
+        None => put_behind(Assigned { pattern, region }, named),
+    }
 }
 
 /// Adds the patterns of a group, each to those with a star or to those without.
@@ -44,16 +68,7 @@ fn push_patterns<'t, A: Allocator>(
 {
     let mut left = assignment.patterns.again();
     while let Some(pattern) = left.next() {
-        let pattern = pattern.word.bytes;
-        let region = assignment.region;
-        match starred_of(pattern) {
-            Some(cut) => starred.push(Starred {
-                pattern: cut,
-                bytes: pattern,
-                region,
-            })?,
-            None => named.push(Assigned { pattern, region })?,
-        }
+        push_pattern(pattern.word.bytes, assignment.region, named, starred)?;
     }
     Ok(())
 }
@@ -65,10 +80,10 @@ fn push_own<'t, A: Allocator>(
 ) -> Result<(), AllocError>
     ensures { OnOk result (map word_view regions.new.items ≡ map word_view regions.old.items ++ option_to_list (option_map word_view component.now.region)) }
 {
-    if let Some(region) = component.region {
-        regions.push(region)?;
+    match component.region {
+        Some(region) => put_behind(region, regions),
+        None => Ok(()),
     }
-    Ok(())
 }
 
 /// Adds the regions of these.
@@ -79,7 +94,7 @@ fn push_regions<'t, A: Allocator>(
     ensures { OnOk result (map word_view regions.new.items ≡ map word_view regions.old.items ++ map (λ a. a.region.now) all.now) }
 {
     for assigned in all {
-        regions.push(assigned.region)?;
+        put_behind(assigned.region, regions)?;
     }
     Ok(())
 }
@@ -94,7 +109,7 @@ fn push_matching<'t, A: Allocator>(
 {
     for starred in all {
         if starred.pattern.matches(name) {
-            regions.push(starred.region)?;
+            put_behind(starred.region, regions)?;
         }
     }
     Ok(())
@@ -134,20 +149,6 @@ impl<'t, A: Allocator + Copy> AssignmentTable<'t, A> {
         AssignmentTable { named, starred }
     }
 
-    /// The patterns without a star.
-    pub(crate) fn named(&self) -> &[Assigned<'t>]
-        ensures { result.now ≡ self.now.named.items }
-    {
-        &self.named
-    }
-
-    /// Those with one.
-    pub(crate) fn starred(&self) -> &[Starred<'t>]
-        ensures { result.now ≡ self.now.starred.items }
-    {
-        &self.starred
-    }
-
     /// The patterns without a star that are this name.
     fn with_name(&self, name: &[u8]) -> &[Assigned<'t>]
         ensures { result.now ≡ filter (λ a. is_eq (slice_cmp nat_cmp a.pattern.now name.now)) self.now.named.items }
@@ -160,18 +161,18 @@ impl<'t, A: Allocator + Copy> AssignmentTable<'t, A> {
         &named[..count]
     }
 
-    /// The regions that a component is assigned to, by itself and by groups. Some may stand there more than once.
-    pub(crate) fn regions_of(
+    /// Puts the regions that a component is assigned to, by itself and by groups, into an empty list. Some may stand there more than once.
+    pub(crate) fn put_regions_of(
         &self,
-        alloc: A,
         component: &PlacedBox<'t>,
-    ) -> Result<Vec<&'t [u8], A>, AllocError>
-        ensures { IfOk result (λ regions. AreRegionsOf (assignments_view self.now) (boxed_view component.now) (map word_view regions.items)) }
+        regions: &mut Vec<&'t [u8], A>,
+    ) -> Result<(), AllocError>
+        requires { regions.now.items ≡ [] }
+        ensures { OnOk result (AreRegionsOf (assignments_view self.now) (boxed_view component.now) (map word_view regions.new.items)) }
     {
-        let mut regions = Vec::new(alloc);
-        push_own(&mut regions, component)?;
-        push_regions(&mut regions, self.with_name(component.name))?;
-        push_matching(&mut regions, &self.starred, component.name)?;
-        Ok(regions)
+        push_own(regions, component)?;
+        push_regions(regions, self.with_name(component.name))?;
+        push_matching(regions, &self.starred, component.name)?;
+        Ok(())
     }
 }

@@ -41,8 +41,9 @@ pub(crate) fn put_blocked_by<A: Allocator + Copy>(
 ) -> Result<(), AllocError>
     ensures { OnOk result (lines.new ≡ lines.old ++ flat_map (blocked_of (boxed_view component.now)) (map rectangle_of keep_outs.now)) }
 {
+    let swept = component.swept();
     for rect in keep_outs {
-        put_blocked(&component.swept(), rect, lines)?;
+        put_blocked(&swept, rect, lines)?;
     }
     Ok(())
 }

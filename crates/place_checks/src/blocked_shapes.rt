@@ -7,6 +7,7 @@ ghost use Rattle.place_parts.specs.BlockageViews.{blockage_clause_view, blockage
 ghost use Rattle.entry_rules.specs.Blocked.{blocked_rectangles, is_spared, is_sparing, rectangle_of_shape};
 
 use crate::corners::corner_rectangle;
+use crate::pushing::put_behind;
 use design_model::geometry::Rect;
 use lefdef_tokens::is_word;
 use place_parts::blockages::{BlockageClause, BlockageParts, BlockageShape};
@@ -52,10 +53,10 @@ fn push_shape<A: Allocator>(
 ) -> Result<(), AllocError>
     ensures { OnOk result (map rectangle_of found.new.items ≡ map rectangle_of found.old.items ++ filter_map rectangle_of_shape (blockage_shape_view shape.now ∷ [])) }
 {
-    if let BlockageShape::Rectangle(corners) = shape {
-        found.push(corner_rectangle(corners))?;
+    match shape {
+        BlockageShape::Rectangle(corners) => put_behind(corner_rectangle(corners), found),
+        _ => Ok(()),
     }
-    Ok(())
 }
 
 /// Adds the rectangles among shapes.

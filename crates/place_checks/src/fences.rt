@@ -107,6 +107,9 @@ pub(crate) fn put_at_borders<'t, A: Allocator + Copy>(
         OnOk result (lines.new ≡ lines.old ++ (outside_lines s.die c ++ fence_lines s c)) }
 {
     put_outside(surroundings.die, component, lines)?;
-    let regions = surroundings.assignments.regions_of(alloc, component)?;
+    let mut regions = Vec::new(alloc);
+    surroundings
+        .assignments
+        .put_regions_of(component, &mut regions)?;
     put_fences(&surroundings.fences, &regions, component, lines)
 }

@@ -116,8 +116,8 @@ impl<A: Allocator + Copy> KeptAssignments<A> {
         ensures { IfOk result (λ k. k ≡ assignments_view table.now) }
     {
         Ok(KeptAssignments {
-            named: named_of(alloc, table.named())?,
-            starred: starred_ones_of(alloc, table.starred())?,
+            named: named_of(alloc, &table.named)?,
+            starred: starred_ones_of(alloc, &table.starred)?,
         })
     }
 

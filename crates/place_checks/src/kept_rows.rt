@@ -4,6 +4,7 @@ ghost use Rattle.std.specs.Prelude.{◌≡◌, IfOk};
 
 use crate::kept_row::KeptRow;
 use crate::placed_row::PlacedRow;
+use crate::pushing::put_behind;
 use crate::row_index::RowIndex;
 use design_model::sequence::Bytes;
 use std::alloc::{AllocError, Allocator};
@@ -65,9 +66,9 @@ impl<A: Allocator + Copy> KeptRows<A> {
     pub(crate) fn of(alloc: A, index: &RowIndex<'_, A>) -> Result<KeptRows<A>, AllocError>
         ensures { IfOk result (λ k. k ≡ rows_view index.now) }
     {
-        let mut rows = Vec::with_capacity(alloc, index.rows().len())?;
-        for row in index.rows() {
-            rows.push(KeptRow::of(alloc, row)?)?;
+        let mut rows = Vec::with_capacity(alloc, index.rows.len())?;
+        for row in &index.rows {
+            put_behind(KeptRow::of(alloc, row)?, &mut rows)?;
         }
         Ok(KeptRows { rows })
     }

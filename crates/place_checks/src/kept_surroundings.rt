@@ -8,6 +8,7 @@ use crate::fence::Fence;
 use crate::kept_assignments::KeptAssignments;
 use crate::kept_fence::KeptFence;
 use crate::kept_rows::KeptRows;
+use crate::pushing::put_behind;
 use crate::surroundings::Surroundings;
 use design_model::geometry::Rect;
 use std::alloc::{AllocError, Allocator, Global};
@@ -43,7 +44,7 @@ fn fences_of<A: Allocator + Copy>(
 {
     let mut fences = Vec::with_capacity(alloc, all.len())?;
     for fence in all {
-        fences.push(KeptFence::of(alloc, fence)?)?;
+        put_behind(KeptFence::of(alloc, fence)?, &mut fences)?;
     }
     Ok(fences)
 }
@@ -57,7 +58,7 @@ fn fences_lent<'a, A: Allocator + Copy>(
 {
     let mut fences = Vec::with_capacity(alloc, all.len())?;
     for fence in all {
-        fences.push(fence.lent(alloc)?)?;
+        put_behind(fence.lent(alloc)?, &mut fences)?;
     }
     Ok(fences)
 }

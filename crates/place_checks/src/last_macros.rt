@@ -14,7 +14,7 @@ use std::marker::Model;
 const SLOTS: usize = 128;
 
 /// What makes the boxes of a macro's components, with its name.
-#[derive(Clone, Copy, Drop)]
+#[derive(Clone, Copy)]
 pub(crate) struct FoundMacro<'t> {
     pub(crate) name: &'t [u8],
     pub(crate) outline: Outline<'t>,

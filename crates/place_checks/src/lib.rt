@@ -8,7 +8,7 @@
 //! over those that are apart (`overlap`, `blocked`). `rows` looks rows up by their lower edge (`row_index`), and `fences` the groups of a
 //! component by its name (`assignment_table`), passing over fences whose hull is apart from its box (`hull`). `count::counts_of` puts a line
 //! for each section whose header says another number. Who follows a change asks for the lines of one component in its surroundings, or of one
-//! rectangle: `place_lines::lines_in`, `blocked::put_blockage` and the calls of `one`; `boxes::boxes_among` has the components among some of
+//! rectangle: `place_lines::lines_in`, `blocked::put_blockage` and `one::put_own_lines`; `boxes::boxes_among` has the components among some of
 //! the statements. From one edit to the next it keeps the surroundings by `kept_surroundings`, which lends them again.
 //! What they say is defined in `design_rules/specs`: `Boxes`, `Surroundings`, `OverlapLines`, `PlaceLines` and `CountLines`;
 //! `specs/Views`, `PlaceViews` and `IndexViews` say how components and surroundings are seen there. No text is read here:
@@ -47,6 +47,7 @@ mod overlap;
 pub mod place_lines;
 pub mod placed_box;
 pub mod placed_row;
+mod pushing;
 pub mod regions;
 pub mod row_index;
 mod rows;

@@ -17,7 +17,7 @@ use lefdef_tokens::is_word;
 use std::alloc::Allocator;
 
 /// What of a macro makes the boxes of its components: its boundary in database units, and its class and its sites.
-#[derive(Clone, Copy, Drop)]
+#[derive(Clone, Copy)]
 pub(crate) struct Outline<'t> {
     pub(crate) boundary: Rect,
     pub(crate) class: Option<&'t [u8]>,

@@ -1,8 +1,9 @@
 //! Components that lie on one another.
 
-ghost use Rattle.std.specs.Prelude.{◌≡◌, ◌++◌, OnOk, map, filter, int_lt, if◌then◌else◌};
+ghost use Rattle.std.specs.Prelude.{◌≡◌, ◌++◌, ◌∷◌, [], OnOk, map, filter, int_lt, if◌then◌else◌};
 ghost use Rattle.design_model.specs.Families.{lines_with, pair_lines};
 ghost use Rattle.design_model.specs.Order.{greater, lesser};
+ghost use Rattle.lefdef_tokens.specs.Views.{word_view};
 ghost use Rattle.design_rules.specs.OverlapLines.{overlap_of};
 ghost use Rattle.place_checks.specs.Sweep.{FromLeft, InSweepOrder};
 ghost use Rattle.place_checks.specs.Views.{boxed_view, swept_view};
@@ -15,18 +16,11 @@ use orient_geom::overlaps;
 use report_lines::Lines;
 use std::alloc::{AllocError, Allocator};
 
-/// The name that comes first by its bytes.
-fn lesser<'t>(a: &'t [u8], b: &'t [u8]) -> &'t [u8]
-    ensures { result.now ≡ lesser a.entry.now b.entry.now }
+/// Two names in the order of their bytes.
+fn in_order<'t>(a: &'t [u8], b: &'t [u8]) -> [&'t [u8]; 2]
+    ensures { map word_view result ≡ lesser a.entry.now b.entry.now ∷ greater a.entry.now b.entry.now ∷ [] }
 {
-    if b.cmp(a).is_lt() { b } else { a }
-}
-
-/// The name that comes last by its bytes.
-fn greater<'t>(a: &'t [u8], b: &'t [u8]) -> &'t [u8]
-    ensures { result.now ≡ greater a.entry.now b.entry.now }
-{
-    if b.cmp(a).is_lt() { a } else { b }
+    if b.cmp(a).is_lt() { [b, a] } else { [a, b] }
 }
 
 /// Puts the line of two boxes that overlap, the lesser name first.
@@ -40,8 +34,8 @@ fn put_overlap<'t, A: Allocator + Copy>(
     if !overlaps(&first.rect, &other.rect) {
         return Ok(());
     }
-    let (a, b) = (first.name, other.name);
-    lines.put(DiagKind::Overlap, &[lesser(a, b), greater(a, b)], &[])
+    let names = in_order(first.name, other.name);
+    lines.put(DiagKind::Overlap, &names, &[])
 }
 
 /// Puts a line for each of the other components that a component overlaps, in whatever order they stand.
@@ -52,8 +46,9 @@ pub(crate) fn put_overlaps_with<'t, A: Allocator + Copy>(
 ) -> Result<(), AllocError>
     ensures { OnOk result (lines.new ≡ lines.old ++ lines_with overlap_of (boxed_view first.now) (map boxed_view others.now)) }
 {
+    let swept = first.swept();
     for other in others {
-        put_overlap(&first.swept(), &other.swept(), lines)?;
+        put_overlap(&swept, &other.swept(), lines)?;
     }
     Ok(())
 }

@@ -1,6 +1,7 @@
 //! The fences of a design: its regions of TYPE FENCE (LEF/DEF 5.8 Language Reference, "Regions").
 
-ghost use Rattle.std.specs.Prelude.{◌≡◌, IfOk, map};
+ghost use Rattle.std.specs.Prelude.{◌≡◌, ◌++◌, ◌∷◌, [], IfOk, OnOk, map};
+ghost use Rattle.std.specs.List.{cons_option};
 ghost use Rattle.std.specs.Option.{option_map};
 ghost use Rattle.design_model.specs.Views.{rectangle_of};
 ghost use Rattle.form_meanings.specs.Firsts.{first_of};
@@ -9,7 +10,7 @@ ghost use Rattle.def_reader.specs.StatementViews.{record_view, records_view};
 ghost use Rattle.place_parts.specs.AgainViews.{region_at_view};
 ghost use Rattle.place_parts.specs.RegionViews.{region_clauses_of, region_kind_view, region_view};
 ghost use Rattle.def_grammar.specs.Points.{rectangles_of};
-ghost use Rattle.design_rules.specs.Surroundings.{fence_of, fence_of_kind, fences, type_of};
+ghost use Rattle.design_rules.specs.Surroundings.{fence_of_kind, fences, type_of};
 ghost use Rattle.place_checks.specs.PlaceViews.{fence_view};
 
 use crate::corners::rectangle_between;
@@ -57,44 +58,39 @@ fn rectangles_of<A: Allocator + Copy>(
     Ok(rectangles)
 }
 
-/// The fence that a region is, where its first TYPE says so.
-fn fence_of_parts<'t, A: Allocator + Copy>(
-    alloc: A,
-    region: &RegionParts<'t>,
-) -> Result<Option<Fence<'t, A>>, AllocError>
-    ensures { let r = region_view region.entry.now in IfOk result (λ fence. option_map fence_view fence ≡ fence_of_kind r (first_of type_of r.clauses)) }
-{
-    let Some(RegionKind::Fence) = kind_of(region.clauses.again()) else {
-        return Ok(None);
-    };
-    let rectangles = rectangles_of(alloc, region)?;
-    Ok(Some(Fence {
-        name: region.name.bytes,
-        hull: hull_of(rectangles.as_slice()),
-        rectangles,
-    }))
-}
-
-/// The fence that an entry of REGIONS is.
-fn fence_of_region<'t, A: Allocator + Copy>(
+/// Adds the fence that a region is, where its first TYPE says so.
+fn push_region<'t, A: Allocator + Copy>(
     alloc: A,
     region: &RegionAt<'t>,
-) -> Result<Option<Fence<'t, A>>, AllocError>
-    ensures { let r = region_at_view region.entry.now in IfOk result (λ fence. option_map fence_view fence ≡ fence_of_kind r (first_of type_of r.clauses)) }
+    found: &mut Vec<Fence<'t, A>, A>,
+) -> Result<(), AllocError>
+    ensures { let r = region_at_view region.entry.now in OnOk result (map fence_view found.new.items ≡ map fence_view found.old.items ++ cons_option (fence_of_kind r (first_of type_of r.clauses)) []) }
 {
-    fence_of_parts(alloc, &region.parts())
+    let region = region.parts();
+    let Some(RegionKind::Fence) = kind_of(region.clauses.again()) else {
+        return Ok(());
+    };
+    let rectangles = rectangles_of(alloc, &region)?;
+    let hull = hull_of(rectangles.as_slice());
+    found.push(Fence {
+        name: region.name.bytes,
+        rectangles,
+        hull,
+    })?;
+    Ok(())
 }
 
-/// The fence that a statement is.
-fn fence_of<'t, A: Allocator + Copy>(
+/// Adds the fence that a statement is.
+fn push_fence<'t, A: Allocator + Copy>(
     alloc: A,
     statement: &Statement<'t>,
-) -> Result<Option<Fence<'t, A>>, AllocError>
-    ensures { IfOk result (λ fence. option_map fence_view fence ≡ fence_of (record_view statement.now)) }
+    found: &mut Vec<Fence<'t, A>, A>,
+) -> Result<(), AllocError>
+    ensures { OnOk result (map fence_view found.new.items ≡ map fence_view found.old.items ++ fences (record_view statement.now ∷ [])) }
 {
     match statement {
-        Statement::Entry(Entry::Region(region)) => fence_of_region(alloc, region),
-        _ => Ok(None),
+        Statement::Entry(Entry::Region(region)) => push_region(alloc, region, found),
+        _ => Ok(()),
     }
 }
 
@@ -107,10 +103,7 @@ pub fn fences_of<'t, A: Allocator + Copy>(
 {
     let mut fences = Vec::new(alloc);
     for statement in records {
-        let Some(fence) = fence_of(alloc, statement)? else {
-            continue;
-        };
-        fences.push(fence)?;
+        push_fence(alloc, statement, &mut fences)?;
     }
     Ok(fences)
 }

@@ -13,7 +13,7 @@ pub(crate) const NO_EDGE: i64 = i64::MAX;
 /// Rows in the order of the edges by which they are looked up.
 #[derive(Drop)]
 pub struct RowIndex<'t, A: Allocator = Global> {
-    rows: Vec<PlacedRow<'t>, A>,
+    pub(crate) rows: Vec<PlacedRow<'t>, A>,
     ghost sorted: { IsSortedByKey edge_of int_cmp rows.items },
 }
 
@@ -48,13 +48,6 @@ impl<'t, A: Allocator> RowIndex<'t, A> {
         ensures { rows_view result ≡ map placed_row_view rows.entry.items }
     {
         RowIndex { rows }
-    }
-
-    /// All rows, in the order of the index.
-    pub(crate) fn rows(&self) -> &[PlacedRow<'t>]
-        ensures { result.now ≡ self.now.rows.items }
-    {
-        &self.rows
     }
 
     /// The rows that are looked up by an edge.

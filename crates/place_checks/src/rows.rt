@@ -20,7 +20,7 @@ use report_lines::Lines;
 use std::alloc::{AllocError, Allocator};
 
 /// How well rows take a component.
-#[derive(Clone, Copy, Debug, PartialEq, Eq)]
+#[derive(Clone, Copy)]
 pub enum Fit {
     /// No row holds it.
     NotHeld,

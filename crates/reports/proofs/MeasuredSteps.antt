@@ -71,15 +71,9 @@ others_left : (u : MeasuredNet) (us : List MeasuredNet) (name : List ℕ) (left 
 others_left u us name left is = cc
 
 module _ (columns rows : List ℤ) where
-  -- no nets
-  pub none_measured : (cells : CellTable) → HoldsDensities columns rows [] cells → AreMeasured columns rows [] [] [] [] 0 cells
-  none_measured cells held = record { each = refl; unmeasured = []; by_name = refl; named = refl; together = refl; densities = held }
-
-  -- and then names of nets, none of them measured
-  pub names_alone : (left names : List (List ℕ)) (table named : List MeasuredNet) (total : ℕ) (cells : CellTable) → map name_of named ≡ names
-      → AreMeasured columns rows [] [] left table total cells → AreMeasured columns rows [] [] names named total cells
-  names_alone left names table named total cells are old =
-      record { each = refl; unmeasured = named; by_name = refl; named = are; together = old.together; densities = old.densities }
+  -- names of nets, none of them measured
+  pub names_alone : (names : List (List ℕ)) (table : List MeasuredNet) (cells : CellTable) → map name_of table ≡ names → HoldsDensities columns rows [] cells → AreMeasured columns rows [] [] names table 0 cells
+  names_alone names table cells are held = record { each = refl; unmeasured = table; by_name = refl; named = are; together = refl; densities = held }
 
   -- all nets
   none_left : (us : List MeasuredNet) → map name_of us ≡ [] → us ≡ []

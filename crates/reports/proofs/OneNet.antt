@@ -1,5 +1,5 @@
 -- The net of a design that has entries of one net alone.
-use Rattle.std.proofs.Common.{◌≡◌, ◌∙◌, ◌↔◌, ℕ, List, [], ◌∷◌, append-nil, length, map, flat_map, slice_get, Option, Some, refl, sym, ap, arith}
+use Rattle.std.proofs.Common.{◌≡◌, ◌∙◌, ℕ, List, [], ◌∷◌, append-nil, length, map, flat_map, slice_get, Option, Some, sym, ap, arith}
 use Rattle.std.proofs.lemmas.List.{length-map}
 use Rattle.design_model.specs.Geometry.{Rectangle}
 use Rattle.def_grammar.specs.Records.{Record}
@@ -9,44 +9,26 @@ use Rattle.connection_rules.specs.NetLines.{shapes_of_net}
 use Rattle.connection_rules.specs.NetParts.{Net, all_nets, net_named, net_names}
 use Rattle.drawn_parts.specs.DrawnLengths.{capped}
 use Rattle.measure_rules.specs.Lengths.{length_of}
-use Rattle.measure_rules.specs.NetBoxes.{box_round, rectangles_of}
+use Rattle.measure_rules.specs.NetBoxes.{box_round}
 use Rattle.name_groups.specs.Groups.{Group}
 use Rattle.net_lists.specs.PartCuts.{shape_view}
 use Rattle.net_lists.specs.declared.parts.NetShape.{NetShape}
-use Rattle.net_lists.proofs.ShapeLemmas.{bare, of_parts, shapes_in}
+use Rattle.net_lists.proofs.ShapeLemmas.{bare}
 use Rattle.net_entries.specs.NetEntries.{HasEntries, wired_group}
 use Rattle.net_entries.specs.declared.lent_entry.LentEntry.{LentEntry}
 use Rattle.design_nets.specs.NetGroups.{length_of_group, net_of_group}
 use Rattle.design_nets.proofs.NetLemmas.{lengths_by_groups, nets_by_groups}
 use Rattle.reports.specs.MeasuredNets.{shape_box}
 use Rattle.reports.specs.NetMeasures.{AreOfNet}
+use Rattle.reports.proofs.MeasuredSteps.{rectangles_are}
 
-abbrev box_of : Shape → Rectangle
-box_of s = s.box
-
-boxes_seen : (ss : List NetShape) → map shape_box ss ≡ map box_of (map shape_view ss)
-boxes_seen [] = refl
-boxes_seen (s ∷ ss) = ap (λ (rs : List Rectangle). shape_box s ∷ rs) (boxes_seen ss)
-
--- Shapes of a net that stands alone in a list are those of each net with its parts,
-module _ (m n : Net) (same : m.parts ≡ n.parts) (listed : List Net) (alone : listed ≡ m ∷ []) (ss : List NetShape) (seen : map shape_view ss ≡ map bare (flat_map shapes_of_net listed)) where
-  in_parts : map shape_view ss ≡ flat_map shapes_in n.parts
-  in_parts =
-      seen
-      ∙ ap (λ (ns : List Net). map bare (flat_map shapes_of_net ns)) alone
-      ∙ ap (map bare) (append-nil (shapes_of_net m))
-      ∙ of_parts m m.parts
-      ∙ ap (flat_map shapes_in) same
-
-  shapes_are : map shape_view ss ≡ map bare (shapes_of_net n)
-  shapes_are = in_parts ∙ sym (of_parts n n.parts)
-
-  boxes_are : map shape_box ss ≡ rectangles_of n
-  boxes_are = boxes_seen ss ∙ ap (map box_of) in_parts
-
-  -- and so is the box round them
-  pub are_measures : (long net_length : ℕ) (bounds : Option Rectangle) → net_length ≡ long → bounds ≡ box_round (map shape_box ss) → AreOfNet n long net_length (map shape_view ss) bounds
-  are_measures long net_length bounds length_is round = record { length_is = length_is; shapes_are = shapes_are; bounds_are = round ∙ ap box_round boxes_are }
+-- shapes of a net, and the box round them
+pub are_measures : (n : Net) (ss : List NetShape) → map shape_view ss ≡ map bare (flat_map shapes_of_net (n ∷ [])) → (long net_length : ℕ) (bounds : Option Rectangle) → net_length ≡ long → bounds ≡ box_round (map shape_box ss) → AreOfNet n long net_length (map shape_view ss) bounds
+are_measures n ss seen long net_length bounds length_is round = record {
+  length_is = length_is;
+  shapes_are = seen ∙ ap (map bare) (append-nil (shapes_of_net n));
+  bounds_are = round ∙ ap box_round (rectangles_are n ss seen);
+}
 
 -- the first of one
 one_only : {A : Type 0} (xs : List A) (x : A) → length xs ≡ 1 → slice_get xs 0 ≡ Some x → xs ≡ x ∷ []

@@ -4,3 +4,4 @@ pub mod DrawnNets
 pub mod Exchanges
 pub mod MeasuredNets
 pub mod NetMeasures
+pub mod NetWalks

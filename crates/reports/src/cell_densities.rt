@@ -15,9 +15,15 @@ use std::marker::Model;
 
 /// The densities of shapes in the cells of a grid, layer by layer, in squares of database units. Sums of cells only grow, so the areas
 /// of shapes that came and of those that went are summed apart, under twice the layer's number and under one more.
-#[derive(Drop)]
 pub(crate) struct CellDensities<A: Allocator = Global> {
     sums: CellSums<A>,
+}
+
+// (written out, so that who owns this is proved over one call)
+impl<A: Allocator> Drop for CellDensities<A> {
+    fn drop(self) {
+        let CellDensities { sums: _ } = self;
+    }
 }
 
 impl<A: Allocator> Model for CellDensities<A> {

@@ -21,6 +21,7 @@ mod measured_nets;
 mod net_box;
 pub mod net_measures;
 mod net_table;
+mod net_walk;
 mod reports;
 
 pub use reports::Reports;

@@ -13,28 +13,25 @@ ghost use Rattle.drawn_parts.specs.DrawnLengths.{capped};
 ghost use Rattle.measure_rules.specs.GridCells.{columns, lines_along_x, lines_along_y, rows};
 ghost use Rattle.measure_rules.specs.Lengths.{length_of};
 ghost use Rattle.measure_rules.specs.NetBoxes.{box_round};
-ghost use Rattle.reports.specs.Densities.{HoldsMore};
-ghost use Rattle.reports.specs.MeasuredNets.{AreMeasured, measured_at, name_of, shape_box};
+ghost use Rattle.reports.specs.Densities.{HoldsDensities, HoldsMore};
+ghost use Rattle.reports.specs.MeasuredNets.{AreMeasured, measured_at, shape_box};
 
 use crate::cell_densities::CellDensities;
 use crate::densities::no_densities;
 use crate::net_box::box_round;
 use crate::net_table::{Measures, NetTable};
+use crate::net_walk::NetWalk;
 use cell_library::library::Library;
 use def_reader::entry::Entry;
 use def_reader::statement::Statement;
 use design_names::names::Names;
-use design_nets::put_net;
 use design_wires::wires::DesignWires;
-use drawn_parts::PartWalk;
 use net_entries::{NetGroups, entries_by_net};
-use net_lists::{NetList, NetShape};
-use net_pins::Pins;
+use net_lists::NetShape;
 use std::alloc::{AllocError, Allocator, Global};
 
 /// What was measured of nets: of each by its name, the lengths of all of them together, and how dense the cells of the grid are with
 /// their shapes.
-#[derive(Drop)]
 pub(crate) struct MeasuredNets<A: Allocator = Global> {
     pub(crate) table: NetTable<A>,
     /// 2^64 - 1 where it is more.
@@ -42,14 +39,28 @@ pub(crate) struct MeasuredNets<A: Allocator = Global> {
     pub(crate) cells: CellDensities<A>,
 }
 
+// (written out, so that who owns this is proved over one call)
+impl<A: Allocator> Drop for MeasuredNets<A> {
+    fn drop(self) {
+        let MeasuredNets {
+            table: _,
+            total: _,
+            cells: _,
+        } = self;
+    }
+}
+
 impl<A: Allocator + Copy> MeasuredNets<A> {
-    /// No nets of a design, with room for so many names.
-    fn new(alloc: A, names: &Names<'_, '_, A>, count: usize) -> Result<MeasuredNets<A>, AllocError>
+    /// No nets, with room for the names of those of a design.
+    pub(crate) fn new(alloc: A, names: &Names<'_, '_, A>) -> Result<MeasuredNets<A>, AllocError>
         requires across { All (IsWithin 2147483647) (flat_map lines_along_x names.now) }
         requires upward { All (IsWithin 2147483647) (flat_map lines_along_y names.now) }
-        ensures { IfOk result (λ m. AreMeasured (columns names.entry.now) (rows names.entry.now) [] [] [] m.table m.total m.cells) }
+        ensures table { IfOk result (λ m. m.table ≡ []) }
+        ensures total { IfOk result (λ m. m.total ≡ 0) }
+        ensures cells { IfOk result (λ m. HoldsDensities (columns names.entry.now) (rows names.entry.now) [] m.cells) }
     {
-        let table = NetTable::with_room(alloc, names.hash_builder(), count)?;
+        let most = net_entry_count(names.records());
+        let table = NetTable::with_room(alloc, names.hash_builder(), most)?;
         Ok(MeasuredNets {
             table,
             total: 0,
@@ -76,7 +87,7 @@ impl<A: Allocator + Copy> MeasuredNets<A> {
 }
 
 /// Measures the nets of these groups of entries, which have the places of the groups in the table. Each is drawn by itself: no list
-/// holds the shapes of all. Nothing that is measured depends on whether a net is of power, so none is asked for it.
+/// holds the shapes of all.
 fn add_groups<'a, 'l: 'a, 'r: 'a, 't: 'a, A: Allocator + Copy>(
     alloc: A,
     library: &'a Library<'l, A>,
@@ -92,24 +103,11 @@ fn add_groups<'a, 'l: 'a, 'r: 'a, 't: 'a, A: Allocator + Copy>(
     ensures { let u = scale names.now in let wired = map (wired_group library.now names.now u) groups.now in
         OnOk result (AreMeasured (columns names.now) (rows names.now) (map (net_of_group library.now names.now u) wired) (map length_of_group wired) [] measured.new.table measured.new.total measured.new.cells) }
 {
-    let pins = Pins::new(alloc, library, names, wires)?;
-    let mut pin_walk = pins.walk(alloc);
-    let mut part_walk = PartWalk::new(library);
-    let mut net = NetList::new(alloc);
+    let mut walk = NetWalk::new(alloc, library, names, wires)?;
     for place in 0..groups.len() {
         let (name, entries) = groups.at(place);
-        net.clear();
-        let length = put_net(
-            &pins,
-            wires,
-            name,
-            false,
-            entries,
-            &mut pin_walk,
-            &mut part_walk,
-            &mut net,
-        )?;
-        measured.add(place, net.shapes(), length)?;
+        let length = walk.draw(wires, name, entries)?;
+        measured.add(place, walk.net.shapes(), length)?;
     }
     Ok(())
 }
@@ -123,11 +121,32 @@ fn is_net_entry(statement: &Statement<'_>) -> bool {
 }
 
 /// How many entries of NETS and of SPECIALNETS there are: at least as many as nets.
-pub(crate) fn net_entry_count(records: &[Statement<'_>]) -> usize {
+fn net_entry_count(records: &[Statement<'_>]) -> usize {
     records
         .iter()
         .filter(|statement| is_net_entry(statement))
         .count()
+}
+
+/// Measures the nets of a design, of which none was measured before.
+fn add_all<'a, 'l: 'a, 'r: 'a, 't: 'a, A: Allocator + Copy>(
+    alloc: A,
+    library: &'a Library<'l, A>,
+    names: &'a Names<'r, 't, A>,
+    wires: &DesignWires<'a, 'l, 'r, 't, A>,
+    measured: &mut MeasuredNets<A>,
+) -> Result<(), AllocError>
+    requires some { 0 < scale names.now }
+    requires few { scale names.now ≤ 100000 }
+    requires same { wires.now ≡ record { library = library.now; design = names.now } }
+    requires table { measured.old.table ≡ [] }
+    requires total { measured.old.total ≡ 0 }
+    requires cells { HoldsDensities (columns names.now) (rows names.now) [] measured.old.cells }
+    ensures { let u = scale names.now in
+        OnOk result (AreMeasured (columns names.now) (rows names.now) (all_nets library.now names.now u) (map (λ name. capped (length_of library.now names.now u name)) (net_names library.now names.now u)) [] measured.new.table measured.new.total measured.new.cells) }
+{
+    let groups = entries_by_net(alloc, names.records(), &mut measured.table)?;
+    add_groups(alloc, library, names, wires, &groups, measured)
 }
 
 /// Measures the nets of a design. What they are drawn by is kept no longer than that.
@@ -144,8 +163,7 @@ pub(crate) fn measured_nets<A: Allocator + Copy>(
         IfOk result (λ m. AreMeasured (columns names.entry.now) (rows names.entry.now) (all_nets library.entry.now names.entry.now u) (map (λ name. capped (length_of library.entry.now names.entry.now u name)) (net_names library.entry.now names.entry.now u)) [] m.table m.total m.cells) }
 {
     let wires = DesignWires::new(alloc, library, names)?;
-    let mut measured = MeasuredNets::new(alloc, names, net_entry_count(names.records()))?;
-    let groups = entries_by_net(alloc, names.records(), &mut measured.table)?;
-    add_groups(alloc, library, names, &wires, &groups, &mut measured)?;
+    let mut measured = MeasuredNets::new(alloc, names)?;
+    add_all(alloc, library, names, &wires, &mut measured)?;
     Ok(measured)
 }

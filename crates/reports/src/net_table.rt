@@ -23,9 +23,15 @@ pub(crate) struct Measures {
 }
 
 /// The measures of nets by their names, each name once.
-#[derive(Drop)]
 pub(crate) struct NetTable<A: Allocator = Global> {
     nets: IndexMap<OwnName<A>, Measures, RandomState, A>,
+}
+
+// (written out, so that who owns this is proved over one call)
+impl<A: Allocator> Drop for NetTable<A> {
+    fn drop(self) {
+        let NetTable { nets: _ } = self;
+    }
 }
 
 impl<A: Allocator> Model for NetTable<A> {

@@ -18,10 +18,10 @@ ghost use Rattle.reports.specs.DrawnNets.{AreWithoutNets};
 ghost use Rattle.reports.specs.Exchanges.{ComponentExchanged, NetExchanged};
 
 use crate::cell_densities::CellDensities;
-use crate::densities::{no_densities, place_densities};
+use crate::densities::place_densities;
 use crate::drawn_nets::{measure_each, sum_of};
-use crate::measured_nets::{measured_nets, net_entry_count};
-use crate::net_table::{Measures, NetTable};
+use crate::measured_nets::{MeasuredNets, measured_nets};
+use crate::net_table::Measures;
 use cell_library::library::Library;
 use design_model::geometry::Rect;
 use design_model::identifier::LayerId;
@@ -37,9 +37,7 @@ const MOST_LAYERS: usize = usize::MAX / 2;
 /// The lengths of all nets and the boxes round them, and how dense the cells of the grid are, of one design.
 pub struct Reports<A: Allocator = Global> {
     layers: usize,
-    nets: NetTable<A>,
-    total: u64,
-    cells: CellDensities<A>,
+    measured: MeasuredNets<A>,
     place_cells: CellDensities<A>,
 }
 
@@ -48,9 +46,7 @@ impl<A: Allocator> Drop for Reports<A> {
     fn drop(self) {
         let Reports {
             layers: _,
-            nets: _,
-            total: _,
-            cells: _,
+            measured: _,
             place_cells: _,
         } = self;
     }
@@ -62,7 +58,7 @@ impl<A: Allocator> Model for Reports<A> {
 
     ghost Value = { Answers };
 
-    ghost view = { λ r. record { layers = r.layers; nets = r.nets; total_length = r.total; cells = r.cells; place_cells = r.place_cells } };
+    ghost view = { λ r. record { layers = r.layers; nets = r.measured.table; total_length = r.measured.total; cells = r.measured.cells; place_cells = r.place_cells } };
 
     ghost invariant = { λ r. r.layers < 2 ^ 63 };
 }
@@ -99,9 +95,7 @@ impl<A: Allocator + Copy> Reports<A> {
         let place_cells = place_densities(alloc, library, names, &measured.cells)?;
         Ok(Reports {
             layers,
-            nets: measured.table,
-            total: measured.total,
-            cells: measured.cells,
+            measured,
             place_cells,
         })
     }
@@ -121,15 +115,11 @@ impl<A: Allocator + Copy> Reports<A> {
         ensures { IfOk result (AreWithoutNets library.entry.now names.entry.now) }
     {
         let layer_count = few_layers(library)?;
-        let most = net_entry_count(names.records());
-        let nets = NetTable::with_room(alloc, names.hash_builder(), most)?;
-        let cells = no_densities(alloc, names)?;
-        let place_cells = place_densities(alloc, library, names, &cells)?;
+        let measured = MeasuredNets::new(alloc, names)?;
+        let place_cells = place_densities(alloc, library, names, &measured.cells)?;
         Ok(Reports {
             layers: layer_count,
-            nets,
-            total: 0,
-            cells,
+            measured,
             place_cells,
         })
     }
@@ -141,12 +131,11 @@ impl<A: Allocator + Copy> Reports<A> {
             → OnOk result (ReportsOn library design self.new) }
     {
         none_is_longer();
-        let Reports {
-            nets: table,
-            cells,
+        let MeasuredNets {
+            table,
             total,
-            ..
-        } = self;
+            cells,
+        } = &mut self.measured;
         measure_each(nets, lengths, table)?;
         cells.add_shapes(nets.shapes())?;
         *total = sum_of(lengths);
@@ -168,17 +157,16 @@ impl<A: Allocator + Copy> Reports<A> {
         requires fits { self.old.total_length + new_length < old_length + 2 ^ 64 }
         ensures { OnOk result (NetExchanged name.now old_length new_length (map shape_view gone.now) (map shape_view come.now) (option_map rectangle_of bounds) self.old self.new) }
     {
-        let Reports {
-            nets,
-            cells,
+        let MeasuredNets {
+            table,
             total,
-            ..
-        } = self;
+            cells,
+        } = &mut self.measured;
         let measures = Measures {
             length: new_length,
             bounds,
         };
-        nets.set(name, measures)?;
+        table.set(name, measures)?;
         cells.exchange(gone, come)?;
         *total = *total - old_length + new_length;
         Ok(())
@@ -200,7 +188,7 @@ impl<A: Allocator + Copy> Reports<A> {
     pub fn net_length(&self, name: &[u8]) -> Option<u64>
         ensures { result ≡ length_in self.now name.now }
     {
-        match self.nets.get(name) {
+        match self.measured.table.get(name) {
             Some(net) => Some(net.length),
             None => None,
         }
@@ -210,7 +198,7 @@ impl<A: Allocator + Copy> Reports<A> {
     pub fn net_box(&self, name: &[u8]) -> Option<Option<Rect>>
         ensures { option_map (option_map rectangle_of) result ≡ box_in self.now name.now }
     {
-        match self.nets.get(name) {
+        match self.measured.table.get(name) {
             Some(net) => Some(net.bounds),
             None => None,
         }
@@ -220,7 +208,7 @@ impl<A: Allocator + Copy> Reports<A> {
     pub fn total_length(&self) -> u64
         ensures { result ≡ self.now.total_length }
     {
-        self.total
+        self.measured.total
     }
 
     /// The area that shapes of nets on a layer have in common with the cell in a column and a row of the grid, in squares of
@@ -229,7 +217,7 @@ impl<A: Allocator + Copy> Reports<A> {
         ensures { result ≡ cell_in self.now i j layer.0 }
     {
         if layer.0 < self.layers {
-            self.cells.density(layer.0, i, j)
+            self.measured.cells.density(layer.0, i, j)
         } else {
             None
         }

@@ -1,5 +1,5 @@
 -- Cuts of a text in one.
-use Rattle.std.proofs.Common.{◌≡◌, ◌<◌, ◌≤◌, ◌+◌, ◌-◌, ℕ, List, [], ◌∷◌, ◌++◌, length, get_or, map, take, drop, Some, Result, Ok, Err, sym, ap, ap₂, ◌∙◌, subst, append_assoc, arith, slice_range}
+use Rattle.std.proofs.Common.{◌≡◌, ◌<◌, ◌≤◌, ◌+◌, ◌-◌, ℕ, List, [], ◌∷◌, ◌++◌, length, get_or, map, take, drop, Some, Result, Ok, Err, sym, ap, ap₂, ◌∙◌, subst, arith, slice_range}
 use Rattle.std.specs.List.{slice_get}
 use Rattle.std.proofs.lemmas.List.{drop_more}
 use Rattle.statement_model.specs.Cuts.{Cut, cut_from, with_cuts}
@@ -34,13 +34,6 @@ past_first cuts c n at past h =
     let k = subst (λ (l : List TextCut). AreInOrder 0 (map cut_of l) n) (first_and_others cuts c at) h in
     let end = order_below c.hi (map cut_of (drop 1 cuts)) n k.2 in
     absurd (omega (arith, past, k.1, end))
-
--- one more cut is made
-pub one_made : (at : ℕ) (c : Cut) (cs : List Cut) (text put all : List ℕ) → put ++ cut_from at (c ∷ cs) text ≡ all → ((put ++ slice_range text at c.lo) ++ c.put) ++ cut_from c.hi cs text ≡ all
-one_made at c cs text put all h =
-    append_assoc (put ++ slice_range text at c.lo) c.put (cut_from c.hi cs text)
-    ∙ append_assoc put (slice_range text at c.lo) (c.put ++ cut_from c.hi cs text)
-    ∙ h
 
 -- the cut that covers all
 pub covered : (c : Cut) (cs : List Cut) (text put : List ℕ) (end : ℕ) → IsCover text c.lo (c ∷ cs) put end → with_cuts (record { lo = c.lo; hi = end; put = put } ∷ []) text ≡ with_cuts (c ∷ cs) text

@@ -1,9 +1,9 @@
 -- Numbers from a place of a chunk on.
-use Rattle.std.proofs.Common.{◌≡◌, ◌<◌, ◌≤◌, ◌+◌, ◌-◌, ℕ, zero, suc, List, [], ◌∷◌, ◌++◌, length, get_or, map, take, drop, Option, Some, None, refl, sym, ap, ◌∙◌, subst, ⊎_elim, append_assoc, append-nil, arith, length-append}
+use Rattle.std.proofs.Common.{◌≡◌, ◌<◌, ◌≤◌, ◌+◌, ◌-◌, ℕ, zero, suc, List, [], ◌∷◌, ◌++◌, length, map, take, drop, Option, Some, refl, sym, ap, ◌∙◌, subst, ⊎_elim, append_assoc, append-nil, arith, length-append}
 use Rattle.std.specs.Prelude.{option_map, slice_get}
 use Rattle.std.proofs.lemmas.Bool.{cases_lt}
-use Rattle.std.proofs.lemmas.List.{drop_all, get_or-drop, get_or_past, length-drop, length-map, take-append-drop}
-use Rattle.std.proofs.lemmas.Option.{slice_get-get_or, slice_get-map, slice_get_past, slice_get_within}
+use Rattle.std.proofs.lemmas.List.{drop_all, get_or_past, length-drop, length-map, take-append-drop}
+use Rattle.std.proofs.lemmas.Option.{slice_get-map, slice_get_within}
 use Rattle.design_model.specs.declared.identifier.StmtId.{StmtId}
 use Rattle.design_model.specs.declared.mode.Mode.TheVariants.{After}
 use Rattle.text_pieces.specs.Behind.{ids_from, old_bytes, segments}
@@ -22,12 +22,6 @@ get_behind [] ys n h = ap (slice_get ys) (omega arith)
 get_behind (x ∷ xs) ys zero h = absurd (omega (arith, h))
 get_behind (x ∷ xs) ys (suc n) h = get_behind xs ys n (omega (arith, h)) ∙ ap (slice_get ys) (omega arith)
 
-pub found_from : (cs : List Numbers) (k i n : ℕ) (ids : List StmtId) (d : StmtId) → ids ≡ ids_at cs k → n < length ids - i → slice_get (ids_from cs k i) n ≡ Some (get_or ids (i + n) d)
-found_from cs k i n ids d is low =
-    let more = all_ids (drop (k + 1) cs) in
-    let below : n < length (drop i ids) = omega (arith, low, length-drop i ids) in
-    ap (λ (l : List StmtId). slice_get (drop i l ++ more) n) (sym is) ∙ get_front (drop i ids) more n below ∙ slice_get-get_or (drop i ids) n d below ∙ ap (λ (y : StmtId). Some y) (get_or-drop i ids n d)
-
 -- the numbers from a chunk on, where there is one
 pub later_from : (cs : List Numbers) (k : ℕ) → all_ids (drop k cs) ≡ ids_from cs k 0
 later_from cs k = ⊎_elim (λ below. chunks_from cs k below)
@@ -44,8 +38,9 @@ passed_from cs k i n ids is past =
     ap (λ (l : List StmtId). slice_get (drop i l ++ more) n) (sym is) ∙ get_behind (drop i ids) more n (omega (arith, past, length-drop i ids))
     ∙ ap (λ (m : ℕ). slice_get more (n - m)) (length-drop i ids) ∙ ap (λ (l : List StmtId). slice_get l (n - (length ids - i))) (later_from cs (k + 1))
 
-pub none_from : (cs : List Numbers) (k n : ℕ) → length cs ≤ k → slice_get (ids_from cs k 0) n ≡ None
-none_from cs k n past = ap (λ (l : List StmtId). slice_get l n) (sym (later_from cs k) ∙ ap all_ids (drop_all k cs past))
+-- how many numbers stand from a chunk on, where there is one or none
+pub many_from : (cs : List Numbers) (k : ℕ) → length (all_ids (drop k cs)) ≡ length (ids_at cs k) + length (all_ids (drop (k + 1) cs))
+many_from cs k = ap (λ (l : List StmtId). length l) (later_from cs k) ∙ length-append (ids_at cs k) (all_ids (drop (k + 1) cs))
 
 -- all numbers are those before a place, and those from it on
 pub parted_at : (cs : List Numbers) (k i : ℕ) → i ≤ length (ids_at cs k) → (front : List StmtId) × (all_ids cs ≡ front ++ ids_from cs k i)
@@ -64,6 +59,12 @@ parted_at cs k i low = ⊎_elim
     (all_ids cs, sym (append-nil (all_ids cs)) ∙ ap (λ (l : List StmtId). all_ids cs ++ l) (sym none)))
     (cases_lt k (length cs))
 
+pub few_from : (cs : List Numbers) (k i : ℕ) → i ≤ length (ids_at cs k) → length (ids_from cs k i) ≤ length (all_ids cs)
+few_from cs k i low =
+    let p = parted_at cs k i low in
+    let all = ap (λ (l : List StmtId). length l) p.1 in
+    omega (arith, all, length-append p.0 (ids_from cs k i))
+
 module _ (slots : List (Option Kept)) where
   held_behind : (xs ys : List StmtId) → AreHeld slots (xs ++ ys) → AreHeld slots ys
   held_behind [] ys h = h
@@ -79,16 +80,7 @@ module _ (slots : List (Option Kept)) where
       let p = parted_at cs k i low in
       held_get (ids_from cs k i) n id (held_behind p.0 (ids_from cs k i) (subst (AreHeld slots) p.1 (chunks_held slots 0 cs h))) e
 
--- segments by how many stand before them
-pub segment_past : (ks : List Kept) (tail : List ℕ) (n : ℕ) → length ks < n → slice_get (segments ks tail) n ≡ None
-segment_past ks tail n past = slice_get_past (segments ks tail) n (omega (arith, past, length-append (map old_bytes ks) (record { bytes = tail; mode = Some After } ∷ []), length-map ks old_bytes))
-
-pub segment_last : (ks : List Kept) (tail : List ℕ) (n : ℕ) → n ≡ length ks → slice_get (segments ks tail) n ≡ Some (record { bytes = tail; mode = Some After })
-segment_last ks tail n is =
-    let long : length (map old_bytes ks) ≡ length ks = length-map ks old_bytes in
-    get_behind (map old_bytes ks) (record { bytes = tail; mode = Some After } ∷ []) n (omega (arith, is, long))
-    ∙ ap (λ (m : ℕ). slice_get (record { bytes = tail; mode = Some After } ∷ []) m) (let e : n - length (map old_bytes ks) ≡ 0 = omega (arith, is, long) in e)
-
+-- the segment of a number
 pub segment_at : (slots : List (Option Kept)) (ids : List StmtId) (tail : List ℕ) (n : ℕ) (id : StmtId) → slice_get ids n ≡ Some id → slice_get (segments (map (kept_at slots) ids) tail) n ≡ Some (old_bytes (kept_at slots id))
 segment_at slots ids tail n id e =
     let ks = map (kept_at slots) ids in
@@ -97,9 +89,3 @@ segment_at slots ids tail n id e =
     get_front (map old_bytes ks) (record { bytes = tail; mode = Some After } ∷ []) n (omega (arith, below, long))
     ∙ slice_get-map old_bytes ks n
     ∙ ap (option_map old_bytes) (slice_get-map (kept_at slots) ids n ∙ ap (option_map (kept_at slots)) e)
-
--- a place that has no number among some is behind them
-pub none_there : (ids : List StmtId) (n : ℕ) → slice_get ids n ≡ None → length ids ≤ n
-none_there [] n e = omega arith
-none_there (x ∷ xs) zero e = absurd (cc)
-none_there (x ∷ xs) (suc n) e = omega (arith, none_there xs n e)

@@ -60,12 +60,6 @@ stands_in_all cs k id before after below here =
     ∙ ap (λ (l : List StmtId). all_ids (take k cs) ++ l) (ids_from cs k below ∙ ap (λ (l : List StmtId). l ++ back) here)
     ∙ regroup (all_ids (take k cs)) before back after id
 
-pub split_place : (ids : List StmtId) (i : ℕ) (id d : StmtId) → i < length ids → id.0 ≡ (get_or ids i d).0 → ids ≡ take i ids ++ id ∷ drop (i + 1) ids
-split_place ids i id d below is =
-    let x = get_or ids i d in
-    let e : x ≡ id = ap (λ (n : ℕ). record { 0 = n }) (sym is) in
-    sym (take-append-drop i ids) ∙ ap (λ (l : List StmtId). take i ids ++ l) (drop_more ids i d below ∙ ap (λ (y : StmtId). y ∷ drop (i + 1) ids) e)
-
 pub after_is : (id : StmtId) (xs ys : List StmtId) → IsAbsent id xs → id_after id (xs ++ id ∷ ys) ≡ first_id ys
 after_is id [] ys h = rw (same id.0) refl
 after_is id (x ∷ xs) ys h = rw (differ x.0 id.0 (λ e. h.0 (sym e))) (after_is id xs ys h.1)

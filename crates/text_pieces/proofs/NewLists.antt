@@ -65,9 +65,6 @@ module _ (slots : List (Option Kept)) where
     pub inside : place ≤ length (ids_at cs k)
     pub still : ids_left cs k place left ≡ rest
 
-  pub going_start : (cs : List Numbers) (k place out : ℕ) (head : List StmtId) → AreChunks slots 0 cs → AreHome slots k head → place ≤ length (ids_at cs k) → Going cs (all_ids (take k cs) ++ head) (ids_left cs k place out) [] k place out head
-  going_start cs k place out head kept home inside = record { old = kept; places = tt; below = tt; before = refl; behind = refl; kept = kept; home = home; inside = inside; still = refl }
-
   module _ (cs : List Numbers) (front rest : List StmtId) (rs : List Replacement) (k place left : ℕ) (ids : List StmtId) (g : Going cs front rest rs k place left ids) (below : k < length cs) (gone : ℕ) where
     abbrev last : List StmtId
     last = drop (place + gone) (ids_at cs k)

@@ -1,39 +1,33 @@
 -- How many bytes parts of a chunk have.
-use Rattle.std.proofs.Common.{◌≡◌, ◌<◌, ◌≤◌, ◌+◌, ◌-◌, ℕ, zero, suc, List, [], ◌∷◌, ◌++◌, length, take, drop, get_or, Option, sym, ap, ◌∙◌, append_assoc, arith, length-append}
+use Rattle.std.proofs.Common.{◌≡◌, ◌<◌, ◌≤◌, ◌+◌, ◌-◌, ℕ, zero, suc, List, [], ◌∷◌, ◌++◌, length, take, drop, get_or, Option, refl, sym, ap, ◌∙◌, append_assoc, arith, length-append}
 use Rattle.std.proofs.lemmas.List.{drop_at, drop-drop, length-drop, length-take-le, take-append-drop}
 use Rattle.std.proofs.Math.Seq.{take-append_seam}
 use Rattle.design_model.specs.declared.TheConstants.{MAX_TEXT}
 use Rattle.design_model.specs.declared.identifier.StmtId.{StmtId}
-use Rattle.text_pieces.specs.Chunks.{Numbers, all_ids, ids_at, no_numbers}
+use Rattle.text_pieces.specs.Chunks.{Numbers, ids_at, no_numbers}
 use Rattle.text_pieces.specs.Lists.{IsAnew}
+use Rattle.text_pieces.specs.TableChunks.{HasBytes}
 use Rattle.text_pieces.specs.Tables.{AreHome, IsTable, Kept, kept_at, weight}
-use Rattle.text_pieces.proofs.Slots.{home_of, home_take}
-use Rattle.text_pieces.proofs.Weights.{weight_append, weight_more, weight_of, weight_up_to}
+use Rattle.text_pieces.proofs.Slots.{home_at, home_take, len_at}
+use Rattle.text_pieces.proofs.Weights.{weight_append, weight_more, weight_up_to}
 
 -- the numbers of a chunk of a table, and their bytes
-pub record IsChunk (slots : List (Option Kept)) (k : ℕ) (n : Numbers) (own : List StmtId) : Type 0 where
-  pub ids : n.ids ≡ own
-  pub home : AreHome slots k n.ids
-  pub len : n.len ≡ weight slots n.ids
-  pub fits : weight slots n.ids ≤ MAX_TEXT
+module _ (slots : List (Option Kept)) (cs : List Numbers) (k : ℕ) where
+  pub home_in : IsTable (record { chunks = cs; slots = slots }) → k < length cs → AreHome slots k (ids_at cs k)
+  home_in t below = let e : 0 + k ≡ k = omega arith in rw e at (home_at slots 0 cs k t.chunks below)
 
-pub chunk_is : (slots : List (Option Kept)) (cs : List Numbers) (k : ℕ) (n : Numbers) → IsTable (record { chunks = cs; slots = slots }) → k < length cs → get_or cs k no_numbers ≡ n → IsChunk slots k n (ids_at cs k)
-chunk_is slots cs k n t below is =
-    let heavy = weight_of slots cs k n t.chunks below is in
-    let more = weight_more slots cs k n t.chunks below is in
-    let few = weight_up_to slots cs (k + 1) in
-    record {
-      ids = ap (λ (m : Numbers). m.ids) (sym is);
-      home = home_of slots cs k n t.chunks below is;
-      len = sym heavy;
-      fits = omega (arith, heavy, more, few, t.fits);
-    }
+  pub has_bytes : (n : Numbers) → IsTable (record { chunks = cs; slots = slots }) → k < length cs → get_or cs k no_numbers ≡ n → HasBytes (record { chunks = cs; slots = slots }) k n.len
+  has_bytes n t below is =
+      let more = weight_more slots cs k n t.chunks below is in
+      let few = weight_up_to slots cs (k + 1) in
+      record {
+        is = ap (λ (m : Numbers). m.len) (sym is) ∙ len_at slots 0 cs k t.chunks below;
+        more = more;
+        fits = omega (arith, more, few, t.fits);
+      }
 
-pub chunk_fits : (slots : List (Option Kept)) (cs : List Numbers) (k : ℕ) (n : Numbers) → IsTable (record { chunks = cs; slots = slots }) → k < length cs → get_or cs k no_numbers ≡ n → weight slots (all_ids (take k cs)) + n.len ≤ MAX_TEXT
-chunk_fits slots cs k n t below is =
-    let more = weight_more slots cs k n t.chunks below is in
-    let few = weight_up_to slots cs (k + 1) in
-    omega (arith, more, few, t.fits)
+  pub fits_in : IsTable (record { chunks = cs; slots = slots }) → k < length cs → weight slots (ids_at cs k) ≤ MAX_TEXT
+  fits_in t below = let h = has_bytes _ t below refl in omega (arith, h.is, h.fits)
 
 -- numbers of which the first are old ones, with the last old ones behind them
 pub anew : (ids old : List StmtId) (place gone : ℕ) (all : List StmtId) → take place ids ≡ take place old → all ≡ ids ++ drop (place + gone) old → IsAnew old place gone all
@@ -56,7 +50,16 @@ module _ (slots : List (Option Kept)) where
   pub weight_parts : (ids : List StmtId) (i : ℕ) → weight slots ids ≡ weight slots (take i ids) + weight slots (drop i ids)
   weight_parts ids i = ap (weight slots) (sym (take-append-drop i ids)) ∙ weight_append slots (take i ids) (drop i ids)
 
-  pub weight_thirds : (ids : List StmtId) (i m n : ℕ) → m ≡ n → weight slots ids ≡ weight slots (take i ids) + (weight slots (take m (drop i ids)) + weight slots (drop (i + n) ids))
+  pub part_within : (ids : List StmtId) (i n : ℕ) → weight slots (take n (drop i ids)) ≤ weight slots ids
+  part_within ids i n = omega (arith, weight_parts ids i, weight_parts (drop i ids) n)
+
+  pub part_fits : (ids : List StmtId) (i n m : ℕ) → weight slots ids ≤ m → weight slots (take n (drop i ids)) ≤ m
+  part_fits ids i n m fits = omega (arith, part_within ids i n, fits)
+
+  pub front_fits : (ids : List StmtId) (i m : ℕ) → weight slots ids ≤ m → weight slots (take i ids) ≤ m
+  front_fits ids i m fits = omega (arith, weight_parts ids i, fits)
+
+  weight_thirds : (ids : List StmtId) (i m n : ℕ) → m ≡ n → weight slots ids ≡ weight slots (take i ids) + (weight slots (take m (drop i ids)) + weight slots (drop (i + n) ids))
   weight_thirds ids i m n e =
       let behind = weight_parts (drop i ids) m in
       let rest : weight slots (drop m (drop i ids)) ≡ weight slots (drop (i + n) ids) = ap (weight slots) (drop-drop m i ids ∙ ap (λ (j : ℕ). drop (i + j) ids) e) in
@@ -77,19 +80,16 @@ module _ (slots : List (Option Kept)) where
         let whole = ap (λ (l : List StmtId). length l) a.is in
         omega (arith, whole, front_long, length-append (take place old) (a.others ++ drop (place + gone) old), length-append a.others (drop (place + gone) old), length-drop (place + gone) old)
 
-    pub end_within : length old - (place + gone) ≤ length new
-    end_within = omega (arith, new_long)
-
-    pub place_within : place ≤ length new - (length old - (place + gone))
-    place_within = omega (arith, new_long)
-
-    pub others_are : take ((length new - (length old - (place + gone))) - place) (drop place new) ≡ a.others
+    others_are : take ((length new - (length old - (place + gone))) - place) (drop place new) ≡ a.others
     others_are =
         let many : (length new - (length old - (place + gone))) - place ≡ length a.others = omega (arith, new_long) in
         let behind : drop place new ≡ a.others ++ drop (place + gone) old = ap (drop place) a.is ∙ drop_at (take place old) (a.others ++ drop (place + gone) old) place front_long in
         rw (many, behind) (take-append_seam a.others (drop (place + gone) old))
 
-    pub weight_new : weight slots new ≡ weight slots (take place old) + (weight slots a.others + weight slots (drop (place + gone) old))
+    weight_new : weight slots new ≡ weight slots (take place old) + (weight slots a.others + weight slots (drop (place + gone) old))
     weight_new =
         let whole = ap (weight slots) a.is in
         omega (arith, whole, weight_append slots (take place old) (a.others ++ drop (place + gone) old), weight_append slots a.others (drop (place + gone) old))
+
+    pub weights_are : weight slots old + weight slots (take ((length new - (length old - (place + gone))) - place) (drop place new)) ≡ weight slots new + weight slots (take (place + gone - place) (drop place old))
+    weights_are = omega (arith, weight_thirds old place (place + gone - place) gone (omega arith), ap (weight slots) others_are, weight_new)

@@ -5,7 +5,7 @@ use Rattle.std.proofs.lemmas.List.{get_or-map}
 use Rattle.design_model.specs.declared.identifier.StmtId.{StmtId}
 use Rattle.text_pieces.specs.declared.chunks.Chunk.{Chunk}
 use Rattle.text_pieces.specs.declared.table.Piece.{Piece}
-use Rattle.text_pieces.specs.Chunks.{Numbers, no_numbers, ids_at, shown}
+use Rattle.text_pieces.specs.Chunks.{no_numbers, shown}
 use Rattle.text_pieces.specs.Tables.{Kept, kept, kept_at, kept_or, slot}
 use Rattle.text_pieces.proofs.Slots.{slot_map}
 
@@ -25,6 +25,3 @@ kept_is slots id p h = ap kept_or (slot_map kept slots id.0 ∙ ap (option_map k
 
 pub slot_is : {A : Type 0} (slots : List (Option (Piece A))) (id : StmtId) (o : Option (Piece A)) → get_or slots id.0 None ≡ o → slot (map (option_map kept) slots) id ≡ option_map kept o
 slot_is slots id o h = slot_map kept slots id.0 ∙ ap (option_map kept) h
-
-pub ids_there : {A : Type 0} (chunks : List (Chunk A)) (k : ℕ) (c : Chunk A) → k < length chunks → (get_or chunks k c).ids.items ≡ ids_at (map shown chunks) k
-ids_there chunks k c below = sym (ap (λ (n : Numbers). n.ids) (get_or-map shown chunks k c no_numbers below))

@@ -1,8 +1,7 @@
 -- What is kept under numbers.
-use Rattle.std.proofs.Common.{◌≡◌, ◌≢◌, ◌<◌, ◌≤◌, ◌+◌, ℕ, zero, suc, List, [], ◌∷◌, length, get_or, take, map, Option, Some, None, refl, sym, ap, ◌∙◌, subst, ⊎_elim, arith}
+use Rattle.std.proofs.Common.{◌≡◌, ◌≢◌, ◌<◌, ◌+◌, ℕ, zero, suc, List, [], ◌∷◌, length, get_or, take, map, Option, Some, None, refl, sym, ap, ◌∙◌, subst, ⊎_elim, arith}
 use Rattle.std.specs.Prelude.{option_map}
 use Rattle.std.proofs.lemmas.Bool.{cases_eq}
-use Rattle.std.proofs.lemmas.List.{get_or_past}
 use Rattle.design_model.specs.declared.identifier.StmtId.{StmtId}
 use Rattle.text_pieces.specs.Chunks.{Numbers, no_numbers, all_ids, ids_at, IsAbsent}
 use Rattle.text_pieces.specs.Tables.{Kept, slot, kept_at, weight, AreHome, AreChunks}
@@ -67,19 +66,13 @@ module _ (slots : List (Option Kept)) where
   home_take k [] (suc i) h = tt
   home_take k (x ∷ xs) (suc i) h = (h.0, h.1, home_take k xs i h.2)
 
-  pub home_of : (cs : List Numbers) (k : ℕ) (n : Numbers) → AreChunks slots 0 cs → k < length cs → get_or cs k no_numbers ≡ n → AreHome slots k n.ids
-  home_of cs k n h below is = let e : 0 + k ≡ k = omega arith in rw (← is) (rw e at (home_at 0 cs k h below))
+  pub absent_own : (cs : List Numbers) (id : StmtId) (p : Kept) → AreChunks slots 0 cs → slot slots id ≡ Some p → IsAbsent id (ids_at cs p.chunk) → IsAbsent id (all_ids cs)
+  absent_own cs id p h held none =
+      absent_elsewhere 0 cs id p h held (λ j e. let same : p.chunk ≡ j = omega (arith, e) in subst (λ (n : ℕ). IsAbsent id (ids_at cs n)) same none)
 
-  ids_past : (cs : List Numbers) (j : ℕ) → length cs ≤ j → ids_at cs j ≡ []
-  ids_past cs j past = ap (λ (n : Numbers). n.ids) (get_or_past cs j no_numbers past)
-
-  pub absent_past : (cs : List Numbers) (id : StmtId) (p : Kept) → AreChunks slots 0 cs → slot slots id ≡ Some p → length cs ≤ p.chunk → IsAbsent id (all_ids cs)
-  absent_past cs id p h held past = absent_elsewhere 0 cs id p h held (λ j e. rw (ids_past cs j (omega (arith, e, past))) tt)
-
-  pub absent_own : (cs : List Numbers) (id : StmtId) (p : Kept) (n : Numbers) → AreChunks slots 0 cs → slot slots id ≡ Some p → get_or cs p.chunk no_numbers ≡ n → IsAbsent id n.ids → IsAbsent id (all_ids cs)
-  absent_own cs id p n h held is none =
-      absent_elsewhere 0 cs id p h held
-      (λ j e.
-      let same : j ≡ p.chunk = omega (arith, e) in
-      let there : ids_at cs j ≡ n.ids = ap (λ (i : ℕ). ids_at cs i) same ∙ ap (λ (m : Numbers). m.ids) is in
-      subst (λ (l : List StmtId). IsAbsent id l) (sym there) none)
+-- a chunk that has a number is one
+pub some_in : (cs : List Numbers) (k i : ℕ) → i < length (ids_at cs k) → k < length cs
+some_in [] zero i h = absurd (omega (arith, h))
+some_in [] (suc k) i h = absurd (omega (arith, h))
+some_in (c ∷ cs) zero i h = omega arith
+some_in (c ∷ cs) (suc k) i h = omega (arith, some_in cs k i h)

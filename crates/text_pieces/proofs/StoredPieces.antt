@@ -144,9 +144,6 @@ free_before old mid id (Some k) stays free is = let there = stays id.0 k is in a
 pub stays_on : (old mid new : List (Option Kept)) → StaysKept old mid → StaysKept mid new → StaysKept old new
 stays_on old mid new h k n p e = k n p (h n p e)
 
-pub all_none : (slots : List (Option Kept)) (chunk : ℕ) (before : List StmtId) → StoresAll slots slots [] chunk before before
-all_none slots chunk before = record { ids = []; is = sym (append-nil before); free = tt; once = tt; home = tt; kept = refl }
-
 -- one more
 pub all_more : (old mid new : List (Option Kept)) (ks : List Kept) (chunk : ℕ) (before after later : List StmtId) (k : Kept) (id : StmtId) → StoresAll old mid ks chunk before after → StaysKept old mid → Stores mid new k id
     → k.chunk ≡ chunk → later ≡ after ++ id ∷ [] → StoresAll old new (ks ++ k ∷ []) chunk before later

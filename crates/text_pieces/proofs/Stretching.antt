@@ -32,7 +32,7 @@ use Rattle.text_pieces.specs.Stretches.{EndsText, IsChain, ReadsStretch, cut_tex
 use Rattle.text_pieces.specs.Tables.{Kept, ids_before, ids_of, kept_at, standing}
 use Rattle.text_pieces.specs.Touched.{AreTouched, BeginsAt}
 use Rattle.text_pieces.specs.declared.table.Place.{Place}
-use Rattle.text_pieces.proofs.Chains.{apart_behind, apart_front, chain_part, none_chained}
+use Rattle.text_pieces.proofs.Chains.{apart_behind, apart_front, chain_part}
 use Rattle.text_pieces.proofs.FaultsBehind.{fault_behind}
 use Rattle.text_pieces.proofs.FullPieces.{are_full, begin_from, chain_full, full_from, mode_first}
 use Rattle.text_pieces.proofs.Ids.{cut_at, ids_from as chunks_from}
@@ -140,13 +140,6 @@ few_ids c t =
     let bytes = bytes_of (standing c.table) in
     let full = chain_full Top After bytes t.recs t.chained in
     omega (arith, full, t.fits, length-append (concat bytes) c.tail, length-map (standing c.table) (λ k. k.bytes), length-map (ids_of c.table) (kept_at c.table.slots))
-
-pub some_chunks : (c : Content) → IsText c → 0 < length c.table.chunks
-some_chunks c t = some_of c.table.chunks c.table.slots (record { recs = t.recs; chained = t.chained; modes = t.modes })
-  where
-    some_of : (cs : List Numbers) (slots : List (Option Kept)) → IsChain Top (map (kept_at slots) (all_ids cs)) After → 0 < length cs
-    some_of [] slots h = let e = none_chained Top After h.recs h.chained in absurd (cc)
-    some_of (d ∷ ds) slots h = omega arith
 
 -- where a cut is made
 module _ (c : Content) (t : IsText c) (lo hi : ℕ) (put : List ℕ) (p : Place) (b : BeginsAt c.table lo p) (order : lo ≤ hi) (within : hi ≤ length (text_of c)) where

@@ -1,5 +1,5 @@
 -- A change that is taken back.
-use Rattle.std.proofs.Common.{◌≡◌, ℕ, List, [], ◌∷◌, length, sym, ap, ◌∙◌, subst, set}
+use Rattle.std.proofs.Common.{◌≡◌, ℕ, List, [], ◌∷◌, length, ap, ◌∙◌, subst, set}
 use Rattle.text_pieces.specs.Changes.{Prepared, changed, back, IsBetween}
 use Rattle.text_pieces.specs.Chunks.{Numbers, Replacement, exchanged, IsElsewhere, ArePlaces}
 use Rattle.text_pieces.specs.Content.{Content, IsText}
@@ -36,6 +36,3 @@ pub finish : (c : Content) (p : Prepared) (chunks : List Numbers) (changes : Lis
     → chunks ≡ (exchanged c.table.chunks p.changes).0 → changes ≡ (exchanged c.table.chunks p.changes).1
     → IsBetween (content_of chunks c p.tail p.len) (record { changes = changes; tail = c.tail; len = c.len; out = p.put; put = p.out; reads = p.reads }) other base
 finish c p chunks changes base other t b e f = rw (e, f) (turned c p base other t b)
-
-pub stays_text : (c : Content) (p : Prepared) (chunks : List Numbers) (base other : Content) → IsBetween c p base other → chunks ≡ (exchanged c.table.chunks p.changes).0 → IsText (content_of chunks c p.tail p.len)
-stays_text c p chunks base other b e = rw e (subst IsText (sym b.other_is) b.text)

@@ -2,7 +2,7 @@
 use Rattle.std.proofs.Common.{◌≡◌, ◌<◌, ◌≤◌, ◌+◌, ℕ, true, false, List, [], ◌∷◌, ◌++◌, length, get_or, take, drop, Option, Some, None, refl, sym, ap, ◌∙◌, ⊎_elim, arith}
 use Rattle.std.specs.Prelude.{nat_lt}
 use Rattle.std.proofs.lemmas.Bool.{cases_lt}
-use Rattle.std.proofs.lemmas.List.{at_drop_more, take-append-drop}
+use Rattle.std.proofs.lemmas.List.{take-append-drop}
 use Rattle.design_model.specs.declared.identifier.StmtId.{StmtId}
 use Rattle.text_pieces.specs.Chunks.{Numbers, no_numbers, all_ids, ids_at, IsAbsent}
 use Rattle.text_pieces.specs.Tables.{Kept, kept_at, weight, start_in, piece_at, AreChunks}
@@ -19,10 +19,6 @@ module _ (slots : List (Option Kept)) where
   pub weight_append : (xs ys : List StmtId) → weight slots (xs ++ ys) ≡ weight slots xs + weight slots ys
   weight_append [] ys = omega arith
   weight_append (x ∷ xs) ys = omega (arith, weight_append xs ys)
-
-  -- the piece at a place of some numbers, and those behind it
-  pub weight_from : (ids : List StmtId) (i : ℕ) (d : StmtId) → i < length ids → weight slots (drop i ids) ≡ length (kept_at slots (get_or ids i d)).bytes + weight slots (drop (i + 1) ids)
-  weight_from ids i d below = at_drop_more (weight slots) ids i d below
 
   -- some of the numbers of chunks have no more bytes than all
   pub weight_up_to : (cs : List Numbers) (k : ℕ) → weight slots (all_ids (take k cs)) ≤ weight slots (all_ids cs)
@@ -59,15 +55,6 @@ module _ (slots : List (Option Kept)) where
       (λ past. rw (above_is pos (start + n) past) (reached (start + n) pos xs ys (omega (arith, h)) past))
       (cases_lt pos (start + n))
 
-  -- the piece at a place of some numbers has the position, or not
-  pub found_here : (start pos : ℕ) (ids : List StmtId) (i : ℕ) (d : StmtId) → i < length ids → pos < start + length (kept_at slots (get_or ids i d)).bytes
-      → piece_at slots start pos (drop i ids) ≡ Some (get_or ids i d, start)
-  found_here start pos ids i d below here = at_drop_more (piece_at slots start pos) ids i d below ∙ rw (below_is pos (start + length (kept_at slots (get_or ids i d)).bytes) here) refl
-
-  pub not_here : (start pos : ℕ) (ids : List StmtId) (i : ℕ) (d : StmtId) → i < length ids → start + length (kept_at slots (get_or ids i d)).bytes ≤ pos
-      → piece_at slots start pos (drop i ids) ≡ piece_at slots (start + length (kept_at slots (get_or ids i d)).bytes) pos (drop (i + 1) ids)
-  not_here start pos ids i d below past = at_drop_more (piece_at slots start pos) ids i d below ∙ rw (above_is pos (start + length (kept_at slots (get_or ids i d)).bytes) past) refl
-
   -- a chunk more
   pub weight_more : (cs : List Numbers) (k : ℕ) (n : Numbers) → AreChunks slots 0 cs → k < length cs → get_or cs k no_numbers ≡ n
       → weight slots (all_ids (take (k + 1) cs)) ≡ weight slots (all_ids (take k cs)) + n.len
@@ -76,22 +63,16 @@ module _ (slots : List (Option Kept)) where
       ∙ ap (λ (m : ℕ). weight slots (all_ids (take k cs)) + m) (sym (len_at slots 0 cs k h below) ∙ ap (λ (m : Numbers). m.len) is)
 
   -- the piece that has a position is in the chunk at a place, or in those behind it
-  pub chunk_passed : (cs : List Numbers) (k start pos : ℕ) (n : Numbers) → AreChunks slots 0 cs → k < length cs → get_or cs k no_numbers ≡ n → start + n.len ≤ pos
-      → piece_at slots start pos (all_ids (drop k cs)) ≡ piece_at slots (start + n.len) pos (all_ids (drop (k + 1) cs))
-  chunk_passed cs k start pos n h below is past =
-      let e : n.len ≡ weight slots (ids_at cs k) = ap (λ (m : Numbers). m.len) (sym is) ∙ len_at slots 0 cs k h below in
-      ap (piece_at slots start pos) (ids_from cs k below) ∙ passed start pos (ids_at cs k) (all_ids (drop (k + 1) cs)) (omega (arith, e, past))
-      ∙ ap (λ (m : ℕ). piece_at slots (start + m) pos (all_ids (drop (k + 1) cs))) (sym e)
+  pub chunk_passed : (cs : List Numbers) (k start pos n : ℕ) → k < length cs → n ≡ weight slots (ids_at cs k) → start + n ≤ pos
+      → piece_at slots start pos (all_ids (drop k cs)) ≡ piece_at slots (start + n) pos (all_ids (drop (k + 1) cs))
+  chunk_passed cs k start pos n below is past =
+      ap (piece_at slots start pos) (ids_from cs k below) ∙ passed start pos (ids_at cs k) (all_ids (drop (k + 1) cs)) (omega (arith, is, past))
+      ∙ ap (λ (m : ℕ). piece_at slots (start + m) pos (all_ids (drop (k + 1) cs))) (sym is)
 
-  pub chunk_reached : (cs : List Numbers) (k start pos : ℕ) (n : Numbers) → AreChunks slots 0 cs → k < length cs → get_or cs k no_numbers ≡ n → pos < start + n.len → start ≤ pos
-      → piece_at slots start pos (all_ids (drop k cs)) ≡ piece_at slots start pos n.ids
-  chunk_reached cs k start pos n h below is before low =
-      let e : n.len ≡ weight slots (ids_at cs k) = ap (λ (m : Numbers). m.len) (sym is) ∙ len_at slots 0 cs k h below in
-      ap (piece_at slots start pos) (ids_from cs k below) ∙ reached start pos (ids_at cs k) (all_ids (drop (k + 1) cs)) (omega (arith, e, before)) low
-      ∙ ap (λ (m : Numbers). piece_at slots start pos m.ids) is
-
-  pub weight_of : (cs : List Numbers) (k : ℕ) (n : Numbers) → AreChunks slots 0 cs → k < length cs → get_or cs k no_numbers ≡ n → weight slots n.ids ≡ n.len
-  weight_of cs k n h below is = ap (λ (m : Numbers). weight slots m.ids) (sym is) ∙ sym (len_at slots 0 cs k h below) ∙ ap (λ (m : Numbers). m.len) is
+  pub chunk_reached : (cs : List Numbers) (k start pos n : ℕ) → k < length cs → n ≡ weight slots (ids_at cs k) → pos < start + n → start ≤ pos
+      → piece_at slots start pos (all_ids (drop k cs)) ≡ piece_at slots start pos (ids_at cs k)
+  chunk_reached cs k start pos n below is before low =
+      ap (piece_at slots start pos) (ids_from cs k below) ∙ reached start pos (ids_at cs k) (all_ids (drop (k + 1) cs)) (omega (arith, is, before)) low
 
   pub head_has : (start pos : ℕ) (x : StmtId) (xs : List StmtId) → pos < start + length (kept_at slots x).bytes → piece_at slots start pos (x ∷ xs) ≡ Some (x, start)
   head_has start pos x xs here = rw (below_is pos (start + length (kept_at slots x).bytes) here) refl

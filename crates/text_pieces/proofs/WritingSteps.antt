@@ -1,5 +1,5 @@
 -- Parts that are written one after the other.
-use Rattle.std.proofs.Common.{ℕ, List, [], ◌++◌, Option, Some, None, Result, Ok, Err, OnErr, inl, inr, refl, sym, ap, ◌∙◌, ⊎_elim, append_assoc, append-nil, arith}
+use Rattle.std.proofs.Common.{ℕ, List, [], ◌++◌, Option, Some, None, Result, Ok, Err, OnErr, inl, inr, sym, ap, ◌∙◌, ⊎_elim, append_assoc, append-nil, arith}
 use Rattle.std.specs.Io.KnownBytes.{Appends}
 use Rattle.counted_devices.specs.Counting.{HasFailed, one_more}
 use Rattle.counted_devices.specs.Known.{WritesPart}
@@ -14,9 +14,6 @@ appends_on None b c xs ys h k = tt
 appends_on (Some u) None c xs ys h k = absurd h
 appends_on (Some u) (Some v) None xs ys h k = absurd k
 appends_on (Some u) (Some v) (Some w) xs ys h k = k ∙ ap (λ (t : List ℕ). t ++ ys) h ∙ append_assoc u xs ys
-
-pub wrote_none : (a : Writer) → WritesAll a a []
-wrote_none a = record { all = appends_none a.contents; hard = refl; rises = omega arith; spent = refl }
 
 pub wrote_on : (a b c : Writer) (xs ys : List ℕ) → WritesAll a b xs → WritesAll b c ys → WritesAll a c (xs ++ ys)
 wrote_on a b c xs ys h k = record {

@@ -14,6 +14,7 @@ pub mod Preparing
 pub mod Statements
 pub mod Storing
 pub mod Stretches
+pub mod TableChunks
 pub mod Tables
 pub mod Told
 pub mod Touched

@@ -1,7 +1,7 @@
 //! Chunks of statement numbers.
 
-ghost use Rattle.std.specs.Prelude.{◌≡◌, ◌≤◌, drop, length, map, take};
-ghost use Rattle.text_pieces.specs.Chunks.{ArePlaces, PlaceIn, all_ids, exchanged, first_id, last_id, shown, shown_change};
+ghost use Rattle.std.specs.Prelude.{◌≡◌, length, map};
+ghost use Rattle.text_pieces.specs.Chunks.{ArePlaces, PlaceIn, exchanged, shown, shown_change};
 
 use design_model::identifier::StmtId;
 use std::alloc::{Allocator, Global};
@@ -39,36 +39,6 @@ pub(crate) fn place_in(ids: &[StmtId], id: StmtId) -> Option<usize>
     for i in 0..ids.len() {
         if ids[i].0 == id.0 {
             return Some(i);
-        }
-    }
-    None
-}
-
-/// The first number of the chunks from one on.
-pub(crate) fn first_from<A: Allocator>(chunks: &[Chunk<A>], from: usize) -> Option<StmtId>
-    requires { from ≤ length chunks.now }
-    ensures { result ≡ first_id (all_ids (drop from (map shown chunks.now))) }
-{
-    for k in from..chunks.len() {
-        let ids = chunks[k].ids.as_slice();
-        if ids.len() > 0 {
-            return Some(ids[0]);
-        }
-    }
-    None
-}
-
-/// The last number of the chunks before one.
-pub(crate) fn last_before<A: Allocator>(chunks: &[Chunk<A>], end: usize) -> Option<StmtId>
-    requires { end ≤ length chunks.now }
-    ensures { result ≡ last_id (all_ids (take end (map shown chunks.now))) }
-{
-    let mut k = end;
-    while k > 0 {
-        k -= 1;
-        let ids = chunks[k].ids.as_slice();
-        if ids.len() > 0 {
-            return Some(ids[ids.len() - 1]);
         }
     }
     None

@@ -60,7 +60,7 @@ impl<A: Allocator + Copy> TextPieces<A> {
     pub fn chunks(&self) -> usize
         ensures { result ≡ length self.now.table.chunks }
     {
-        self.table.chunks.len()
+        self.table.chunk_count()
     }
 
     /// The numbers in a chunk, in the order of the text; none where there is no such chunk.
@@ -69,10 +69,7 @@ impl<A: Allocator + Copy> TextPieces<A> {
         ensures pieces { HavePieces self.now.table.slots result.now }
     {
         self.statements_are_kept();
-        match self.table.chunks.get(place) {
-            Some(chunk) => &chunk.ids,
-            None => &[],
-        }
+        self.table.ids_in(place)
     }
 
     /// A law: the statements are kept under their numbers, and the text reads as they say.

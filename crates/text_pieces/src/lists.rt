@@ -36,8 +36,8 @@ pub(crate) fn new_lists<A: Allocator + Copy>(
     let mut place = place;
     let mut left = out;
     let mut changes = Vec::new(alloc);
-    for k in chunk..table.chunks.len() {
-        let old = table.chunks[k].ids.as_slice();
+    for k in chunk..table.chunk_count() {
+        let old = table.ids_in(k);
         let gone = left.min(old.len() - place);
         ids.extend_from_slice(&old[place + gone..])?;
         let len = table.weight_anew(k, &ids, place, gone);
@@ -72,7 +72,7 @@ pub(crate) fn place_new<A: Allocator + Copy>(
     ensures stays { StaysKept (table_of table.old).slots (table_of table.new).slots }
 {
     let number = small(chunk)?;
-    let mut head = Vec::from_slice(alloc, &table.chunks[chunk].ids[..index])?;
+    let mut head = Vec::from_slice(alloc, &table.ids_in(chunk)[..index])?;
     store_all(&mut table.pieces, &mut head, new, number)?;
     let ids = Vec::from_slice(alloc, &head[index..])?;
     let changes = new_lists(alloc, table, chunk, index, out, head)?;

@@ -3,13 +3,14 @@
 ghost use Rattle.std.specs.Prelude.{◌≡◌, ◌<◌, ◌≤◌, ◌+◌, IfOk, MatchOption, drop, length, map, slice_get, take};
 ghost use Rattle.design_model.specs.declared.TheConstants.{MAX_TEXT};
 ghost use Rattle.text_pieces.specs.Behind.{ids_from};
-ghost use Rattle.text_pieces.specs.Chunks.{IsAbsent, all_ids, first_id, id_after, id_before, ids_at};
+ghost use Rattle.text_pieces.specs.Chunks.{IsAbsent, all_ids, first_id, id_after, id_before, ids_at, last_id};
 ghost use Rattle.text_pieces.specs.Lists.{IsAnew};
+ghost use Rattle.text_pieces.specs.TableChunks.{HasBytes};
 ghost use Rattle.text_pieces.specs.Tables.{AreHome, IsTable, Stands, StandsAt, ids_of, kept, kept_at, piece_at, start_in, table_of, weight};
 ghost use Rattle.text_pieces.specs.Touched.{BeginsAt};
 
 use crate::bytes::PieceBytes;
-use crate::chunks::{Chunk, first_from, last_before, place_in};
+use crate::chunks::{Chunk, place_in};
 use design_model::identifier::StmtId;
 use design_model::mode::Mode;
 use slab::Slab;
@@ -32,20 +33,55 @@ pub(crate) struct Place {
 }
 
 /// Pieces under the numbers of their statements. Those whose number is in no chunk don't stand in the text.
-#[derive(Drop)]
 pub(crate) struct PieceTable<A: Allocator = Global> {
     pub(crate) pieces: Slab<Piece<A>, A>,
     pub(crate) chunks: Vec<Chunk<A>, A>,
 }
 
+// (written out, so that who owns this is proved over one call)
+impl<A: Allocator> Drop for PieceTable<A> {
+    fn drop(self) {
+        let PieceTable {
+            pieces: _,
+            chunks: _,
+        } = self;
+    }
+}
+
 impl<A: Allocator> PieceTable<A> {
+    /// How many chunks there are.
+    pub(crate) fn chunk_count(&self) -> usize
+        ensures { result ≡ length (table_of self.now).chunks }
+    {
+        self.chunks.len()
+    }
+
+    /// The numbers in a chunk; none where there is no such chunk.
+    pub(crate) fn ids_in(&self, chunk: usize) -> &[StmtId]
+        ensures { result.now ≡ ids_at (table_of self.now).chunks chunk }
+    {
+        match self.chunks.get(chunk) {
+            Some(chunk) => &chunk.ids,
+            None => &[],
+        }
+    }
+
+    /// How many bytes the pieces of a chunk have.
+    fn bytes_in(&self, chunk: usize) -> usize
+        requires table { IsTable (table_of self.now) }
+        requires within { chunk < length (table_of self.now).chunks }
+        ensures { HasBytes (table_of self.now) chunk result }
+    {
+        self.chunks[chunk].len
+    }
+
     /// The chunk in which a statement stands, and its place in it.
     fn place(&self, id: StmtId) -> Option<(usize, usize)>
         requires { IsTable (table_of self.now) }
         ensures { MatchOption result (IsAbsent id (ids_of (table_of self.now))) (λ x. StandsAt (table_of self.now) id x.0 x.1) }
     {
         let chunk = self.pieces.get(id.0)?.chunk as usize;
-        let place = place_in(&self.chunks.get(chunk)?.ids, id)?;
+        let place = place_in(self.ids_in(chunk), id)?;
         Some((chunk, place))
     }
 
@@ -79,7 +115,7 @@ impl<A: Allocator> PieceTable<A> {
     {
         let mut sum = 0;
         for k in 0..end {
-            sum += self.chunks[k].len;
+            sum += self.bytes_in(k);
         }
         sum
     }
@@ -91,10 +127,9 @@ impl<A: Allocator> PieceTable<A> {
         requires inside { place ≤ length (ids_at (table_of self.now).chunks chunk) }
         ensures { result ≡ weight (table_of self.now).slots (take place (ids_at (table_of self.now).chunks chunk)) }
     {
-        let all = &self.chunks[chunk];
-        let ids = all.ids.as_slice();
+        let ids = self.ids_in(chunk);
         if place > ids.len() / 2 {
-            return all.len - self.weight(&ids[place..], chunk);
+            return self.bytes_in(chunk) - self.weight(&ids[place..], chunk);
         }
         self.weight(&ids[..place], chunk)
     }
@@ -116,12 +151,11 @@ impl<A: Allocator> PieceTable<A> {
         requires is { IsAnew (ids_at (table_of self.now).chunks chunk) place gone ids.now }
         ensures { result ≡ weight (table_of self.now).slots ids.now }
     {
-        let all = &self.chunks[chunk];
-        let old = all.ids.as_slice();
+        let old = self.ids_in(chunk);
         let end = ids.len() - (old.len() - (place + gone));
         let less = self.weight(&old[place..place + gone], chunk);
         let more = self.weight(&ids[place..end], chunk);
-        all.len - less + more
+        self.bytes_in(chunk) - less + more
     }
 
     /// Where the piece of a statement begins.
@@ -163,11 +197,10 @@ impl<A: Allocator> PieceTable<A> {
         ensures { result ≡ piece_at (table_of self.now).slots 0 pos (ids_of (table_of self.now)) }
     {
         let mut start = 0;
-        for k in 0..self.chunks.len() {
-            let chunk = &self.chunks[k];
-            let end = start + chunk.len;
+        for k in 0..self.chunk_count() {
+            let end = start + self.bytes_in(k);
             if pos < end {
-                return self.at_in(&chunk.ids, k, start, pos);
+                return self.at_in(self.ids_in(k), k, start, pos);
             }
             start = end;
         }
@@ -181,8 +214,8 @@ impl<A: Allocator> PieceTable<A> {
     {
         let mut place = place;
         let mut left = count;
-        for k in chunk..self.chunks.len() {
-            let ids = self.chunks[k].ids.as_slice();
+        for k in chunk..self.chunk_count() {
+            let ids = self.ids_in(k);
             if left < ids.len() - place {
                 return Some(ids[place + left]);
             }
@@ -220,9 +253,9 @@ impl<A: Allocator> PieceTable<A> {
         requires few { length (ids_of (table_of self.now)) ≤ MAX_TEXT }
         ensures { result ≡ length (ids_from (table_of self.now).chunks chunk place) }
     {
-        let mut count = self.chunks[chunk].ids.len() - place;
-        for k in chunk + 1..self.chunks.len() {
-            count += self.chunks[k].ids.len();
+        let mut count = self.ids_in(chunk).len() - place;
+        for k in chunk + 1..self.chunk_count() {
+            count += self.ids_in(k).len();
         }
         count
     }
@@ -284,11 +317,10 @@ impl<A: Allocator> PieceTable<A> {
         ensures low { 0 < result.0 → result.1 < pos }
         ensures high { result.0 < length (ids_at (table_of self.now).chunks chunk) → pos ≤ result.1 + weight (table_of self.now).slots (take 1 (drop result.0 (ids_at (table_of self.now).chunks chunk))) }
     {
-        let all = &self.chunks[chunk];
-        let ids = all.ids.as_slice();
-        let end = from + all.len;
-        if pos > from + all.len / 2 {
-            return self.first_from_end(ids, chunk, from, end, pos);
+        let ids = self.ids_in(chunk);
+        let len = self.bytes_in(chunk);
+        if pos > from + len / 2 {
+            return self.first_from_end(ids, chunk, from, from + len, pos);
         }
         self.first_in(ids, chunk, from, pos)
     }
@@ -302,10 +334,10 @@ impl<A: Allocator> PieceTable<A> {
         ensures low { 0 < result.0 → result.1 < pos }
         ensures high { result.0 + 1 < length (table_of self.now).chunks → pos ≤ weight (table_of self.now).slots (all_ids (take (result.0 + 1) (table_of self.now).chunks)) }
     {
-        let last = self.chunks.len() - 1;
+        let last = self.chunk_count() - 1;
         let mut start = 0;
         for k in 0..last {
-            let end = start + self.chunks[k].len;
+            let end = start + self.bytes_in(k);
             if pos <= end {
                 return (k, start);
             }
@@ -329,11 +361,41 @@ impl<A: Allocator> PieceTable<A> {
         }
     }
 
+    /// The first number of the chunks from one on.
+    fn first_from(&self, from: usize) -> Option<StmtId>
+        requires { from ≤ length (table_of self.now).chunks }
+        ensures { result ≡ first_id (all_ids (drop from (table_of self.now).chunks)) }
+    {
+        for k in from..self.chunk_count() {
+            let ids = self.ids_in(k);
+            if ids.len() > 0 {
+                return Some(ids[0]);
+            }
+        }
+        None
+    }
+
+    /// The last number of the chunks before one.
+    fn last_before(&self, end: usize) -> Option<StmtId>
+        requires { end ≤ length (table_of self.now).chunks }
+        ensures { result ≡ last_id (all_ids (take end (table_of self.now).chunks)) }
+    {
+        let mut k = end;
+        while k > 0 {
+            k -= 1;
+            let ids = self.ids_in(k);
+            if ids.len() > 0 {
+                return Some(ids[ids.len() - 1]);
+            }
+        }
+        None
+    }
+
     /// The first statement.
     pub(crate) fn first(&self) -> Option<StmtId>
         ensures { result ≡ first_id (ids_of (table_of self.now)) }
     {
-        first_from(&self.chunks, 0)
+        self.first_from(0)
     }
 
     /// The statement after one.
@@ -342,11 +404,11 @@ impl<A: Allocator> PieceTable<A> {
         ensures { result ≡ id_after id (ids_of (table_of self.now)) }
     {
         let (chunk, place) = self.place(id)?;
-        let ids = &self.chunks[chunk].ids;
+        let ids = self.ids_in(chunk);
         if place + 1 < ids.len() {
             return Some(ids[place + 1]);
         }
-        first_from(&self.chunks, chunk + 1)
+        self.first_from(chunk + 1)
     }
 
     /// The statement before one.
@@ -356,9 +418,9 @@ impl<A: Allocator> PieceTable<A> {
     {
         let (chunk, place) = self.place(id)?;
         if place > 0 {
-            return Some(self.chunks[chunk].ids[place - 1]);
+            return Some(self.ids_in(chunk)[place - 1]);
         }
-        last_before(&self.chunks, chunk)
+        self.last_before(chunk)
     }
 }
 

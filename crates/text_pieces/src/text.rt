@@ -87,20 +87,20 @@ fn read_all<A: Allocator + Copy, T: Told>(
     tails_may_end();
     texts_are_read();
     let text = block.as_slice();
-    let mut pieces = room_for(alloc, text);
-    let mut chunks = Vec::new(alloc);
+    let pieces = room_for(alloc, text);
+    let chunks = Vec::new(alloc);
+    let mut table = PieceTable { pieces, chunks };
     let mut mode = Mode::Top;
     let mut pos = 0;
     'chunks: loop {
-        let number = small(chunks.len())?;
-        match read_chunk(alloc, block, pos, mode, number, &mut pieces, told) {
+        let number = small(table.chunk_count())?;
+        match read_chunk(alloc, block, pos, mode, number, &mut table.pieces, told) {
             Ok(part) => {
                 mode = part.mode;
                 pos = part.pos;
-                chunks.push(part.chunk)?;
+                table.chunks.push(part.chunk)?;
                 if part.is_last {
                     let tail = Vec::from_slice(alloc, &text[pos..])?;
-                    let table = PieceTable { pieces, chunks };
                     let len = text.len();
                     return Ok(TextPieces { table, tail, len });
                 }

@@ -48,8 +48,8 @@ pub(crate) fn write_pieces<A: Allocator, W: CountedWrite>(
         (concat (bytes_of (standing (table_of table.now))))
         result }
 {
-    for k in 0..table.chunks.len() {
-        write_ids(table, &table.chunks[k].ids, k, out, patience)?;
+    for k in 0..table.chunk_count() {
+        write_ids(table, table.ids_in(k), k, out, patience)?;
     }
     Ok(())
 }

@@ -1,8 +1,8 @@
 use Rattle.std.proofs.Common.{◌≡◌, ◌∷◌, [], None, Some, ap, sym, ◌∙◌, rules, refl, codes}
 use Rattle.statement_model.specs.Cuts.{end_of_all}
 use Rattle.statement_model.specs.Reading.{pos_of}
+use Rattle.edit_rules.specs.ComponentEdits.{unplace_plan}
 use Rattle.edit_rules.specs.Plans.{cuts_for, put_apart}
-use Rattle.std.proofs.lemmas.Result.{err_from_is_err_and}
 use Rattle.std.specs.Option.{option_map}
 use Rattle.def_grammar.specs.Placing.{placing}
 use Rattle.lefdef_tokens.specs.Views.{pieces_of}
@@ -31,17 +31,6 @@ returns-then-not-is_placed-clause-gives g c =
     let isnt = sym c.is_placed.ensures ∙ c.if-not-is_placed.true in
     (never_held text ps what (Some old) found free, ap (cuts_for text) (unplaces_unplaced text ps what old found isnt))
 
-pub returns-in_err-splice-clause-gives : goal.returns-in_err-splice-clause-gives
-returns-in_err-splice-clause-gives g c =
-    let text = c.args.entry.text.now in
-    let ps = pieces_of c.args.entry in
-    let what = component_view c.args.component in
-    let old = clause_view c.in-Some.clause in
-    let found : placing what.clauses ≡ Some old = sym c.placing_tokens.ensures.clause ∙ ap (option_map (λ x. clause_view x.0)) c.in-Some.is in
-    let free = sym c.is_held.ensures ∙ c.if-is_held.false in
-    let p = err_from_is_err_and c.from_residual.result c.from_residual.ensures.1 in
-    rw (p.1, p.2) (never_held text ps what (Some old) found free)
-
 pub returns-clause-gives : goal.returns-clause-gives
 returns-clause-gives g c =
     let text = c.args.entry.text.now in
@@ -53,5 +42,5 @@ returns-clause-gives g c =
     let is = sym c.is_placed.ensures ∙ c.if-not-is_placed.false in
     let run : IsPlacing what c.args.entry c.in-Some.tokens = search rules in
     let own = pieces_of c.in-Some.tokens in
-    let cut = c.in_ok-splice.ensures.cut ∙ ap (λ t. put_apart t (pos_of own) (end_of_all own) (codes "UNPLACED")) c.in-Some.ensures.text in
-    (never_held text ps what (Some old) found free, sym (ap (λ x. x ∷ []) cut ∙ unplaces_placed text ps what old c.args.entry c.in-Some.tokens found is refl run))
+    let placed = ap (λ t. put_apart t (pos_of own) (end_of_all own) (codes "UNPLACED") ∷ []) c.in-Some.ensures.text ∙ unplaces_placed text ps what old c.args.entry c.in-Some.tokens found is refl run in
+    c.made_one.ensures.gives text (unplace_plan ps what) _ (never_held text ps what (Some old) found free) (sym placed) c.over_tokens.ensures.cut

@@ -2,12 +2,11 @@ use Rattle.std.proofs.Common.{◌≡◌, false, ◌∷◌, [], length, ap, sym, 
 use Rattle.std.proofs.lemmas.Result.{err_from_is_err_and}
 use Rattle.std.specs.Option.{option_map}
 use Rattle.def_grammar.specs.Placing.{placing, is_held}
-use Rattle.edit_rules.specs.ComponentEdits.{is_out, place_change, placed_text}
-use Rattle.edit_rules.specs.Plans.{cut_of}
+use Rattle.edit_rules.specs.ComponentEdits.{is_out, place_plan, placed_text}
 use Rattle.lefdef_tokens.specs.Views.{pieces_of}
 use Rattle.place_parts.specs.ClauseViews.{clause_view}
 use Rattle.place_parts.specs.ComponentViews.{component_view}
-use Rattle.def_splice.specs.SpliceViews.{clause_cut, cut_view}
+use Rattle.def_splice.specs.SpliceViews.{clause_cut}
 use Rattle.def_splice.proofs.PlaceLemmas.{all_but_last, cut_of_clause, free_to_place}
 use Rattle.def_splice.proofs.place.entry_placed.Goals as goal
 
@@ -26,17 +25,6 @@ returns-in_err-put-clause-gives g c =
     let p = err_from_is_err_and c.from_residual-in_err-put.result c.from_residual-in_err-put.ensures.1 in
     rw (p.1, p.2) free
 
-pub returns-in_err-splice-clause-gives : goal.returns-in_err-splice-clause-gives
-returns-in_err-splice-clause-gives g c =
-    let what = component_view c.args.component in
-    let ps = pieces_of c.args.entry in
-    let held : is_held (placing what.clauses) ≡ false = rw c.placing_tokens.ensures.clause at c.in_ok-clause.ensures.0 in
-    let low : is_out c.args.x ≡ false = search rules in
-    let high : is_out c.args.y ≡ false = search rules in
-    let free = free_to_place c.args.x c.args.y c.args.orient ps what held low high in
-    let p = err_from_is_err_and c.from_residual-in_err-splice.result c.from_residual-in_err-splice.ensures.1 in
-    rw (p.1, p.2) free
-
 pub returns-clause-gives : goal.returns-clause-gives
 returns-clause-gives g c =
     let text = c.args.entry.text.now in
@@ -49,6 +37,5 @@ returns-clause-gives g c =
     let put : c.deref.result.now ≡ placed_text c.args.x c.args.y c.args.orient = search rules in
     let same : clause_cut text ps (option_map pieces_of c.in_ok-clause.clause) c.deref.result.now ≡ clause_cut text ps (option_map pieces_of (option_map (λ p. p.1) c.placing_tokens.result)) (placed_text c.args.x c.args.y c.args.orient)
     = rw (c.in_ok-clause.ensures.1, put) refl in
-    let cut : cut_view c.in_ok-splice.splice ≡ cut_of text ps (place_change c.args.x c.args.y c.args.orient what)
-    = c.in_ok-splice.ensures.gives ∙ same ∙ cut_of_clause text c.args.entry what c.args.x c.args.y c.args.orient clause_view c.placing_tokens.result c.placing_tokens.ensures.clause c.placing_tokens.ensures.gives c.requires.spelled in
-    (free, ap (λ x. x ∷ []) (sym cut))
+    let cut = same ∙ cut_of_clause text c.args.entry what c.args.x c.args.y c.args.orient clause_view c.placing_tokens.result c.placing_tokens.ensures.clause c.placing_tokens.ensures.gives c.requires.spelled in
+    c.made_one.ensures.gives text (place_plan c.args.x c.args.y c.args.orient ps what) _ free (ap (λ x. x ∷ []) (sym cut)) c.clause_splice.ensures.gives

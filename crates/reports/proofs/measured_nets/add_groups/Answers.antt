@@ -1,14 +1,12 @@
-use Rattle.std.proofs.Common.{rules, map, flat_map, refl, ap, ◌∙◌}
+use Rattle.std.proofs.Common.{rules, refl, ◌∙◌}
 use Rattle.design_rules.specs.Boxes.{scale}
-use Rattle.connection_rules.specs.NetLines.{shapes_of_net}
 use Rattle.connection_rules.specs.NetParts.{Net}
 use Rattle.measure_rules.specs.GridCells.{columns, rows}
 use Rattle.name_groups.specs.Groups.{Group}
-use Rattle.net_lists.proofs.ShapeLemmas.{bare}
 use Rattle.net_entries.specs.NetEntries.{wired_group}
 use Rattle.net_entries.specs.declared.lent_entry.LentEntry.{LentEntry}
 use Rattle.design_nets.specs.NetGroups.{length_of_group, net_of_group}
-use Rattle.reports.proofs.MeasuredSteps.{all_measured, has_place, map_twice, next_measured, same_shapes}
+use Rattle.reports.proofs.MeasuredSteps.{all_measured, has_place, map_twice, next_measured}
 use Rattle.reports.proofs.measured_nets.add_groups.Goals as goal
 
 pub loop-place-preserved : goal.loop-place-preserved
@@ -17,13 +15,11 @@ loop-place-preserved g c =
     let design = c.args.names.now in
     let u = scale design in
     let group : Group LentEntry = record { name = c.at.result.0.now; members = c.at.result.1.now } in
-    let net = rw (c.requires.same, c.clear.ensures) at c.in_ok-length.ensures.net in
     let one : Group LentEntry → Net = λ x. net_of_group library design u (wired_group library design u x) in
-    let seen = c.shapes.ensures ∙ ap (λ ns. map bare (flat_map shapes_of_net ns)) net ∙ same_shapes _ (one group) refl in
+    let seen = c.shapes.ensures ∙ rw (c.requires.same) at c.in_ok-length.ensures.shapes in
     let length = rw (c.requires.same) at c.in_ok-length.ensures.length in
     record {
-      pin_walk = c.in_ok-length.ensures.pin_walk;
-      part_walk = c.in_ok-length.ensures.part_walk;
+      ready = c.in_ok-length.ensures.ready;
       so_far =
           next_measured (columns design) (rows design) one (λ x. length_of_group (wired_group library design u x)) c.args.groups.now
           c.loop-place.place group c.at.ensures refl c.shapes.result.now seen

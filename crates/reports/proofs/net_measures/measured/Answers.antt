@@ -1,4 +1,4 @@
-use Rattle.std.proofs.Common.{map, refl, ap, ◌∙◌}
+use Rattle.std.proofs.Common.{map, ap, ◌∙◌}
 use Rattle.std.specs.Option.{option_map}
 use Rattle.design_model.specs.Views.{rectangle_of}
 use Rattle.design_rules.specs.Boxes.{scale}
@@ -19,9 +19,7 @@ returns g c =
     let u = scale design in
     let group : Group LentEntry = record { name = c.args.name.now; members = c.args.entries.now } in
     let wired = wired_group library design u group in
-    let net = rw (c.requires.same, c.new-net.ensures) at c.in_ok-length.ensures.net in
     let length = rw (c.requires.same) at c.in_ok-length.ensures.length in
-    let shapes = c.in_ok-shapes.shapes.items in
-    let seen = ap (map shape_view) c.in_ok-shapes.ensures.items ∙ c.shapes.ensures in
+    let seen = ap (map shape_view) c.in_ok-shapes.ensures.items ∙ c.shapes.ensures ∙ rw (c.requires.same) at c.in_ok-length.ensures.shapes in
     let round = c.box_round-bounds.ensures ∙ ap (λ ss. box_round (map shape_box ss)) c.deref.ensures.value in
-    are_measures _ (net_of_group library design u wired) refl _ net shapes seen (length_of_group wired) c.in_ok-length.length (option_map rectangle_of c.box_round-bounds.result) length round
+    are_measures (net_of_group library design u wired) _ seen (length_of_group wired) _ (option_map rectangle_of c.box_round-bounds.result) length round

@@ -1,15 +1,15 @@
-use Rattle.std.proofs.Common.{◌≡◌, ◌<◌, ◌∙◌, ◌+◌, ◌++◌, List, sym, ap, subst, drop, length, map, take, arith}
+use Rattle.std.proofs.Common.{◌≡◌, ◌∙◌, ◌++◌, List, sym, ap, subst, drop, map, take, arith}
 use Rattle.std.specs.Prelude.{option_map}
-use Rattle.std.proofs.lemmas.List.{drop_at, length-map, length-take-le, take-append-le, take_all, take_rest}
+use Rattle.std.proofs.lemmas.List.{drop_at, length-take-le, take-append-le, take_all, take_rest}
 use Rattle.design_model.specs.declared.identifier.StmtId.{StmtId}
-use Rattle.text_pieces.specs.Chunks.{Numbers, ids_at, shown, shown_change}
+use Rattle.text_pieces.specs.Chunks.{ids_at, shown, shown_change}
 use Rattle.text_pieces.specs.Lists.{AreLists, ids_left}
 use Rattle.text_pieces.specs.Preparing.{IsPut}
 use Rattle.text_pieces.specs.Storing.{news_of}
 use Rattle.text_pieces.specs.Tables.{kept, table_of, weight, AreHome}
+use Rattle.text_pieces.proofs.NewWeights.{home_in}
 use Rattle.text_pieces.proofs.PutPieces.{regrouped, table_stays, then_fits}
-use Rattle.text_pieces.proofs.Shown.{shown_at}
-use Rattle.text_pieces.proofs.Slots.{home_at, home_take}
+use Rattle.text_pieces.proofs.Slots.{home_take}
 use Rattle.text_pieces.proofs.StoredPieces.{home_append, home_stays}
 use Rattle.text_pieces.proofs.lists.place_new.Goals as goal
 
@@ -17,13 +17,10 @@ pub new_lists-requires-clause-table : goal.new_lists-requires-clause-table
 new_lists-requires-clause-table g c =
     let old = map (option_map kept) c.args.table.now.pieces.slots in
     let new = map (option_map kept) c.store_all.new.pieces.slots in
-    let chunks = c.args.table.now.chunks.items in
-    let cs = map shown chunks in
+    let cs = map shown c.args.table.now.chunks.items in
     let k = c.args.chunk in
     let i = c.args.index in
-    let within : k < length chunks = omega (arith, c.requires.within, length-map chunks shown) in
-    let own : c.deref.result.now ≡ ids_at cs k = c.deref.ensures.value ∙ sym (ap (λ (n : Numbers). n.ids) (shown_at chunks k c.index.result.now within c.index.ensures)) in
-    let head : c.in_ok-head.head.items ≡ take i (ids_at cs k) = c.in_ok-head.ensures.items ∙ ap (take i) own in
+    let head : c.in_ok-head.head.items ≡ take i (ids_at cs k) = c.in_ok-head.ensures.items ∙ ap (take i) c.ids_in.ensures in
     let a = rw c.in_ok-number.ensures at c.in_ok-store_all.ensures.kept in
     let stays = c.in_ok-store_all.ensures.stays in
     let after : c.store_all.new.ids.items ≡ take i (ids_at cs k) ++ a.ids = a.is ∙ ap (λ (l : List StmtId). l ++ a.ids) head in
@@ -33,13 +30,10 @@ pub new_lists-requires-clause-front : goal.new_lists-requires-clause-front
 new_lists-requires-clause-front g c =
     let old = map (option_map kept) c.args.table.now.pieces.slots in
     let new = map (option_map kept) c.store_all.new.pieces.slots in
-    let chunks = c.args.table.now.chunks.items in
-    let cs = map shown chunks in
+    let cs = map shown c.args.table.now.chunks.items in
     let k = c.args.chunk in
     let i = c.args.index in
-    let within : k < length chunks = omega (arith, c.requires.within, length-map chunks shown) in
-    let own : c.deref.result.now ≡ ids_at cs k = c.deref.ensures.value ∙ sym (ap (λ (n : Numbers). n.ids) (shown_at chunks k c.index.result.now within c.index.ensures)) in
-    let head : c.in_ok-head.head.items ≡ take i (ids_at cs k) = c.in_ok-head.ensures.items ∙ ap (take i) own in
+    let head : c.in_ok-head.head.items ≡ take i (ids_at cs k) = c.in_ok-head.ensures.items ∙ ap (take i) c.ids_in.ensures in
     let a = rw c.in_ok-number.ensures at c.in_ok-store_all.ensures.kept in
     let stays = c.in_ok-store_all.ensures.stays in
     let after : c.store_all.new.ids.items ≡ take i (ids_at cs k) ++ a.ids = a.is ∙ ap (λ (l : List StmtId). l ++ a.ids) head in
@@ -49,31 +43,24 @@ pub new_lists-requires-clause-home : goal.new_lists-requires-clause-home
 new_lists-requires-clause-home g c =
     let old = map (option_map kept) c.args.table.now.pieces.slots in
     let new = map (option_map kept) c.store_all.new.pieces.slots in
-    let chunks = c.args.table.now.chunks.items in
-    let cs = map shown chunks in
+    let cs = map shown c.args.table.now.chunks.items in
     let k = c.args.chunk in
     let i = c.args.index in
-    let within : k < length chunks = omega (arith, c.requires.within, length-map chunks shown) in
-    let own : c.deref.result.now ≡ ids_at cs k = c.deref.ensures.value ∙ sym (ap (λ (n : Numbers). n.ids) (shown_at chunks k c.index.result.now within c.index.ensures)) in
-    let head : c.in_ok-head.head.items ≡ take i (ids_at cs k) = c.in_ok-head.ensures.items ∙ ap (take i) own in
+    let head : c.in_ok-head.head.items ≡ take i (ids_at cs k) = c.in_ok-head.ensures.items ∙ ap (take i) c.ids_in.ensures in
     let a = rw c.in_ok-number.ensures at c.in_ok-store_all.ensures.kept in
     let stays = c.in_ok-store_all.ensures.stays in
     let after : c.store_all.new.ids.items ≡ take i (ids_at cs k) ++ a.ids = a.is ∙ ap (λ (l : List StmtId). l ++ a.ids) head in
-    let here : AreHome old (0 + k) (ids_at cs k) = home_at old 0 cs k c.requires.table.chunks c.requires.within in
-    let e : 0 + k ≡ k = omega arith in
-    subst (AreHome new k) (sym after) (home_append new k (take i (ids_at cs k)) a.ids (home_stays old new stays k (take i (ids_at cs k)) (home_take old k (ids_at cs k) i (rw e at here))) a.home)
+    let here = home_in old cs k c.requires.table c.requires.within in
+    subst (AreHome new k) (sym after) (home_append new k (take i (ids_at cs k)) a.ids (home_stays old new stays k (take i (ids_at cs k)) (home_take old k (ids_at cs k) i here)) a.home)
 
 pub new_lists-requires-clause-fits : goal.new_lists-requires-clause-fits
 new_lists-requires-clause-fits g c =
     let old = map (option_map kept) c.args.table.now.pieces.slots in
     let new = map (option_map kept) c.store_all.new.pieces.slots in
-    let chunks = c.args.table.now.chunks.items in
-    let cs = map shown chunks in
+    let cs = map shown c.args.table.now.chunks.items in
     let k = c.args.chunk in
     let i = c.args.index in
-    let within : k < length chunks = omega (arith, c.requires.within, length-map chunks shown) in
-    let own : c.deref.result.now ≡ ids_at cs k = c.deref.ensures.value ∙ sym (ap (λ (n : Numbers). n.ids) (shown_at chunks k c.index.result.now within c.index.ensures)) in
-    let head : c.in_ok-head.head.items ≡ take i (ids_at cs k) = c.in_ok-head.ensures.items ∙ ap (take i) own in
+    let head : c.in_ok-head.head.items ≡ take i (ids_at cs k) = c.in_ok-head.ensures.items ∙ ap (take i) c.ids_in.ensures in
     let a = rw c.in_ok-number.ensures at c.in_ok-store_all.ensures.kept in
     let stays = c.in_ok-store_all.ensures.stays in
     let after : c.store_all.new.ids.items ≡ take i (ids_at cs k) ++ a.ids = a.is ∙ ap (λ (l : List StmtId). l ++ a.ids) head in
@@ -85,18 +72,15 @@ pub returns-clause-put : goal.returns-clause-put
 returns-clause-put g c =
     let old = map (option_map kept) c.args.table.now.pieces.slots in
     let new = map (option_map kept) c.store_all.new.pieces.slots in
-    let chunks = c.args.table.now.chunks.items in
-    let cs = map shown chunks in
+    let cs = map shown c.args.table.now.chunks.items in
     let k = c.args.chunk in
     let i = c.args.index in
-    let within : k < length chunks = omega (arith, c.requires.within, length-map chunks shown) in
-    let own : c.deref.result.now ≡ ids_at cs k = c.deref.ensures.value ∙ sym (ap (λ (n : Numbers). n.ids) (shown_at chunks k c.index.result.now within c.index.ensures)) in
-    let head : c.in_ok-head.head.items ≡ take i (ids_at cs k) = c.in_ok-head.ensures.items ∙ ap (take i) own in
+    let head : c.in_ok-head.head.items ≡ take i (ids_at cs k) = c.in_ok-head.ensures.items ∙ ap (take i) c.ids_in.ensures in
     let a = rw c.in_ok-number.ensures at c.in_ok-store_all.ensures.kept in
     let stays = c.in_ok-store_all.ensures.stays in
     let after : c.store_all.new.ids.items ≡ take i (ids_at cs k) ++ a.ids = a.is ∙ ap (λ (l : List StmtId). l ++ a.ids) head in
     let put : c.in_ok-ids.ids.items ≡ a.ids =
-    c.in_ok-ids.ensures.items ∙ take_rest c.deref-2.result.now i ∙ ap (drop i) (c.deref-2.ensures.value ∙ after)
+    c.in_ok-ids.ensures.items ∙ take_rest c.deref.result.now i ∙ ap (drop i) (c.deref.ensures.value ∙ after)
     ∙ drop_at (take i (ids_at cs k)) a.ids i (length-take-le i (ids_at cs k) c.requires.inside) in
     let is : IsPut (table_of c.args.table.now) (record { chunks = cs; slots = new }) k i c.args.out (news_of k c.args.new.items) (map shown_change c.in_ok-changes.changes.items) a.ids = record {
       free = a.free;

@@ -1,6 +1,6 @@
-use Rattle.std.proofs.Common.{◌≡◌, ◌∙◌, [], ◌∷◌, ◌++◌, ℕ, List, ap, subst, length, map, IsOk, arith}
+use Rattle.std.proofs.Common.{◌≡◌, ◌∙◌, [], ◌∷◌, ◌++◌, ℕ, List, ap, sym, subst, length, map, IsOk, arith}
 use Rattle.std.specs.Prelude.{option_map}
-use Rattle.std.proofs.lemmas.List.{length-map, map-append, take_rest}
+use Rattle.std.proofs.lemmas.List.{map-append, take_rest}
 use Rattle.text_pieces.specs.Chunks.{shown}
 use Rattle.text_pieces.specs.Content.{read_keyless}
 use Rattle.text_pieces.specs.Tables.{kept}
@@ -15,22 +15,22 @@ pub chunks-preserved : goal.chunks-preserved
 chunks-preserved g c =
     let s = c.chunks in
     let text = c.args.block.now in
-    let cs = map shown s.chunks.items in
-    let number : length cs ≡ c.in_ok-number.number = omega (arith, c.len.ensures, c.in_ok-number.ensures, s.chunks.ok.0, length-map s.chunks.items shown) in
+    let cs = map shown s.table.chunks.items in
+    let number : length cs ≡ c.in_ok-number.number = sym (c.in_ok-number.ensures ∙ c.chunk_count.ensures) in
     let part = c.in-Ok.part in
     let opened = c.in-Ok.ensures.reads c.args.told.now cs number s.invariant.1 in
-    let items : map shown c.push.new.self.items ≡ cs ++ shown part.chunk ∷ [] = ap (map shown) c.in_ok-push-in-Ok.ensures.items ∙ map-append shown s.chunks.items (part.chunk ∷ []) in
+    let items : map shown c.push.new.self.items ≡ cs ++ shown part.chunk ∷ [] = ap (map shown) c.in_ok-push-in-Ok.ensures.items ∙ map-append shown s.table.chunks.items (part.chunk ∷ []) in
     (c.in-Ok.ensures.last.0, rw items opened)
 
 pub invariant_of-result : goal.invariant_of-result
 invariant_of-result g c =
     let s = c.chunks in
     let text = c.args.block.now in
-    let cs = map shown s.chunks.items in
-    let number : length cs ≡ c.in_ok-number.number = omega (arith, c.len.ensures, c.in_ok-number.ensures, s.chunks.ok.0, length-map s.chunks.items shown) in
+    let cs = map shown s.table.chunks.items in
+    let number : length cs ≡ c.in_ok-number.number = sym (c.in_ok-number.ensures ∙ c.chunk_count.ensures) in
     let part = c.in-Ok.part in
     let opened = c.in-Ok.ensures.reads c.args.told.now cs number s.invariant.1 in
-    let items : map shown c.push.new.self.items ≡ cs ++ shown part.chunk ∷ [] = ap (map shown) c.in_ok-push-in-Ok.ensures.items ∙ map-append shown s.chunks.items (part.chunk ∷ []) in
+    let items : map shown c.push.new.self.items ≡ cs ++ shown part.chunk ∷ [] = ap (map shown) c.in_ok-push-in-Ok.ensures.items ∙ map-append shown s.table.chunks.items (part.chunk ∷ []) in
     let rest = rw c.as_slice-text.ensures at (c.in_ok-tail-in-Ok.ensures.items ∙ take_rest c.as_slice-text.result.now part.pos) in
     rw (items, c.as_slice-text.ensures) (opened_text text (cs ++ shown part.chunk ∷ []) opened.recs (map (option_map kept) c.read_chunk.new.pieces.slots) part.mode part.pos _ opened.opened rest c.tails_are_found.ensures c.tails_may_end.ensures (c.in-Ok.ensures.last.1 c.if-part.true) c.requires)
 
@@ -38,11 +38,11 @@ pub returns-then-part-clause-opens : goal.returns-then-part-clause-opens
 returns-then-part-clause-opens g c =
     let s = c.chunks in
     let text = c.args.block.now in
-    let cs = map shown s.chunks.items in
-    let number : length cs ≡ c.in_ok-number.number = omega (arith, c.len.ensures, c.in_ok-number.ensures, s.chunks.ok.0, length-map s.chunks.items shown) in
+    let cs = map shown s.table.chunks.items in
+    let number : length cs ≡ c.in_ok-number.number = sym (c.in_ok-number.ensures ∙ c.chunk_count.ensures) in
     let part = c.in-Ok.part in
     let opened = c.in-Ok.ensures.reads c.args.told.now cs number s.invariant.1 in
-    let items : map shown c.push.new.self.items ≡ cs ++ shown part.chunk ∷ [] = ap (map shown) c.in_ok-push-in-Ok.ensures.items ∙ map-append shown s.chunks.items (part.chunk ∷ []) in
+    let items : map shown c.push.new.self.items ≡ cs ++ shown part.chunk ∷ [] = ap (map shown) c.in_ok-push-in-Ok.ensures.items ∙ map-append shown s.table.chunks.items (part.chunk ∷ []) in
     let rest = rw c.as_slice-text.ensures at (c.in_ok-tail-in-Ok.ensures.items ∙ take_rest c.as_slice-text.result.now part.pos) in
     let slots = map (option_map kept) c.read_chunk.new.pieces.slots in
     let front = cs ++ shown part.chunk ∷ [] in
@@ -54,11 +54,11 @@ pub returns-then-part-clause-told : goal.returns-then-part-clause-told
 returns-then-part-clause-told g c =
     let s = c.chunks in
     let text = c.args.block.now in
-    let cs = map shown s.chunks.items in
-    let number : length cs ≡ c.in_ok-number.number = omega (arith, c.len.ensures, c.in_ok-number.ensures, s.chunks.ok.0, length-map s.chunks.items shown) in
+    let cs = map shown s.table.chunks.items in
+    let number : length cs ≡ c.in_ok-number.number = sym (c.in_ok-number.ensures ∙ c.chunk_count.ensures) in
     let part = c.in-Ok.part in
     let opened = c.in-Ok.ensures.reads c.args.told.now cs number s.invariant.1 in
-    let items : map shown c.push.new.self.items ≡ cs ++ shown part.chunk ∷ [] = ap (map shown) c.in_ok-push-in-Ok.ensures.items ∙ map-append shown s.chunks.items (part.chunk ∷ []) in
+    let items : map shown c.push.new.self.items ≡ cs ++ shown part.chunk ∷ [] = ap (map shown) c.in_ok-push-in-Ok.ensures.items ∙ map-append shown s.table.chunks.items (part.chunk ∷ []) in
     let rest = rw c.as_slice-text.ensures at (c.in_ok-tail-in-Ok.ensures.items ∙ take_rest c.as_slice-text.result.now part.pos) in
     let slots = map (option_map kept) c.read_chunk.new.pieces.slots in
     rw items (all_told g.T.Told.says c.args.told.now c.read_chunk.new.told text (cs ++ shown part.chunk ∷ []) slots part.mode part.pos _ opened rest c.texts_are_read.ensures c.tails_are_found.ensures c.tails_may_end.ensures (c.in-Ok.ensures.last.1 c.if-part.true) c.requires)
@@ -67,6 +67,6 @@ pub returns-in-Err-clause-opens : goal.returns-in-Err-clause-opens
 returns-in-Err-clause-opens g c =
     let s = c.chunks in
     let text = c.args.block.now in
-    let cs = map shown s.chunks.items in
-    let number : length cs ≡ c.in_ok-number.number = omega (arith, c.len.ensures, c.in_ok-number.ensures, s.chunks.ok.0, length-map s.chunks.items shown) in
-    failed g.T.Told.says g.row.A.Denot text cs s.mode s.pos c.in_ok-number.number (map (option_map kept) s.pieces.slots) (map (option_map kept) c.read_chunk.new.pieces.slots) c.args.told.now s.told c.read_chunk.new.told c.in-Err.error c.requires number s.invariant.1 c.in-Err.ensures.reads
+    let cs = map shown s.table.chunks.items in
+    let number : length cs ≡ c.in_ok-number.number = sym (c.in_ok-number.ensures ∙ c.chunk_count.ensures) in
+    failed g.T.Told.says g.row.A.Denot text cs s.mode s.pos c.in_ok-number.number (map (option_map kept) s.table.pieces.slots) (map (option_map kept) c.read_chunk.new.pieces.slots) c.args.told.now s.told c.read_chunk.new.told c.in-Err.error c.requires number s.invariant.1 c.in-Err.ensures.reads

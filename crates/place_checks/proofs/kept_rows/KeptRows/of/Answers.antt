@@ -12,5 +12,5 @@ invariant_of-result g c =
     let index = c.args.index.now in
     let end = drop_all _ _ c.loop-row-test.false in
     let all = rw end at c.loop-row.invariant in
-    let same : map kept_row_view c.loop-row.rows.items ≡ map placed_row_view index.rows.items = sym (append-nil _) ∙ all ∙ ap (map placed_row_view) c.rows-row-items.ensures in
+    let same : map kept_row_view c.loop-row.rows.items ≡ map placed_row_view index.rows.items = sym (append-nil _) ∙ all ∙ ap (map placed_row_view) c.deref-row-items.ensures.value in
     subst (IsSortedByKey edge_in int_cmp) (sym same) (seen_in_order placed_row_view edge_in int_cmp index.rows.items index.sorted)

@@ -17,10 +17,10 @@ returns g c =
     record {
       layers = ap (λ (a : Answers). a.layers) c.self.view_is;
       net_length = λ n.
-          told_in (λ (m : MeasuredNet). m.net_length) name measures c.self.inside.nets c.set.new.self c.in_ok-set.ensures n
+          told_in (λ (m : MeasuredNet). m.net_length) name measures c.self.inside.measured.table c.set.new.self c.in_ok-set.ensures n
           ∙ ap (λ (a : Answers). if bytes_eq name n then Some length else length_in a n) c.self.view_is;
       net_box = λ n.
-          told_in (λ (m : MeasuredNet). m.net_box) name measures c.self.inside.nets c.set.new.self c.in_ok-set.ensures n
+          told_in (λ (m : MeasuredNet). m.net_box) name measures c.self.inside.measured.table c.set.new.self c.in_ok-set.ensures n
           ∙ ap (λ (a : Answers). if bytes_eq name n then Some (option_map rectangle_of c.args.bounds) else box_in a n) c.self.view_is;
       total_length = other_total c.args.self.now.total_length length c.args.old_length _ c.requires.within (ap (λ (a : Answers). a.total_length - c.args.old_length + length) c.self.view_is);
       cells = subst (λ (a : Answers). HasExchanged (map shape_view c.args.gone.now) (map shape_view c.args.come.now) a.cells c.exchange.new.self) c.self.view_is c.in_ok-exchange.ensures;

@@ -20,7 +20,7 @@ returns g c = λ library design without nets lengths.
     let u = scale design in
     let no_longer = c.none_is_longer.ensures in
     let length_by = λ (name : List ℕ). capped (length_of library design u name) in
-    let none : c.self.inside.nets ≡ [] = ap (λ (a : Answers). a.nets) c.self.view_is ∙ without.nets in
+    let none : c.self.inside.measured.table ≡ [] = ap (λ (a : Answers). a.nets) c.self.view_is ∙ without.nets in
     let found : (name : List ℕ) → find_named name_of c.measure_each.new.table name ≡ find_named name_of (measured (all_nets library design u) (map length_by (net_names library design u))) name =
     λ name.
     c.in_ok-measure_each.ensures name
@@ -32,6 +32,6 @@ returns g c = λ library design without nets lengths.
     (λ name. ap (option_map (λ (n : MeasuredNet). n.net_box)) (found name) ∙ box_is library design u length_by name)
     (c.sum_of.ensures ∙ ap (λ ls. capped (sum ls)) lengths ∙ total_is library design u no_longer without.fits)
     (ap (λ (a : Answers). a.layers) c.self.view_is ∙ without.layers)
-    (shapes_held (columns design) (rows design) c.args.nets.now (all_nets library design u) c.shapes.result.now c.self.inside.cells c.add_shapes.new.self c.shapes.ensures nets
+    (shapes_held (columns design) (rows design) c.args.nets.now (all_nets library design u) c.shapes.result.now c.self.inside.measured.cells c.add_shapes.new.self c.shapes.ensures nets
     (subst (λ (a : Answers). HoldsDensities (columns design) (rows design) [] a.cells) (sym c.self.view_is) without.cells) c.in_ok-add_shapes.ensures)
     (subst (λ (a : Answers). HoldsDensities (columns design) (rows design) (map box_shape (boxes library design)) a.place_cells) (sym c.self.view_is) without.place_cells)

@@ -4,7 +4,7 @@ use Rattle.design_model.specs.declared.identifier.StmtId.{StmtId}
 use Rattle.text_pieces.specs.Chunks.{AreOnce, all_ids, ids_at, shown}
 use Rattle.text_pieces.specs.Tables.{ids_after, ids_before, kept, start_in, weight}
 use Rattle.text_pieces.proofs.Ids.{absent_before}
-use Rattle.text_pieces.proofs.NewWeights.{chunk_fits, chunk_is}
+use Rattle.text_pieces.proofs.NewWeights.{has_bytes}
 use Rattle.text_pieces.proofs.Weights.{no_start, start_is, weight_append, weight_within}
 use Rattle.text_pieces.proofs.table.PieceTable.start_of.Goals as goal
 
@@ -30,6 +30,5 @@ overflow_add-result g c =
     let slots = map (option_map kept) c.args.self.now.pieces.slots in
     let cs = map shown c.args.self.now.chunks.items in
     let k = c.in_ok-chunk.chunk in
-    let n = chunk_is slots cs k _ c.requires s.within refl in
-    let fits = chunk_fits slots cs k _ c.requires s.within refl in
-    omega (arith, c.weight_to.ensures, c.weight_before.ensures, weight_within slots (ids_at cs k) c.in_ok-chunk.place, n.len, fits)
+    let n = has_bytes slots cs k _ c.requires s.within refl in
+    omega (arith, c.weight_to.ensures, c.weight_before.ensures, weight_within slots (ids_at cs k) c.in_ok-chunk.place, n.is, n.fits)

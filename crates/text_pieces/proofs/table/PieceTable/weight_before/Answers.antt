@@ -1,31 +1,8 @@
-use Rattle.std.proofs.Common.{◌<◌, ◌+◌, length, map, arith}
-use Rattle.std.specs.Prelude.{option_map}
-use Rattle.std.proofs.lemmas.List.{length-map}
-use Rattle.text_pieces.specs.Chunks.{shown}
-use Rattle.text_pieces.specs.Tables.{kept}
-use Rattle.text_pieces.proofs.Shown.{shown_at}
-use Rattle.text_pieces.proofs.Weights.{weight_more, weight_up_to}
+use Rattle.std.proofs.Common.{arith}
 use Rattle.text_pieces.proofs.table.PieceTable.weight_before.Goals as goal
 
 pub overflow_add-sum : goal.overflow_add-sum
-overflow_add-sum g c =
-    let slots = map (option_map kept) c.args.self.now.pieces.slots in
-    let chunks = c.args.self.now.chunks.items in
-    let cs = map shown chunks in
-    let k = c.loop-k.k in
-    let below : k < length cs = omega (arith, c.loop-k-test.true, c.requires.within) in
-    let within : k < length chunks = omega (arith, below, length-map chunks shown) in
-    let more = weight_more slots cs k _ c.requires.table.chunks below (shown_at chunks k c.index.result.now within c.index.ensures) in
-    let few = weight_up_to slots cs (k + 1) in
-    omega (arith, more, few, c.loop-k.invariant, c.requires.table.fits)
+overflow_add-sum g c = omega (arith, c.bytes_in-sum.ensures.fits, c.loop-k.invariant)
 
 pub loop-k-preserved : goal.loop-k-preserved
-loop-k-preserved g c =
-    let slots = map (option_map kept) c.args.self.now.pieces.slots in
-    let chunks = c.args.self.now.chunks.items in
-    let cs = map shown chunks in
-    let k = c.loop-k.k in
-    let below : k < length cs = omega (arith, c.loop-k-test.true, c.requires.within) in
-    let within : k < length chunks = omega (arith, below, length-map chunks shown) in
-    let more = weight_more slots cs k _ c.requires.table.chunks below (shown_at chunks k c.index.result.now within c.index.ensures) in
-    omega (arith, more, c.loop-k.invariant)
+loop-k-preserved g c = omega (arith, c.bytes_in-sum.ensures.more, c.loop-k.invariant)
