@@ -12,7 +12,8 @@ from second.script import Outcome, run
 from second.tokens import Fault
 
 LEF_FILE = re.compile(r"lef([1-9][0-9]*)\.lef")
-TABLES = ("prefixes", "refused_bytes")
+# of which text each table tells
+TABLES = {"prefixes": "design.def", "refused_bytes": "design.def", "lef_prefixes": "lef1.lef", "lef_refused_bytes": "lef1.lef"}
 REFUSED = b"\x7f"
 
 
@@ -57,10 +58,18 @@ def read_outcome(case):
     return found
 
 
-def told_of(library, text, number):
-    """Returns what a table says of a text: that it reads, or its fault and where that is."""
+def library_of(lefs):
+    """Returns the library of LEF texts."""
+    library = Library()
+    for lef in lefs:
+        read_lef(lef, library)
+    return library
+
+
+def told_of(read, text, number):
+    """Returns what a table says of a text that is read so: that it reads, or its fault and where that is."""
     try:
-        Design(library, text)
+        read(text)
     except Fault as fault:
         return f"F{fault.number} {'here' if fault.place == number else fault.place}"
     return "reads"
@@ -68,12 +77,15 @@ def told_of(library, text, number):
 
 def table(case, name):
     """Returns a table of a case: what is told of its text cut short at each length, or with a refused byte in each place."""
-    library, text = Library(), case.files["design.def"]
-    for lef in case.lefs:
-        read_lef(lef, library)
-    numbers = range(len(text) + (name == "prefixes"))
-    texts = ((it, text[:it] if name == "prefixes" else text[:it] + REFUSED + text[it + 1 :]) for it in numbers)
-    told = ((number, told_of(library, it, number)) for number, it in texts)
+    text, is_cut = case.files[TABLES[name]], name.endswith("prefixes")
+    if TABLES[name] == "design.def":
+        library = library_of(case.lefs)
+        read = lambda it: Design(library, it)
+    else:
+        read = lambda it: Design(library_of([it, *case.lefs[1:]]), case.files["design.def"])
+    numbers = range(len(text) + is_cut)
+    texts = ((it, text[:it] if is_cut else text[:it] + REFUSED + text[it + 1 :]) for it in numbers)
+    told = ((number, told_of(read, it, number)) for number, it in texts)
     lines = ""
     for answer, row in itertools.groupby(told, key=lambda pair: pair[1]):
         row = [number for number, _ in row]
