@@ -42,11 +42,14 @@ def write_given(given, folder):
     return [*lefs]
 
 
-def outcome_of(program, given):
-    """Runs a program on texts and a script, and returns what comes out. The status is None where it doesn't end in time."""
+def outcome_of(program, given, memory=0):
+    """Runs a program on texts and a script, with an address space of so many bytes where they aren't 0, and returns what comes out.
+    The status is None where it doesn't end in time."""
     with tempfile.TemporaryDirectory(prefix="second-reading-") as folder:
         lefs = write_given(given, folder)
         words = [program.path, "--def", "design.def", "--script", "script.txt", "--out", "out.def", *lefs]
+        if memory:
+            words = ["sh", "-c", 'ulimit -v "$0"; exec "$@"', str(memory >> 10), *words]
         try:
             ran = subprocess.run(words, cwd=folder, stdin=subprocess.DEVNULL, capture_output=True, timeout=program.limit)
         except subprocess.TimeoutExpired:

@@ -109,9 +109,13 @@ class LefReader:
         cut.is_ended = True
         if self.is_header(word):
             self.add_words(word, cut.tokens)
+        if self.is_header(word) and word in (b"VIA", b"VIARULE"):
+            behind = next_token(self.text, cut.tokens[-1].end)
+            cut.looked_to = behind.end if behind else len(self.text)
 
     def add_words(self, word, tokens):
-        """Adds the words that may follow the name of a via or a via rule. The header ends without them."""
+        """Adds the words that may follow the name of a via or a via rule. The header ends without them; whether one more comes is told by
+        the token behind."""
         if word == b"VIA":
             while self.add_word(tokens, *WORDS_OF_VIA):
                 pass

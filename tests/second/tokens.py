@@ -79,16 +79,18 @@ def refuse_bytes(text, begin, end):
 
 @dataclass
 class Cut:
-    """The tokens of a statement that is cut off a text, whether they go up to its end, and the fault that stands behind them."""
+    """The tokens of a statement that is cut off a text, whether they go up to its end, and the fault that stands behind them. Where it
+    takes a look at the token behind to tell its end, the offset at which that ends, or the text."""
 
     tokens: list = field(default_factory=list)
     is_ended: bool = False
     fault: Fault | None = None
+    looked_to: int = 0
 
     def refuse(self, text, at):
         """Raises the first fault of a statement that begins from an offset on, before its form is looked at: refused bytes, then a
         string without end, then the end of the text."""
-        refuse_bytes(text, at, self.tokens[-1].end if self.is_ended else len(text))
+        refuse_bytes(text, at, max(self.tokens[-1].end, self.looked_to) if self.is_ended and not self.fault else len(text))
         if self.fault:
             raise self.fault
         if self.tokens and not self.is_ended:
