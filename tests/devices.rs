@@ -135,3 +135,73 @@ impl Write for TakesNone {
         Ok(())
     }
 }
+
+/// Answers Interrupted at each turn, from one on, and counts its turns.
+#[derive(Drop)]
+pub struct InterruptedForGood<T> {
+    pub inner: T,
+    before: u64,
+    pub turns: u64,
+}
+
+impl<T> InterruptedForGood<T> {
+    /// A device with so many turns before the first that is interrupted.
+    pub fn new(inner: T, before: u64) -> InterruptedForGood<T> {
+        InterruptedForGood {
+            inner,
+            before,
+            turns: 0,
+        }
+    }
+
+    /// Whether the present turn is interrupted.
+    fn turn(&mut self) -> io::Result<()> {
+        self.turns = self.turns.saturating_add(1);
+        if self.turns > self.before {
+            return Err(io::ErrorKind::Interrupted.into());
+        }
+        Ok(())
+    }
+}
+
+impl<T: Read> Read for InterruptedForGood<T> {
+    fn read(&mut self, buf: &mut [u8]) -> io::Result<usize> {
+        self.turn()?;
+        self.inner.read(buf)
+    }
+}
+
+impl<T: Write> Write for InterruptedForGood<T> {
+    fn write(&mut self, buf: &[u8]) -> io::Result<usize> {
+        self.turn()?;
+        self.inner.write(buf)
+    }
+
+    fn flush(&mut self) -> io::Result<()> {
+        self.inner.flush()
+    }
+}
+
+/// Counts the turns of a writer.
+#[derive(Drop)]
+pub struct Turns<T> {
+    pub inner: T,
+    pub count: usize,
+}
+
+impl<T> Turns<T> {
+    pub fn new(inner: T) -> Turns<T> {
+        Turns { inner, count: 0 }
+    }
+}
+
+impl<T: Write> Write for Turns<T> {
+    fn write(&mut self, buf: &[u8]) -> io::Result<usize> {
+        self.count = self.count.saturating_add(1);
+        self.inner.write(buf)
+    }
+
+    fn flush(&mut self) -> io::Result<()> {
+        self.inner.flush()
+    }
+}
