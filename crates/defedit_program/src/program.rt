@@ -134,11 +134,21 @@ fn refuse<R: Eprint>(rt: &R, error: &Error) -> Outcome
     Outcome::Usage
 }
 
+/// Why the program ends where its arguments aren't read.
+fn unread_arguments(error: &io::Error) -> Stop<'static> {
+    if error.kind() == io::ErrorKind::OutOfMemory {
+        Stop::Memory
+    } else {
+        Stop::NoText
+    }
+}
+
 /// Runs the program, and says how it ends.
 pub fn end_of<R: Files + Env + AllocGlobal + RandomSource + Print + Eprint>(rt: &R) -> Outcome {
     let alloc = rt.alloc();
-    let Ok(args) = env::args(rt) else {
-        return say(rt, Stop::NoText);
+    let args = match env::args(rt) {
+        Ok(args) => args,
+        Err(error) => return say(rt, unread_arguments(&error)),
     };
     let mut owned = Vec::new(alloc);
     for arg in args {
