@@ -1,5 +1,5 @@
 -- How long a text is with splices made.
-use Rattle.std.proofs.Common.{◌≡◌, ◌≤◌, ◌<◌, ◌+◌, ◌-◌, ◌++◌, append_assoc, ℕ, true, List, ◌∷◌, arith, length, drop, get_or, map, subst, sym, ap, ◌∙◌, inl, inr, length-append, length-drop, nat_lt}
+use Rattle.std.proofs.Common.{◌≡◌, ◌≤◌, ◌<◌, ◌+◌, ◌-◌, ◌++◌, ℕ, true, List, ◌∷◌, arith, length, drop, get_or, map, subst, sym, ap, ◌∙◌, inl, inr, length-append, length-drop, nat_lt}
 use Rattle.std.specs.List.{slice_range}
 use Rattle.std.proofs.lemmas.Bool.{cases_Bool, lt-ltb, le-ltb, ltb-true, ltb-false}
 use Rattle.std.proofs.lemmas.List.{drop_more, length-take-le}
@@ -36,15 +36,6 @@ order_later {A} ss k s at n some is order =
     let e = subst P (drop_more ss k s some) order in
     let Q : Splice A → Type 0 = λ x. AreInOrder x.hi (drop (k + 1) ss) n in
     subst Q (sym is) e.2
-
--- what is put out to the place of a splice, and what is left behind it
-pub put_out : {A : Type 0} (ss : List (Splice A)) (k : ℕ) (s : Splice A) (at : ℕ) (text out : List ℕ) → k < length ss → s ≡ get_or ss k s
-    → ((out ++ slice_range text at s.lo) ++ s.put) ++ cut_from s.hi (map cut_view (drop (k + 1) ss)) text ≡ out ++ cut_from at (map cut_view (drop k ss)) text
-put_out {A} ss k s at text out some is =
-    let kept = slice_range text at s.lo in
-    let later = cut_from s.hi (map cut_view (drop (k + 1) ss)) text in
-    let here : drop k ss ≡ s ∷ drop (k + 1) ss = drop_more ss k s some ∙ ap (λ (x : Splice A). x ∷ drop (k + 1) ss) (sym is) in
-    append_assoc (out ++ kept) s.put later ∙ append_assoc out kept (s.put ++ later) ∙ sym (ap (λ (xs : List (Splice A)). out ++ cut_from at (map cut_view xs) text) here)
 
 -- room that so many bytes don't fit in
 pub overfull : (room a b n : ℕ) → room < a + b → nat_lt room (a + (b + n)) ≡ true

@@ -2,7 +2,7 @@
 use Rattle.std.proofs.Common.{◌≡◌, ◌==◌, ◌≤◌, ◌<◌, ◌+◌, ◌++◌, ℕ, zero, suc, false, List, [], ◌∷◌, length, map, take, drop, None, Result, Ok, Err, inl, inr, refl, sym, ap, ap₂, subst, ◌∙◌, arith, drop-drop, length-drop}
 use Rattle.std.proofs.lemmas.Bool.{cases_Bool}
 use Rattle.std.proofs.lemmas.Bool.Decides.{nat_tests}
-use Rattle.std.proofs.lemmas.List.{drop_all, length-map, length-take-le, take_all}
+use Rattle.std.proofs.lemmas.List.{length-map, length-take-le}
 use Rattle.design_model.specs.declared.TheConstants.{MAX_TEXT}
 use Rattle.edit_model.specs.declared.edit.EditRefusal.{EditRefusal}
 use Rattle.edit_model.specs.declared.edit.EditRefusal.TheVariants.{Refused, Unreadable, Memory}
@@ -14,36 +14,11 @@ use Rattle.lefdef_tokens.specs.Laws.{BeginsApart, moved_token}
 use Rattle.edit_laws.specs.PlanLaws.{LieWithin}
 use Rattle.edit_rules.specs.Plans.{Plan, StatementChange, cut_of, cuts_for, ends_open, gap_after, lowest, put_apart, space_between, taken_tokens}
 use Rattle.lefdef_tokens.specs.Views.{pieces_of, words_of}
-use Rattle.lefdef_tokens.specs.declared.token_run.TokenRun.{TokenRun}
 use Rattle.def_splice.specs.Lying.{AreFirm, LiesAt, LiesIn, lying_tokens, moved_change, moved_cut, moved_plan, moved_tokens}
 use Rattle.def_splice.specs.declared.lying.Lying.{Lying}
 use Rattle.def_splice.specs.SpliceViews.{AreCuts, FollowsAll, MakesOne, change_cut, cut_view}
 use Rattle.def_splice.proofs.PlanLemmas.{follows, refused, unchanged, wants}
 use Rattle.def_splice.proofs.TokenLemmas.{gap_behind, pieces_counted}
-
--- a text lies in itself, and its tokens are where they are
-none_behind : (text : List ℕ) → BeginsApart (drop (0 + length text) text)
-none_behind text = subst BeginsApart (sym (drop_all (0 + length text) text (omega arith))) tt
-
-pub lies_whole : (text : List ℕ) → LiesAt text 0 text
-lies_whole text = record { within = omega arith; bytes = take_all (length text) text (omega arith); apart = none_behind text }
-
-at_front : (n : ℕ) → 0 + n ≡ n
-at_front n = omega arith
-
-pub unmoved : (ps : List Token) → moved_tokens 0 ps ≡ ps
-unmoved [] = refl
-unmoved (p ∷ ps) = ap₂ (λ (n : ℕ) (qs : List Token). record { kind = p.kind; bytes = p.bytes; pos = n } ∷ qs) (at_front p.pos) (unmoved ps)
-
--- a run over a whole text
-module _ (x : Lying) (run : TokenRun) (same : x.tokens ≡ run) (front : x.at ≡ 0) where
-  pub whole_tokens : lying_tokens x ≡ pieces_of run
-  whole_tokens = ap₂ (λ (at : ℕ) (r : TokenRun). moved_tokens at (pieces_of r)) front same ∙ unmoved (pieces_of run)
-
-pub lies_whole_run : (text : List ℕ) (x : Lying) (run : TokenRun) → x.tokens ≡ run → x.at ≡ 0 → run.text.now ≡ text → LiesIn text x
-lies_whole_run text x run same front over =
-    let part : x.tokens.text.now ≡ text = ap (λ (r : TokenRun). r.text.now) same ∙ over in
-    subst (λ (at : ℕ). LiesAt text at x.tokens.text.now) (sym front) (subst (λ (bytes : List ℕ). LiesAt text 0 bytes) (sym part) (lies_whole text))
 
 -- some tokens of moved ones
 take_moved : (at n : ℕ) (ps : List Token) → take n (moved_tokens at ps) ≡ moved_tokens at (take n ps)

@@ -1,20 +1,16 @@
 -- What a plan gives, by its refusals and its cuts.
-use Rattle.std.proofs.Common.{◌≤◌, length, subst, ◌≡◌, ◌++◌, ℕ, true, false, List, [], ◌∷◌, Some, None, Result, Ok, Err, Bool, map, inl, inr, refl, sym, ap, ◌∙◌}
+use Rattle.std.proofs.Common.{◌≤◌, length, ◌≡◌, ◌++◌, ℕ, true, false, List, [], ◌∷◌, Some, None, Result, Ok, Err, Bool, map, inl, inr, refl, sym, ap, ◌∙◌}
 use Rattle.std.specs.Prelude.{cond}
 use Rattle.std.proofs.lemmas.Bool.{cases_Bool, le-ltb}
 use Rattle.design_model.specs.declared.TheConstants.{MAX_TEXT}
 use Rattle.statement_model.specs.Cuts.{Cut, with_cuts}
-use Rattle.statement_model.specs.Tokens.{Token}
-use Rattle.def_grammar.specs.Components.{Component}
-use Rattle.def_grammar.specs.Located.{component_at, located}
 use Rattle.def_grammar.specs.Records.{Record, read_def}
 use Rattle.edit_model.specs.declared.edit.EditCode.{EditCode}
 use Rattle.edit_model.specs.declared.edit.EditCode.TheVariants.{TooLong}
 use Rattle.edit_model.specs.declared.edit.EditRefusal.{EditRefusal}
 use Rattle.edit_model.specs.declared.edit.EditRefusal.TheVariants.{Refused, Unreadable, Memory}
 use Rattle.edit_model.specs.declared.edit.Splice.{Splice}
-use Rattle.edit_rules.specs.ComponentEdits.{ComponentChange, component_plan, entry_plan}
-use Rattle.edit_rules.specs.Edits.{Change, of_component, plan_of}
+use Rattle.edit_rules.specs.Edits.{Change, plan_of}
 use Rattle.edit_rules.specs.Plans.{Plan, cuts_for, is_long, lowest, outcome_of, unless}
 use Rattle.edit_rules.specs.Runs.{Makes, MayWantMemory}
 use Rattle.lef_grammar.specs.Library.{Library}
@@ -86,10 +82,3 @@ module _ (library : Library) (text : List ℕ) (change : Change) (design : List 
   makes (Err (Refused code)) follows = so (Err code) follows
   makes (Err (Unreadable fault)) follows = follows
   makes (Err Memory) may = (outcome_of text plan, so (outcome_of text plan) refl, may)
-
--- so does what follows the plan of an edit of a component, for the entry that is found
-module _ (library : Library) (text name : List ℕ) (change : ComponentChange) (s : List Token × Component) (design : List Record) (reads : read_def text ≡ Ok design) (found : component_at name (located text design) ≡ Some s) (own : List ℕ) (same : own ≡ text) where
-  pub component_makes : {A : Type 0} (r : Result (List (Splice A)) EditRefusal) → FollowsAll own (entry_plan library change s.0 s.1) r → MakesSplices library text (of_component name change) r
-  component_makes {A} r follows =
-      let P : List ℕ → Type 0 = λ t. FollowsAll {A = A} t (entry_plan library change s.0 s.1) r in
-      makes library text (of_component name change) design reads (entry_plan library change s.0 s.1) (ap (component_plan library change) found) r (subst P same follows)

@@ -1,16 +1,13 @@
 -- Statements that a test finds among those of a text.
-use Rattle.std.specs.Prelude.{ℕ, ◌≤◌, Bool, true, false, List, [], ◌∷◌, length, take, drop, Option, Some, None, if◌then◌else◌}
-use Rattle.std.specs.List.{list_any}
+use Rattle.std.specs.Prelude.{ℕ, ◌≤◌, Bool, false, List, [], ◌∷◌, length, take, drop, Option, Some, None, if◌then◌else◌}
 use Rattle.design_model.specs.declared.mode.Section.{Section}
 use Rattle.statement_model.specs.Cuts.{end_of_all}
 use Rattle.statement_model.specs.Tokens.{Token}
 use Rattle.def_grammar.specs.Records.{Entry, Record}
-use Rattle.def_grammar.specs.Terminals.{Terminal}
 use Rattle.def_grammar.specs.Located.{component_at, located}
 use Rattle.lef_grammar.specs.Library.{Library}
 use Rattle.edit_rules.specs.Plans.{Plan, StatementChange}
 use Rattle.edit_rules.specs.SectionEdits.{SectionChange, putting, section_plan}
-use Rattle.edit_rules.specs.NetEdits.{terminals_of}
 use Rattle.edit_laws.specs.PlanLaws.{StandInOrder}
 
 -- the first of which a test holds, with its tokens
@@ -22,15 +19,6 @@ first_where test (x ∷ xs) = if test x.1 then Some x else first_where test xs
 abbrev pub of_entry : (Entry → Bool) → Option Entry → Bool
 of_entry test None = false
 of_entry test (Some e) = test e
-
--- an entry lists a terminal that passes a test
-abbrev pub lists_some : (Terminal → Bool) → Entry → Bool
-lists_some test e = list_any test (terminals_of e)
-
--- how many of one thing pass a test
-abbrev pub count_of : Bool → ℕ
-count_of true = 1
-count_of false = 0
 
 -- the plan of an edit of a section, of a text with this design
 abbrev pub section_plan_of : Library → List ℕ → List Record → SectionChange → Plan

@@ -25,9 +25,7 @@ ghost use Rattle.def_splice.specs.NetViews.{entry_seen, entry_with, listing, mac
 
 use crate::lying::Lying;
 use crate::names::is_name_text;
-use crate::statement_kinds::Lists;
-use crate::statement_search::StatementKind;
-use crate::terminals::Named;
+use crate::terminals::lists;
 use cell_library::library::Library;
 use def_reader::entry::Entry;
 use def_reader::statement::Statement;
@@ -116,8 +114,10 @@ pub fn net_entry<'a, L: LookUps>(lookups: &'a L, name: &[u8]) -> Option<(Stateme
 pub fn lists_terminal(statement: &Statement<'_>, owner: &[u8], pin: &[u8]) -> bool
     ensures { result ≡ of_entry (lists owner.now pin.now) (entry_of (record_view statement.now)) }
 {
-    let terminal = Named { owner, pin };
-    Lists { terminal }.has(statement)
+    match statement {
+        Statement::Entry(entry) => lists(entry, owner, pin),
+        _ => false,
+    }
 }
 
 /// The entry of a net in SPECIALNETS, where it lists a terminal.

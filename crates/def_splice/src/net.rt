@@ -15,8 +15,7 @@ ghost use Rattle.def_splice.specs.SpliceViews.{change_cut, cut_view, AreInOrder,
 
 use crate::lookups::{LookUps, is_pin, listing_entry, net_entry, with_tokens};
 use crate::lying::in_text;
-use crate::net_terminals::{terminal_tokens, tokens_to_end};
-use crate::terminals::Named;
+use crate::terminals::{terminal_tokens, tokens_to_end};
 use crate::token_splices::{change_splice, made_one};
 use cell_library::library::Library;
 use def_reader::entry::Entry;
@@ -100,8 +99,7 @@ fn entry_disconnected<'t, A: Allocator>(
     ensures firm { (library : TheLibrary) → (design : List Record) → IfOk result (λ _. AreFirm (plan_of_entry library design (disconnect_from owner.now pin.now) (pieces_of tokens.entry) (entry_view entry.now)).changes) }
     ensures within { IfOk result (λ splice. IfSome splice (IsWithin (length tokens.entry.text.now))) }
 {
-    let named = Named { owner, pin };
-    let Some((before, taken)) = terminal_tokens(entry, tokens, &named) else {
+    let Some((before, taken)) = terminal_tokens(entry, tokens, owner, pin) else {
         return Err(EditRefusal::Refused(EditCode::Connection));
     };
     made_one(change_splice(alloc, tokens, before, taken, &[]))

@@ -10,7 +10,6 @@ use crate::component::{place_splices, remaster_splices, unplace_splices};
 use crate::lookups::LookUps;
 use crate::net::{connect_splices, disconnect_splices};
 use crate::section::{add_splices, block_splices, remove_splices};
-use crate::whole_text::WholeText;
 use crate::wiring::{route_splices, unroute_splices};
 use cell_library::library::Library;
 use design_model::MAX_TEXT;
@@ -59,19 +58,4 @@ pub fn looked_up_splices<A: Allocator + Copy, L: LookUps>(
             y2,
         } => block_splices(alloc, library, lookups, *layer, *x1, *y1, *x2, *y2),
     }
-}
-
-/// The splices of an edit of a text that reads, which is looked through for its statements.
-pub fn splices<A: Allocator + Copy>(
-    alloc: A,
-    library: &Library<'_, A>,
-    text: &[u8],
-    edit: &Edit<'_>,
-) -> Result<Splices<A>, EditRefusal>
-    requires fits { length text.now ≤ MAX_TEXT }
-    requires reads { IsOk (read_def text.now) }
-    ensures makes { MakesSplices library.now text.now (change_of edit.now) result }
-    ensures order { IfOk result (λ ss. AreInOrder 0 ss (length text.now)) }
-{
-    looked_up_splices(alloc, library, &WholeText { text }, edit)
 }

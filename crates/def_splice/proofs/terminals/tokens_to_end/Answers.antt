@@ -5,7 +5,7 @@ use Rattle.wire_parts.specs.TerminalViews.{terminals_of as terminals_left}
 use Rattle.edit_rules.specs.NetEdits.{front_of}
 use Rattle.def_splice.proofs.TerminalLemmas.{end_is, left_within}
 use Rattle.def_splice.proofs.TokenLemmas.{pieces_counted}
-use Rattle.def_splice.proofs.net_terminals.tokens_to_end.Goals as goal
+use Rattle.def_splice.proofs.terminals.tokens_to_end.Goals as goal
 
 pub overflow_sub-result : goal.overflow_sub-result
 overflow_sub-result c =
