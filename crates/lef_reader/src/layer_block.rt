@@ -8,7 +8,7 @@ ghost use Rattle.lefdef_tokens.specs.Views.{pieces_of, rest_of};
 ghost use Rattle.lef_reader.specs.Parts.{with_rest};
 ghost use Rattle.lef_reader.specs.LayerViews.{LayerAt, layer_view};
 
-use crate::parts::{WordKind, kept_at, only_at, word_to_end_at};
+use crate::parts::{WordKind, kept_at, only_at, told, told_pair, word_to_end_at};
 use lefdef_tokens::{Cursor, Token, TokenRun, is_word};
 
 /// A statement in a block LAYER.
@@ -47,16 +47,18 @@ pub(crate) fn layer_at<'l>(
     if is_word(word.bytes, b"END") {
         Some((LayerStatement::End, later.key(name)?))
     } else if is_word(word.bytes, b"TYPE") {
-        let (word, cursor) = only_at(WordKind::Kept, later)?;
-        Some((LayerStatement::Kind(word), cursor))
+        told(only_at(WordKind::Kept, later), LayerStatement::Kind)
     } else if is_word(word.bytes, b"WIDTH") {
-        let ((width, others), cursor) = word_to_end_at(WordKind::Extent, later)?;
-        Some((LayerStatement::Width(width, others), cursor))
+        told_pair(
+            word_to_end_at(WordKind::Extent, later),
+            LayerStatement::Width,
+        )
     } else if is_word(word.bytes, b"SPACING") {
-        let ((gap, others), cursor) = word_to_end_at(WordKind::Distance, later)?;
-        Some((LayerStatement::Spacing(gap, others), cursor))
+        told_pair(
+            word_to_end_at(WordKind::Distance, later),
+            LayerStatement::Spacing,
+        )
     } else {
-        let ((word, others), cursor) = kept_at(cursor)?;
-        Some((LayerStatement::Kept(word, others), cursor))
+        told_pair(kept_at(cursor), LayerStatement::Kept)
     }
 }

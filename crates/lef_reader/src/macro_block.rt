@@ -9,7 +9,7 @@ ghost use Rattle.statement_reader.specs.Endings.{ending_view};
 ghost use Rattle.lef_reader.specs.Parts.{with_rest};
 ghost use Rattle.lef_reader.specs.MacroViews.{HeaderAt, MacroAt, header_view, macro_view};
 
-use crate::parts::{WordKind, block_ending, kept_at, size_at, word_to_end_at};
+use crate::parts::{WordKind, block_ending, kept_at, size_at, told, told_pair, word_to_end_at};
 use crate::point::{Point, only_point_at};
 use lefdef_tokens::{Cursor, Token, TokenRun, is_word};
 use statement_reader::boundary::Ending;
@@ -84,8 +84,7 @@ fn header_at<'l>(cursor: Cursor<'l>) -> Option<(InnerHeader<'l>, Cursor<'l>)>
 {
     let (word, later) = cursor.next()?;
     if is_word(word.bytes, b"PIN") {
-        let (name, cursor) = later.name()?;
-        Some((InnerHeader::Pin(name), cursor))
+        told(later.name(), InnerHeader::Pin)
     } else if is_word(word.bytes, b"OBS") {
         Some((InnerHeader::Obstruction, later))
     } else if is_word(word.bytes, b"DENSITY") {
@@ -108,22 +107,16 @@ pub(crate) fn macro_at<'l>(
     if is_word(word.bytes, b"END") {
         Some((MacroStatement::End, later.key(name)?))
     } else if is_word(word.bytes, b"CLASS") {
-        let ((word, others), cursor) = word_to_end_at(WordKind::Kept, later)?;
-        Some((MacroStatement::Class(word, others), cursor))
+        told_pair(word_to_end_at(WordKind::Kept, later), MacroStatement::Class)
     } else if is_word(word.bytes, b"SIZE") {
-        let ((width, height), cursor) = size_at(later)?;
-        Some((MacroStatement::Size(width, height), cursor))
+        told_pair(size_at(later), MacroStatement::Size)
     } else if is_word(word.bytes, b"ORIGIN") {
-        let (point, cursor) = only_point_at(later)?;
-        Some((MacroStatement::Origin(point), cursor))
+        told(only_point_at(later), MacroStatement::Origin)
     } else if is_word(word.bytes, b"SITE") {
-        let ((name, others), cursor) = word_to_end_at(WordKind::Name, later)?;
-        Some((MacroStatement::Site(name, others), cursor))
+        told_pair(word_to_end_at(WordKind::Name, later), MacroStatement::Site)
     } else if is_inner_header(word.bytes) {
-        let (header, cursor) = header_at(cursor)?;
-        Some((MacroStatement::Opens(header), cursor))
+        told(header_at(cursor), MacroStatement::Opens)
     } else {
-        let ((word, others), cursor) = kept_at(cursor)?;
-        Some((MacroStatement::Kept(word, others), cursor))
+        told_pair(kept_at(cursor), MacroStatement::Kept)
     }
 }

@@ -9,7 +9,7 @@ ghost use Rattle.statement_reader.specs.Endings.{ending_view};
 ghost use Rattle.lef_reader.specs.Parts.{with_rest};
 ghost use Rattle.lef_reader.specs.OutermostViews.{NamedAt, OutermostAt, bare_view, named_view, outermost_view};
 
-use crate::parts::{block_ending, kept_at};
+use crate::parts::{block_ending, kept_at, told, told_pair};
 use lefdef_tokens::{Cursor, Token, TokenRun, is_word};
 use statement_reader::boundary::Ending;
 
@@ -153,13 +153,11 @@ pub(crate) fn outermost_at<'l>(cursor: Cursor<'l>) -> Option<(OutermostStatement
     if is_word(word.bytes, b"END") {
         Some((OutermostStatement::EndLibrary, later.key(b"LIBRARY")?))
     } else if is_named_header(word.bytes) {
-        let (header, cursor) = named_at(cursor)?;
-        Some((OutermostStatement::Named(header), cursor))
+        told(named_at(cursor), OutermostStatement::Named)
     } else if is_bare_header(word.bytes) {
         let (header, cursor) = bare_at(cursor)?;
         Some((OutermostStatement::Bare(header), cursor))
     } else {
-        let ((word, others), cursor) = kept_at(cursor)?;
-        Some((OutermostStatement::Kept(word, others), cursor))
+        told_pair(kept_at(cursor), OutermostStatement::Kept)
     }
 }

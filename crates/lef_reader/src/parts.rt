@@ -1,6 +1,6 @@
 //! Parts that statements of several blocks have.
 
-ghost use Rattle.std.specs.Prelude.{◌≡◌, codes, IfSome};
+ghost use Rattle.std.specs.Prelude.{◌≡◌, codes, None, IfSome, IsSomeAnd, MatchOption};
 ghost use Rattle.form_meanings.specs.Words.{Gives};
 ghost use Rattle.statement_model.specs.Form.{◌◂◌, ◌⨟◌, read};
 ghost use Rattle.lef_grammar.specs.Extents.{bare_block_ending, block_ending, is_array_count, is_distance, is_extent, is_kept_word, kept_statement, size_statement, to_end};
@@ -204,4 +204,31 @@ pub(crate) fn size_at<'l>(cursor: Cursor<'l>) -> Option<((Token<'l>, Token<'l>),
     let (width, cursor) = word_at(WordKind::Extent, cursor)?;
     let (height, cursor) = only_at(WordKind::Extent, cursor.key(b"BY")?)?;
     Some(((width, height), cursor))
+}
+
+/// A part that was found, told as another one.
+#[inline(always)]
+pub(crate) fn told<S, T, B, F: FnOnce(S) -> T>(found: Option<(S, B)>, tell: F) -> Option<(T, B)>
+    requires { F.IsAlwaysCallable tell }
+    ensures { MatchOption found (result ≡ None) (λ x. IsSomeAnd result (λ r. F.post tell x.0 r.0 × (r.1 ≡ x.1))) }
+{
+    match found {
+        Some((said, left)) => Some((tell(said), left)),
+        None => None,
+    }
+}
+
+/// Two parts that were found, told as one.
+#[inline(always)]
+pub(crate) fn told_pair<R, S, T, B, F: FnOnce(R, S) -> T>(
+    found: Option<((R, S), B)>,
+    tell: F,
+) -> Option<(T, B)>
+    requires { F.IsAlwaysCallable tell }
+    ensures { MatchOption found (result ≡ None) (λ x. IsSomeAnd result (λ r. F.post tell x.0.0 x.0.1 r.0 × (r.1 ≡ x.1))) }
+{
+    match found {
+        Some(((first, second), left)) => Some((tell(first, second), left)),
+        None => None,
+    }
 }

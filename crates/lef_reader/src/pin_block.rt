@@ -9,7 +9,7 @@ ghost use Rattle.statement_reader.specs.Endings.{ending_view};
 ghost use Rattle.lef_reader.specs.Parts.{with_rest};
 ghost use Rattle.lef_reader.specs.PinViews.{PinAt, pin_view};
 
-use crate::parts::{block_ending, kept_at};
+use crate::parts::{block_ending, kept_at, told_pair};
 use lefdef_tokens::{Cursor, Token, TokenRun, is_word};
 use statement_reader::boundary::Ending;
 
@@ -55,7 +55,6 @@ pub(crate) fn pin_at<'l>(name: &[u8], cursor: Cursor<'l>) -> Option<(PinStatemen
     } else if is_word(word.bytes, b"PORT") {
         Some((PinStatement::OpensPort, later))
     } else {
-        let ((word, others), cursor) = kept_at(cursor)?;
-        Some((PinStatement::Kept(word, others), cursor))
+        told_pair(kept_at(cursor), PinStatement::Kept)
     }
 }

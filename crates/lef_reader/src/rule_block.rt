@@ -9,7 +9,7 @@ ghost use Rattle.statement_reader.specs.Endings.{ending_view};
 ghost use Rattle.lef_reader.specs.Parts.{with_rest};
 ghost use Rattle.lef_reader.specs.RuleViews.{RuleAt, RuleLayerAt, rule_layer_view, rule_view};
 
-use crate::parts::{WordKind, block_ending, kept_at, only_at};
+use crate::parts::{WordKind, block_ending, kept_at, only_at, told, told_pair};
 use lefdef_tokens::{Cursor, Token, TokenRun, is_word};
 use statement_reader::boundary::Ending;
 
@@ -81,16 +81,13 @@ pub(crate) fn rule_at<'l>(
     if is_word(word.bytes, b"END") {
         Some((RuleStatement::End, later.key(name)?))
     } else if is_word(word.bytes, b"LAYER") {
-        let (name, cursor) = later.name()?;
-        Some((RuleStatement::OpensLayer(name), cursor))
+        told(later.name(), RuleStatement::OpensLayer)
     } else if is_word(word.bytes, b"VIA") {
-        let (name, cursor) = later.name()?;
-        Some((RuleStatement::OpensVia(name), cursor))
+        told(later.name(), RuleStatement::OpensVia)
     } else if is_word(word.bytes, b"SPACING") {
         Some((RuleStatement::OpensSpacing, later))
     } else {
-        let ((word, others), cursor) = kept_at(cursor)?;
-        Some((RuleStatement::Kept(word, others), cursor))
+        told_pair(kept_at(cursor), RuleStatement::Kept)
     }
 }
 
@@ -107,10 +104,8 @@ pub(crate) fn rule_layer_at<'l>(
     if is_word(word.bytes, b"END") {
         Some((RuleLayerStatement::End, later.key(name)?))
     } else if is_word(word.bytes, b"WIDTH") {
-        let (width, cursor) = only_at(WordKind::Extent, later)?;
-        Some((RuleLayerStatement::Width(width), cursor))
+        told(only_at(WordKind::Extent, later), RuleLayerStatement::Width)
     } else {
-        let ((word, others), cursor) = kept_at(cursor)?;
-        Some((RuleLayerStatement::Kept(word, others), cursor))
+        told_pair(kept_at(cursor), RuleLayerStatement::Kept)
     }
 }

@@ -8,7 +8,7 @@ ghost use Rattle.lefdef_tokens.specs.Views.{pieces_of, rest_of};
 ghost use Rattle.lef_reader.specs.Parts.{with_rest};
 ghost use Rattle.lef_reader.specs.SiteViews.{SiteAt, site_view};
 
-use crate::parts::{kept_at, size_at};
+use crate::parts::{kept_at, size_at, told_pair};
 use lefdef_tokens::{Cursor, Token, TokenRun, is_word};
 
 /// A statement in a block SITE.
@@ -43,10 +43,8 @@ pub(crate) fn site_at<'l>(
     if is_word(word.bytes, b"END") {
         Some((SiteStatement::End, later.key(name)?))
     } else if is_word(word.bytes, b"SIZE") {
-        let ((width, height), cursor) = size_at(later)?;
-        Some((SiteStatement::Size(width, height), cursor))
+        told_pair(size_at(later), SiteStatement::Size)
     } else {
-        let ((word, others), cursor) = kept_at(cursor)?;
-        Some((SiteStatement::Kept(word, others), cursor))
+        told_pair(kept_at(cursor), SiteStatement::Kept)
     }
 }

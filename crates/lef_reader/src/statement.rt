@@ -1,6 +1,6 @@
 //! The statements of a LEF text, by their block.
 
-ghost use Rattle.std.specs.Prelude.{◌≡◌, None, IfSome, IsSomeAnd, MatchOption};
+ghost use Rattle.std.specs.Prelude.{◌≡◌, IfSome};
 ghost use Rattle.form_meanings.specs.Words.{Gives};
 ghost use Rattle.statement_model.specs.Form.{read, whole};
 ghost use Rattle.lef_grammar.specs.LefRecords.{block_after, in_kept, in_macro, in_pin, in_port, in_rule, in_via, lef, lef_statement, opened_in_macro, opened_in_pin, opened_in_rule, opened_outside, outside};
@@ -23,6 +23,7 @@ use crate::kept_blocks::{KeptBlock, KeptStatement, RuleHeader, kept_block_at};
 use crate::layer_block::{LayerStatement, layer_at};
 use crate::macro_block::{InnerHeader, MacroStatement, macro_at};
 use crate::outermost::{BareHeader, NamedHeader, OutermostStatement, outermost_at};
+use crate::parts::told;
 use crate::pin_block::{PinStatement, pin_at};
 use crate::port_block::{PortStatement, port_at};
 use crate::rule_block::{RuleLayerStatement, RuleStatement, rule_at, rule_layer_at};
@@ -247,18 +248,6 @@ fn after_in_kept<'l>(block: Block<'l>, statement: &KeptStatement<'l>) -> Block<'
     match block {
         Block::Kept(kept) => Block::Kept(kept.after(statement)),
         _ => block,
-    }
-}
-
-/// A part that was found, told as another one.
-#[inline(always)]
-fn told<S, T, B, F: FnOnce(S) -> T>(found: Option<(S, B)>, tell: F) -> Option<(T, B)>
-    requires { F.IsAlwaysCallable tell }
-    ensures { MatchOption found (result ≡ None) (λ x. IsSomeAnd result (λ r. F.post tell x.0 r.0 × (r.1 ≡ x.1))) }
-{
-    match found {
-        Some((said, left)) => Some((tell(said), left)),
-        None => None,
     }
 }
 

@@ -12,7 +12,8 @@ ghost use Rattle.lef_reader.specs.Parts.{CornersAt, corners_view, with_rest};
 ghost use Rattle.lef_reader.specs.ViaViews.{CutsAt, FourAt, MetalsAt, ShapeAt, ThreeAt, ViaAt, cuts_view, four_view, metals_view, shape_view, stage_view, three_view, via_view};
 
 use crate::parts::{
-    WordKind, block_ending, kept_at, only_at, to_end_at, two_at, word_at, word_to_end_at,
+    WordKind, block_ending, kept_at, only_at, to_end_at, told, told_pair, two_at, word_at,
+    word_to_end_at,
 };
 use crate::point::{Corners, corners_at};
 use lefdef_tokens::{Cursor, Token, TokenRun, is_word};
@@ -185,14 +186,11 @@ fn shape_at<'l>(stage: ViaStage, cursor: Cursor<'l>) -> Option<(ViaShape<'l>, Cu
 {
     let (word, later) = cursor.next()?;
     if is_word(word.bytes, b"LAYER") {
-        let ((name, others), cursor) = word_to_end_at(WordKind::Name, later)?;
-        Some((ViaShape::Layer(name, others), cursor))
+        told_pair(word_to_end_at(WordKind::Name, later), ViaShape::Layer)
     } else if is_word(word.bytes, b"RECT") {
-        let (corners, cursor) = via_corners_at(stage, later)?;
-        Some((ViaShape::Rect(corners), cursor))
+        told(via_corners_at(stage, later), ViaShape::Rect)
     } else if is_word(word.bytes, b"POLYGON") {
-        let (others, cursor) = to_end_at(later)?;
-        Some((ViaShape::Polygon(others), cursor))
+        told(to_end_at(later), ViaShape::Polygon)
     } else {
         None
     }
@@ -206,17 +204,13 @@ fn cuts_at<'l>(cursor: Cursor<'l>) -> Option<(ViaCuts<'l>, Cursor<'l>)>
 {
     let (word, later) = cursor.next()?;
     if is_word(word.bytes, b"VIARULE") {
-        let (name, cursor) = only_at(WordKind::Name, later)?;
-        Some((ViaCuts::Rule(name), cursor))
+        told(only_at(WordKind::Name, later), ViaCuts::Rule)
     } else if is_word(word.bytes, b"CUTSIZE") {
-        let ((x, y), cursor) = two_at(WordKind::Extent, later)?;
-        Some((ViaCuts::Size(x, y), cursor))
+        told_pair(two_at(WordKind::Extent, later), ViaCuts::Size)
     } else if is_word(word.bytes, b"CUTSPACING") {
-        let ((x, y), cursor) = two_at(WordKind::Extent, later)?;
-        Some((ViaCuts::Spacing(x, y), cursor))
+        told_pair(two_at(WordKind::Extent, later), ViaCuts::Spacing)
     } else if is_word(word.bytes, b"ROWCOL") {
-        let ((rows, columns), cursor) = two_at(WordKind::ArrayCount, later)?;
-        Some((ViaCuts::RowCol(rows, columns), cursor))
+        told_pair(two_at(WordKind::ArrayCount, later), ViaCuts::RowCol)
     } else {
         None
     }
@@ -258,17 +252,13 @@ fn metals_at<'l>(cursor: Cursor<'l>) -> Option<(ViaMetals<'l>, Cursor<'l>)>
 {
     let (word, later) = cursor.next()?;
     if is_word(word.bytes, b"LAYERS") {
-        let (layers, cursor) = layers_at(later)?;
-        Some((ViaMetals::Layers(layers), cursor))
+        told(layers_at(later), ViaMetals::Layers)
     } else if is_word(word.bytes, b"ENCLOSURE") {
-        let (distances, cursor) = four_at(later)?;
-        Some((ViaMetals::Enclosure(distances), cursor))
+        told(four_at(later), ViaMetals::Enclosure)
     } else if is_word(word.bytes, b"ORIGIN") {
-        let ((x, y), cursor) = two_at(WordKind::Distance, later)?;
-        Some((ViaMetals::Origin(x, y), cursor))
+        told_pair(two_at(WordKind::Distance, later), ViaMetals::Origin)
     } else if is_word(word.bytes, b"OFFSET") {
-        let (distances, cursor) = four_at(later)?;
-        Some((ViaMetals::Offset(distances), cursor))
+        told(four_at(later), ViaMetals::Offset)
     } else {
         None
     }
@@ -290,16 +280,12 @@ pub(crate) fn via_at<'l>(
     } else if continues_via(stage, word.bytes) {
         Some((ViaStatement::HeaderWord(word), later))
     } else if is_via_shape(word.bytes) {
-        let (shape, cursor) = shape_at(stage, cursor)?;
-        Some((ViaStatement::Shape(shape), cursor))
+        told(shape_at(stage, cursor), ViaStatement::Shape)
     } else if is_via_cuts(word.bytes) {
-        let (cuts, cursor) = cuts_at(cursor)?;
-        Some((ViaStatement::Cuts(cuts), cursor))
+        told(cuts_at(cursor), ViaStatement::Cuts)
     } else if is_via_metals(word.bytes) {
-        let (metals, cursor) = metals_at(cursor)?;
-        Some((ViaStatement::Metals(metals), cursor))
+        told(metals_at(cursor), ViaStatement::Metals)
     } else {
-        let ((word, others), cursor) = kept_at(cursor)?;
-        Some((ViaStatement::Kept(word, others), cursor))
+        told_pair(kept_at(cursor), ViaStatement::Kept)
     }
 }
