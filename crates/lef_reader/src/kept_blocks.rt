@@ -10,7 +10,7 @@ ghost use Rattle.statement_reader.specs.Endings.{ending_view};
 ghost use Rattle.lef_reader.specs.Parts.{with_rest};
 ghost use Rattle.lef_reader.specs.KeptViews.{KeptAt, header_view, kept_block_view, kept_view};
 
-use crate::parts::{bare_block_ending, block_ending, kept_at};
+use crate::parts::{bare_block_ending, block_ending, kept_at, told_pair};
 use lefdef_tokens::{Cursor, Token, TokenRun, is_word};
 use statement_reader::boundary::Ending;
 
@@ -133,8 +133,7 @@ fn closed_alone_at<'l>(cursor: Cursor<'l>) -> Option<(KeptStatement<'l>, Cursor<
     if cursor.next_is(b"END") {
         Some((KeptStatement::End, cursor.key(b"END")?))
     } else {
-        let ((word, others), cursor) = kept_at(cursor)?;
-        Some((KeptStatement::Kept(word, others), cursor))
+        told_pair(kept_at(cursor), KeptStatement::Kept)
     }
 }
 
@@ -169,8 +168,7 @@ fn generating_at<'l>(
     } else if header.continues(word.bytes) {
         Some((KeptStatement::Lone(word), later))
     } else {
-        let ((word, others), cursor) = kept_at(cursor)?;
-        Some((KeptStatement::Kept(word, others), cursor))
+        told_pair(kept_at(cursor), KeptStatement::Kept)
     }
 }
 

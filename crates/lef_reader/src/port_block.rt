@@ -9,7 +9,7 @@ ghost use Rattle.lefdef_tokens.specs.Views.{pieces_of, rest_of};
 ghost use Rattle.lef_reader.specs.Parts.{with_rest, words_view};
 ghost use Rattle.lef_reader.specs.PortViews.{MaskedArrayAt, PortAt, RectAt, port_view, rect_view};
 
-use crate::parts::{WordKind, kept_at, to_end_at, word_to_end_at};
+use crate::parts::{WordKind, kept_at, to_end_at, told, told_pair, word_to_end_at};
 use crate::point::{Corners, corners_at, mask_at};
 use lefdef_tokens::{Cursor, Token, TokenRun, is_word};
 
@@ -93,14 +93,12 @@ fn rect_at<'l>(has_layer: bool, cursor: Cursor<'l>) -> Option<(PortRect<'l>, Cur
         return None;
     }
     if cursor.next_is(b"ITERATE") {
-        let (others, cursor) = to_end_at(cursor.key(b"ITERATE")?)?;
-        return Some((PortRect::Array(others), cursor));
+        return told(to_end_at(cursor.key(b"ITERATE")?), PortRect::Array);
     }
     if let Some(((mask, others), later)) = masked_array_at(cursor) {
         return Some((PortRect::MaskedArray(mask, others), later));
     }
-    let (corners, cursor) = corners_at(cursor)?;
-    Some((PortRect::Corners(corners), cursor))
+    told(corners_at(cursor), PortRect::Corners)
 }
 
 /// A statement in the block.
@@ -116,16 +114,13 @@ pub(crate) fn port_at<'l>(
     if is_word(word.bytes, b"END") {
         Some((PortStatement::End, later))
     } else if is_word(word.bytes, b"LAYER") {
-        let ((name, others), cursor) = word_to_end_at(WordKind::Name, later)?;
-        Some((PortStatement::Layer(name, others), cursor))
+        told_pair(word_to_end_at(WordKind::Name, later), PortStatement::Layer)
     } else if is_word(word.bytes, b"RECT") {
-        let (rect, cursor) = rect_at(has_layer, later)?;
-        Some((PortStatement::Rect(rect), cursor))
+        told(rect_at(has_layer, later), PortStatement::Rect)
     } else if is_port_shape(word.bytes) {
         let (others, cursor) = to_end_at(later)?;
         Some((PortStatement::Shape(word, others), cursor))
     } else {
-        let ((word, others), cursor) = kept_at(cursor)?;
-        Some((PortStatement::Kept(word, others), cursor))
+        told_pair(kept_at(cursor), PortStatement::Kept)
     }
 }
