@@ -110,8 +110,7 @@ impl<'l, A: Allocator + Copy> Library<'l, A> {
     pub fn layer(&self, name: &[u8]) -> Option<LayerId>
         ensures { option_map (λ l. l.0) result ≡ place_among self.now.layers name.now }
     {
-        let place = self.layers.place_of(name)?;
-        Some(LayerId(place))
+        self.layers.place_of(name).map(LayerId)
     }
 
     /// How many layers there are.

@@ -53,9 +53,10 @@ impl<'n: 'l, 'l, A: Allocator + Copy> Definition<'n, A> for Pin<'l, A> {
         _: RandomState,
         inner: &[LefStatement<'n>],
     ) -> Result<Pin<'l, A>, AllocError> {
+        let unchecked = count_unchecked(inner);
         Ok(Pin {
             shapes: shapes_among(alloc, inner)?,
-            unchecked: count_unchecked(inner),
+            unchecked,
         })
     }
 

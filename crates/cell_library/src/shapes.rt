@@ -60,14 +60,11 @@ fn corners_of<'s, 'l>(statement: &'s LefStatement<'l>) -> Option<&'s Corners<'l>
 fn is_unchecked(statement: &LefStatement<'_>) -> bool
     ensures { result ≡ is_unchecked_in (lef_view statement.now) }
 {
-    matches!(
-        statement,
-        LefStatement::InVia(ViaStatement::Shape(ViaShape::Polygon(_)))
-            | LefStatement::InPort(
-                PortStatement::Rect(PortRect::Array(_) | PortRect::MaskedArray(_, _))
-                    | PortStatement::Shape(_, _)
-            )
-    )
+    match statement {
+        LefStatement::InVia(ViaStatement::Shape(ViaShape::Polygon(_))) => true,
+        LefStatement::InPort(statement) => statement.is_unchecked(),
+        _ => false,
+    }
 }
 
 /// The rectangles behind the name of a layer, up to the next.

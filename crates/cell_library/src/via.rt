@@ -206,9 +206,10 @@ impl<'n: 'l, 'l, A: Allocator + Copy> Definition<'n, A> for Via<'l, A> {
         _: RandomState,
         inner: &[LefStatement<'n>],
     ) -> Result<Via<'l, A>, AllocError> {
+        let unchecked = count_unchecked(inner);
         Ok(Via {
             body: read_body(alloc, inner)?,
-            unchecked: count_unchecked(inner),
+            unchecked,
         })
     }
 

@@ -11,5 +11,5 @@ returns g c = λ name.
     let recs = records_view c.args.inner.now in
     let says = all_say port_record port_layer_of port_rect_of is_unchecked pin_record pin_says recs c.requires in
     let shapes = c.in_ok-shapes_among.ensures ∙ same_shapes port_record port_layer_of port_rect_of is_unchecked recs says in
-    let count = c.count_unchecked.ensures.count ∙ same_count port_record port_layer_of port_rect_of is_unchecked recs says in
+    let count = c.count_unchecked-unchecked.ensures.count ∙ same_count port_record port_layer_of port_rect_of is_unchecked recs says in
     rw (pin_exact recs c.requires, shapes, count) refl

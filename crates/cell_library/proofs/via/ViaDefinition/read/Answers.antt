@@ -9,5 +9,5 @@ pub returns : goal.returns
 returns g c = λ name.
     let recs = records_view c.args.inner.now in
     let says = all_say via_record via_layer_of via_rect_of is_via_polygon via_record via_says recs c.requires in
-    let count = c.count_unchecked.ensures.count ∙ same_count via_record via_layer_of via_rect_of is_via_polygon recs says in
+    let count = c.count_unchecked-unchecked.ensures.count ∙ same_count via_record via_layer_of via_rect_of is_via_polygon recs says in
     rw (c.in_ok-read_body.ensures, count) refl
