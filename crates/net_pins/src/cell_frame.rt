@@ -25,22 +25,6 @@ pub(crate) struct CellFrame {
     ghost boundary_near: { IsNearRectangle (rectangle_of boundary) },
 }
 
-/// Where a macro moves its geometry to.
-fn origin_of<A: Allocator + Copy>(cell: MacroView<'_, '_, A>, scale: Scale) -> Point
-    ensures is { result ≡ point_or_0 (units_of scale) (cell_view cell.entry).cell.origin }
-    ensures near { IsPointWithin 100000000000 result }
-{
-    cell.origin(scale.per_micron())
-}
-
-/// The boundary of a macro: one without `SIZE` is a point.
-fn boundary_of<A: Allocator + Copy>(cell: MacroView<'_, '_, A>, scale: Scale) -> Rect
-    ensures is { rectangle_of result ≡ spanned origin (point_or_0 (units_of scale) (cell_view cell.entry).cell.size) }
-    ensures near { IsNearRectangle (rectangle_of result) }
-{
-    span(Point { x: 0, y: 0 }, cell.size(scale.per_micron()))
-}
-
 impl CellFrame {
     /// That of a macro.
     pub(crate) fn of<A: Allocator + Copy>(cell: MacroView<'_, '_, A>, scale: Scale) -> CellFrame
@@ -50,8 +34,9 @@ impl CellFrame {
     {
         CellFrame {
             scale,
-            origin: origin_of(cell, scale),
-            boundary: boundary_of(cell, scale),
+            origin: cell.origin(scale.per_micron()),
+            // (one without `SIZE` is a point)
+            boundary: span(Point { x: 0, y: 0 }, cell.size(scale.per_micron())),
         }
     }
 }

@@ -1,7 +1,7 @@
 //! Where the shapes of a macro lie for a component that is placed (LEF/DEF 5.8 Language Reference, "Components").
 
 ghost use Rattle.std.specs.Prelude.{◌≡◌};
-ghost use Rattle.design_model.specs.Geometry.{IsNearRectangle, moved, placed};
+ghost use Rattle.design_model.specs.Geometry.{moved, placed};
 ghost use Rattle.design_model.specs.Ranges.{IsPointWithin};
 ghost use Rattle.design_model.specs.Views.{rectangle_of};
 ghost use Rattle.lef_grammar.specs.Measures.{rectangle_in};
@@ -25,18 +25,6 @@ pub(crate) struct CellPlace {
     ghost place_near: { IsPointWithin 2147483648 at },
 }
 
-/// Where a component stands, in database units.
-#[inline(always)]
-fn place_of_spot(spot: Spot) -> Point
-    ensures is { result ≡ place_of_spot spot }
-    ensures near { IsPointWithin 2147483648 result }
-{
-    Point {
-        x: spot.x as i64,
-        y: spot.y as i64,
-    }
-}
-
 impl CellPlace {
     /// That of a macro for a component that stands there.
     #[inline(always)]
@@ -48,18 +36,11 @@ impl CellPlace {
         CellPlace {
             frame,
             orient: spot.orient,
-            at: place_of_spot(spot),
+            at: Point {
+                x: spot.x as i64,
+                y: spot.y as i64,
+            },
         }
-    }
-
-    /// Where the macro has a rectangle, before the component is placed.
-    #[inline(always)]
-    fn in_macro(self, rects: &mut LastRects, rectangle: MicronRect) -> Rect
-        ensures is { rectangle_of result ≡ moved self.frame.origin.x self.frame.origin.y (rectangle_in (units_of self.frame.scale) (rectangle_view rectangle)) }
-        ensures near { IsNearRectangle (rectangle_of result) }
-    {
-        let rect = rects.in_units(rectangle, self.frame.scale);
-        move_by(rect, self.frame.origin)
     }
 
     /// Where a rectangle of the macro lies.
@@ -67,11 +48,8 @@ impl CellPlace {
     pub(crate) fn place(self, rects: &mut LastRects, rectangle: MicronRect) -> Rect
         ensures { rectangle_of result ≡ placed self.orient (rectangle_of self.frame.boundary) self.at (moved self.frame.origin.x self.frame.origin.y (rectangle_in (units_of self.frame.scale) (rectangle_view rectangle))) }
     {
-        place_rect(
-            self.orient,
-            self.frame.boundary,
-            self.at,
-            self.in_macro(rects, rectangle),
-        )
+        let rect = rects.in_units(rectangle, self.frame.scale);
+        let moved = move_by(rect, self.frame.origin);
+        place_rect(self.orient, self.frame.boundary, self.at, moved)
     }
 }

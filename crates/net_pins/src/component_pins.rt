@@ -64,6 +64,6 @@ pub(crate) fn put_component_pin<A: Allocator + Copy>(
     if !has_shape(layers, pin.pin.shapes.as_slice()) {
         return Ok(());
     }
-    nets.begin_part(true)?;
+    or_error!(nets.begin_part(true));
     put_placed(pin, component, layers, rects, nets)
 }

@@ -7,6 +7,7 @@ ghost use Rattle.net_pins.specs.FoundPins.{AreKept, IsFound, IsKept, found_pin};
 
 use crate::cell_frame::CellFrame;
 use crate::found_pin::FoundPin;
+use crate::pushing::push;
 use cell_library::library::Library;
 use design_wires::scale::Scale;
 use std::alloc::{AllocError, Allocator, Global};
@@ -72,7 +73,9 @@ fn pin_in<'a, 'l, 't, A: Allocator + Copy>(
 ) -> Option<FoundPin<'a, 'l, 't, A>>
     ensures { (library : TheLibrary) → AreKept library slots.now → IfSome result (IsFound library cell.now name.now (units_of scale)) }
 {
-    let pin = slots.get(slot)?;
+    let Some(pin) = slots.get(slot) else {
+        return None;
+    };
     if pin.is_of(scale, cell, name) {
         Some(*pin)
     } else {
@@ -90,8 +93,12 @@ fn look_up<'a, 'l, 't, A: Allocator + Copy>(
     ensures found { MatchOption result (found_pin library.entry.now cell.entry.now name.entry.now ≡ None) (IsFound library.entry.now cell.entry.now name.entry.now (units_of scale)) }
     ensures kept { IfSome result (IsKept library.entry.now) }
 {
-    let view = library.macro_of(cell)?;
-    let pin = view.pin(name)?;
+    let Some(view) = library.macro_of(cell) else {
+        return None;
+    };
+    let Some(pin) = view.pin(name) else {
+        return None;
+    };
     Some(FoundPin {
         cell,
         name,
@@ -108,7 +115,7 @@ fn fill<'a, 'l, 't, A: Allocator + Copy>(
     ensures { (library : TheLibrary) → AreKept library slots.old.items → IsKept library pin.entry → AreKept library slots.new.items }
 {
     for _ in slots.len()..SLOTS {
-        slots.push(pin)?;
+        or_error!(push(slots, pin));
     }
     Ok(())
 }
@@ -124,7 +131,7 @@ fn keep<'a, 'l, 't, A: Allocator + Copy>(
     if slots.len() <= slot {
         return fill(slots, pin);
     }
-    slots.push(pin)?;
+    or_error!(push(slots, pin));
     slots.swap_remove(slot);
     Ok(())
 }
@@ -152,11 +159,11 @@ impl<'a, 'l, 't, A: Allocator + Copy> LastPins<'a, 'l, 't, A> {
         ensures found { IfOk result (λ found. MatchOption found (found_pin self.old cell.entry.now name.entry.now ≡ None) (IsFound self.old cell.entry.now name.entry.now (units_of scale))) }
         ensures same { self.new ≡ self.old }
     {
-        let found = look_up(self.library, scale, cell, name);
-        if let Some(pin) = found {
-            keep(&mut self.slots, slot, pin)?;
-        }
-        Ok(found)
+        let Some(pin) = look_up(self.library, scale, cell, name) else {
+            return Ok(None);
+        };
+        or_error!(keep(&mut self.slots, slot, pin));
+        Ok(Some(pin))
     }
 
     /// The pin of a name of the macro of a name, with the macro at a scale.

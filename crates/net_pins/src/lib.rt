@@ -15,6 +15,16 @@
 //! The one error is `AllocError`; then pins of the net may be missing.
 #![tactic(auto)]
 
+/// What `?` does with a `Result` whose error is the caller's. Written as a `match` it has less to prove at each way out.
+macro_rules! or_error {
+    ($result:expr) => {
+        match $result {
+            Ok(value) => value,
+            Err(error) => return Err(error),
+        }
+    };
+}
+
 mod cell_frame;
 mod cell_place;
 mod component_pins;
@@ -29,6 +39,7 @@ mod pin_walk;
 mod pins;
 mod port_place;
 mod ports;
+mod pushing;
 mod seen_pins;
 mod sources;
 

@@ -64,7 +64,7 @@ fn put_rectangles<A: Allocator + Copy>(
     ensures part { OnOk result (HasPart nets.new) }
 {
     for rectangle in rectangles {
-        nets.push_shape(layer, place.place(rects, *rectangle))?;
+        or_error!(nets.push_shape(layer, place.place(rects, *rectangle)));
     }
     Ok(())
 }
@@ -104,7 +104,7 @@ pub(crate) fn put_shapes<A: Allocator + Copy>(
     ensures same { layers.new ≡ layers.old }
 {
     for layer in shapes {
-        put_layer(layers, place, layer, rects, nets)?;
+        or_error!(put_layer(layers, place, layer, rects, nets));
     }
     Ok(())
 }

@@ -25,5 +25,5 @@ returns-clause-ok g c = λ m framed.
     on_ok_weaker _
     (counted_so (component_pin c.args.layers.now u (component_view c.args.component.now) m p) c.args.nets.now c.begin_part.new.self c.put_placed.new.nets
     (counts_so c.args.layers.now u m p c.has_shape.result true
-    (c.has_shape.ensures.value u (point_or_0 u m.origin) ∙ ap (λ ss. is_some_shape (all_checked u (point_or_0 u m.origin) c.args.layers.now.layers (map shapes_view ss))) c.as_slice.ensures) (search rules)) c.in_ok-begin_part.ensures.ok)
+    (c.has_shape.ensures.value u (point_or_0 u m.origin) ∙ ap (λ ss. is_some_shape (all_checked u (point_or_0 u m.origin) c.args.layers.now.layers (map shapes_view ss))) c.as_slice.ensures) (search rules)) c.in-Ok.ensures.ok)
     (rw (c.has_shape.ensures.same) at (c.put_placed.ensures.ok m framed))

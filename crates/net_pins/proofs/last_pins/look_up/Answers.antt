@@ -6,7 +6,7 @@ use Rattle.net_pins.proofs.last_pins.look_up.Goals as goal
 
 pub returns-clause-found : goal.returns-clause-found
 returns-clause-found g c =
-    looked_up c.args.library.now c.args.cell.now c.args.name.now (cell_view c.in_ok-view.view) (units_of c.args.scale) _ c.in_ok-view.ensures c.in_ok-pin.ensures (ap units_of c.of.ensures.scale) c.of.ensures.origin c.of.ensures.boundary
+    looked_up c.args.library.now c.args.cell.now c.args.name.now (cell_view c.in-Some.view) (units_of c.args.scale) _ c.in-Some.ensures c.in-Some-pin.ensures (ap units_of c.of.ensures.scale) c.of.ensures.origin c.of.ensures.boundary
 
 pub returns-clause-kept : goal.returns-clause-kept
 returns-clause-kept g c = at_own_scale c.args.library.now c.args.cell.now c.args.name.now (units_of c.args.scale) _ (returns-clause-found g c)

@@ -12,8 +12,8 @@ loop-layer-preserved g c =
     let same = c.loop-layer.invariant.same in
     let there = split_at c.args.shapes.now i c.layer-item.result c.loop-layer-test.true c.layer-item.is in
     record {
-      same = c.in_ok-put_layer.ensures.same ∙ same;
+      same = c.in-Ok.ensures.same ∙ same;
       puts =
           more_put (layer_placed c.args.place layers (shapes_view c.layer-item.result)) (all_placed c.args.place layers (map shapes_view (drop (i + 1) c.args.shapes.now)))
-          (ap (λ ss. all_placed c.args.place layers (map shapes_view ss)) there) c.loop-layer.invariant.puts (rw same at c.in_ok-put_layer.ensures.ok) c.in_ok-put_layer.ensures.part;
+          (ap (λ ss. all_placed c.args.place layers (map shapes_view ss)) there) c.loop-layer.invariant.puts (rw same at c.in-Ok.ensures.ok) c.in-Ok.ensures.part;
     }
