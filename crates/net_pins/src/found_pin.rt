@@ -7,15 +7,22 @@ use crate::cell_frame::CellFrame;
 use cell_library::pin::Pin;
 use design_wires::scale::Scale;
 use lefdef_tokens::is_word;
-use std::alloc::{Allocator, Global};
+use std::alloc::{AllocError, Allocator, Global};
 
 /// A pin of a macro, the names by which it was found, and the macro in database units.
-#[derive(Clone, Copy, Drop)]
+#[derive(Copy, Drop)]
 pub(crate) struct FoundPin<'a, 'l, 't, A: Allocator = Global> {
     pub(crate) cell: &'t [u8],
     pub(crate) name: &'t [u8],
     pub(crate) frame: CellFrame,
     pub(crate) pin: &'a Pin<'l, A>,
+}
+
+// (written out: a derived one copies each field by a call that can fail)
+impl<'a, 'l, 't, A: Allocator + Copy> Clone for FoundPin<'a, 'l, 't, A> {
+    fn clone(&self) -> Result<FoundPin<'a, 'l, 't, A>, AllocError> {
+        Ok(*self)
+    }
 }
 
 impl<'a, 'l, 't, A: Allocator + Copy> FoundPin<'a, 'l, 't, A> {
