@@ -87,7 +87,7 @@ fn put_via<'a, 'l: 'a, 'r: 'a, 't: 'a, A: Allocator + Copy>(
     let mut shapes = of.via_shapes(via.name.bytes);
     while let Some(shape) = shapes.next() {
         let rect = place.place(via_rectangle(shape.rect, at));
-        put_named(layers, shape.layer, rect, nets)?;
+        or_error!(put_named(layers, shape.layer, rect, nets));
     }
     Ok(())
 }
@@ -138,7 +138,7 @@ fn put_ports<'a, 'l: 'a, 'r: 'a, 't: 'a, A: Allocator + Copy>(
         if is_port(&clause) {
             place = place_ahead(&left);
         } else {
-            put_clause(of, &clause, place, layers, nets)?;
+            or_error!(put_clause(of, &clause, place, layers, nets));
         }
     }
     Ok(())

@@ -13,11 +13,11 @@ loop-clause-preserved g c =
     let vias = vias_in c.args.of.now in
     let place = option_map port_place_view c.loop-clause.place in
     record {
-      known = c.in_ok-put_clause.ensures.known;
+      known = c.in-Ok.ensures.known;
       puts =
           more_put (checked_named layers (clause_if vias place (pin_clause_view c.in-Some.clause))) (checked_named layers (shapes_left vias place (pin_clauses_of c.next.new.self)))
           (clause_left layers vias place (pin_clauses_of c.loop-clause.left) (pin_clauses_of c.next.new.self) (pin_clause_view c.in-Some.clause) c.is_port.result c.in-Some.ensures.step c.is_port.ensures c.if-is_port.false)
-          c.loop-clause.invariant.puts c.in_ok-put_clause.ensures.ok c.in_ok-put_clause.ensures.part;
+          c.loop-clause.invariant.puts c.in-Ok.ensures.ok c.in-Ok.ensures.part;
     }
 
 pub returns-clause-ok : goal.returns-clause-ok
