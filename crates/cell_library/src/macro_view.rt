@@ -35,11 +35,18 @@ use std::alloc::{AllocError, Allocator, Global};
 use std::hash::RandomState;
 
 /// A macro of a library, with its name.
-#[derive(Clone, Copy)]
+#[derive(Copy)]
 pub struct MacroView<'a, 'l, A: Allocator = Global> {
     library: &'a Library<'l, A>,
     name: &'l [u8],
     cell: &'a Macro<'l, A>,
+}
+
+// (written out: a derived one copies each field by a call that can fail)
+impl<'a, 'l, A: Allocator + Copy> Clone for MacroView<'a, 'l, A> {
+    fn clone(&self) -> Result<MacroView<'a, 'l, A>, AllocError> {
+        Ok(*self)
+    }
 }
 
 impl<'l, A: Allocator + Copy> Library<'l, A> {

@@ -23,7 +23,6 @@ use std::marker::Model;
 const TALL: usize = 8;
 
 /// Sums of areas by the cells of a grid, layer by layer, in squares of database units.
-#[derive(Drop)]
 pub struct CellSums<A: Allocator = Global> {
     columns: GridLines<A>,
     rows: GridLines<A>,
@@ -33,6 +32,19 @@ pub struct CellSums<A: Allocator = Global> {
     upright: Sheet<A>,
     /// How many rectangles were added, a refused one too: no sum is more than that times 2^64.
     added: u64,
+}
+
+// (written out, so that who owns this is proved over one call)
+impl<A: Allocator> Drop for CellSums<A> {
+    fn drop(self) {
+        let CellSums {
+            columns: _,
+            rows: _,
+            flat: _,
+            upright: _,
+            added: _,
+        } = self;
+    }
 }
 
 impl<A: Allocator> Model for CellSums<A> {

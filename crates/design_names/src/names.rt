@@ -31,12 +31,22 @@ use via_parts::vias::ViaParts;
 type Table<'r, 't, A> = IndexMap<EntryName<'t>, &'r Entry<'t>, RandomState, A>;
 
 /// The statements of a design, with its entries by their names.
-#[derive(Drop)]
 pub struct Names<'r, 't, A: Allocator = Global> {
     records: &'r [Statement<'t>],
     table: Table<'r, 't, A>,
     /// Whether no entry has the section and the name of an earlier one.
     are_apart: bool,
+}
+
+// (written out, so that who owns this is proved over one call)
+impl<A: Allocator> Drop for Names<'_, '_, A> {
+    fn drop(self) {
+        let Names {
+            records: _,
+            table: _,
+            are_apart: _,
+        } = self;
+    }
 }
 
 impl<'r, 't, A: Allocator> Model for Names<'r, 't, A> {

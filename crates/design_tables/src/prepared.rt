@@ -39,9 +39,15 @@ impl From<AllocError> for PrepareError {
 }
 
 /// A change of tables that is prepared.
-#[derive(Drop)]
 pub struct PreparedTables<A: Allocator + Copy = Global> {
     pub(crate) names: NameTable<A>,
+}
+
+// (written out, so that who owns this is proved over one call)
+impl<A: Allocator + Copy> Drop for PreparedTables<A> {
+    fn drop(self) {
+        let PreparedTables { names: _ } = self;
+    }
 }
 
 impl<A: Allocator + Copy> Model for PreparedTables<A> {

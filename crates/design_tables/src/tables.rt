@@ -59,9 +59,15 @@ impl<'a> Numbers<'a> {
 }
 
 /// What stands in a text under each name.
-#[derive(Drop)]
 pub struct Tables<A: Allocator + Copy = Global> {
     pub(crate) names: NameTable<A>,
+}
+
+// (written out, so that who owns this is proved over one call)
+impl<A: Allocator + Copy> Drop for Tables<A> {
+    fn drop(self) {
+        let Tables { names: _ } = self;
+    }
 }
 
 impl<A: Allocator + Copy> Model for Tables<A> {

@@ -6,13 +6,20 @@ ghost use Rattle.design_model.specs.Ranges.{IsSize};
 use crate::makings::NetMakings;
 use crate::special_makings::SpecialMakings;
 use crate::wires::DesignWires;
-use std::alloc::{Allocator, Global};
+use std::alloc::{AllocError, Allocator, Global};
 use wire_reading::{NetMakingsOf, SpecialMakingsOf};
 
 /// What says what wires are made by.
-#[derive(Clone, Copy, Drop)]
+#[derive(Copy, Drop)]
 pub struct DesignMakings<'v, 'a, 'l, 'r, 't, A: Allocator = Global> {
     pub wires: &'v DesignWires<'a, 'l, 'r, 't, A>,
+}
+
+// (written out: a derived one copies each field by a call that can fail)
+impl<'v, 'a, 'l, 'r, 't, A: Allocator + Copy> Clone for DesignMakings<'v, 'a, 'l, 'r, 't, A> {
+    fn clone(&self) -> Result<DesignMakings<'v, 'a, 'l, 'r, 't, A>, AllocError> {
+        Ok(*self)
+    }
 }
 
 impl<'n, 'v: 'n, 'a: 'v, 'l: 'a, 'r: 'a, 't: 'a, A: Allocator + Copy> NetMakingsOf<'n>

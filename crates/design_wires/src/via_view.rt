@@ -7,14 +7,21 @@ ghost use Rattle.design_wires.specs.FoundVias.{found_view, via_found};
 use cell_library::library::Library;
 use cell_library::via_definition::Via;
 use design_names::names::Names;
-use std::alloc::{Allocator, Global};
+use std::alloc::{AllocError, Allocator, Global};
 use via_parts::vias::ViaParts;
 
 /// A via of the design, or one of the library.
-#[derive(Clone, Copy)]
+#[derive(Copy)]
 pub enum ViaView<'a, 'l, 't, A: Allocator = Global> {
     Def(&'a ViaParts<'t>),
     Lef(&'a Via<'l, A>),
+}
+
+// (written out: a derived one copies each field by a call that can fail)
+impl<'a, 'l, 't, A: Allocator + Copy> Clone for ViaView<'a, 'l, 't, A> {
+    fn clone(&self) -> Result<ViaView<'a, 'l, 't, A>, AllocError> {
+        Ok(*self)
+    }
 }
 
 impl<'a, 'l, 't, A: Allocator + Copy> ViaView<'a, 'l, 't, A> {

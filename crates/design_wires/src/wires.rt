@@ -21,10 +21,19 @@ use std::marker::Model;
 use wire_shapes::ViaOn;
 
 /// What the wires of a design are made by. Its vias are found once, with the layers that they join and with their shapes.
-#[derive(Drop)]
 pub struct DesignWires<'a, 'l, 'r, 't, A: Allocator = Global> {
     definitions: Definitions<'a, 'l, 'r, 't, A>,
     vias: Table<'a, A>,
+}
+
+// (written out, so that who owns this is proved over one call)
+impl<A: Allocator> Drop for DesignWires<'_, '_, '_, '_, A> {
+    fn drop(self) {
+        let DesignWires {
+            definitions: _,
+            vias: _,
+        } = self;
+    }
 }
 
 impl<'a, 'l, 'r, 't, A: Allocator> Model for DesignWires<'a, 'l, 'r, 't, A> {

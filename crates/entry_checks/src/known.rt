@@ -12,7 +12,7 @@ use crate::via_layers::joined_layers;
 use cell_library::library::Library;
 use design_model::mode::Section;
 use design_names::names::Names;
-use std::alloc::{Allocator, Global};
+use std::alloc::{AllocError, Allocator, Global};
 
 /// What a library and a design define, kind by kind and name by name.
 pub trait Known {
@@ -56,10 +56,17 @@ pub trait Known {
 }
 
 /// The definitions of a library, and the entries of a design by their names.
-#[derive(Clone, Copy, Drop)]
+#[derive(Copy, Drop)]
 pub struct Defined<'a, 'l, 'r, 't, A: Allocator = Global> {
     pub library: &'a Library<'l, A>,
     pub names: &'a Names<'r, 't, A>,
+}
+
+// (written out: a derived one copies each field by a call that can fail)
+impl<'a, 'l, 'r, 't, A: Allocator + Copy> Clone for Defined<'a, 'l, 'r, 't, A> {
+    fn clone(&self) -> Result<Defined<'a, 'l, 'r, 't, A>, AllocError> {
+        Ok(*self)
+    }
 }
 
 /// Whether a macro is known and has no such pin.

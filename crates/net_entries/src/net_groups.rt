@@ -17,9 +17,15 @@ pub(crate) struct NetGroup<'r, 't, A: Allocator> {
 }
 
 /// The entries of nets, net by net, in the order in which each name came first.
-#[derive(Drop)]
 pub struct NetGroups<'r, 't, A: Allocator = Global> {
     groups: Vec<NetGroup<'r, 't, A>, A>,
+}
+
+// (written out, so that who owns this is proved over one call)
+impl<A: Allocator> Drop for NetGroups<'_, '_, A> {
+    fn drop(self) {
+        let NetGroups { groups: _ } = self;
+    }
 }
 
 impl<'r, 't, A: Allocator> Model for NetGroups<'r, 't, A> {

@@ -23,9 +23,15 @@ pub trait NetPlaces {
 }
 
 /// Names of nets alone, which it copies.
-#[derive(Drop)]
 pub struct NamePlaces<A: Allocator = Global> {
     names: IndexSet<OwnName<A>, RandomState, A>,
+}
+
+// (written out, so that who owns this is proved over one call)
+impl<A: Allocator> Drop for NamePlaces<A> {
+    fn drop(self) {
+        let NamePlaces { names: _ } = self;
+    }
 }
 
 impl<A: Allocator> Model for NamePlaces<A> {

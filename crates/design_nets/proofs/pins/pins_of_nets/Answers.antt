@@ -2,7 +2,6 @@ use Rattle.std.proofs.Common.{rules, map, ap, ◌∙◌}
 use Rattle.connection_rules.specs.NetParts.{Net}
 use Rattle.design_rules.specs.Boxes.{scale}
 use Rattle.name_groups.specs.Groups.{Group}
-use Rattle.net_entries.specs.Places.{net_group_view}
 use Rattle.net_entries.specs.NetEntries.{wired_group}
 use Rattle.net_entries.specs.declared.lent_entry.LentEntry.{LentEntry}
 use Rattle.design_nets.specs.NetGroups.{net_of_group}
@@ -16,9 +15,9 @@ loop-place-preserved g c =
     let library = c.args.library.now in
     let design = c.args.names.now in
     let u = scale design in
-    let gs = map net_group_view c.groups.inside.groups.items in
+    let gs = c.in_ok-groups.groups in
     let group : Group LentEntry = record { name = c.at.result.0.now; members = c.at.result.1.now } in
-    let here = rw (← c.groups.view_is) at c.at.ensures in
+    let here = c.at.ensures in
     let net = rw (c.in_ok-pins.ensures) at c.in_ok-put_pins_alone.ensures.net in
     record {
       walk = rw (c.in_ok-pins.ensures) at c.in_ok-put_pins_alone.ensures.walk;
@@ -30,10 +29,10 @@ returns g c =
     let library = c.args.library.now in
     let design = c.args.names.now in
     let u = scale design in
-    let gs = map net_group_view c.groups.inside.groups.items in
+    let gs = c.in_ok-groups.groups in
     let whole : Group LentEntry → Net = λ x. net_of_group library design u (wired_group library design u x) in
     let one : Group LentEntry → Net = λ x. pins_alone (whole x) in
-    let wired = rw (c.records.ensures, ← c.groups.view_is) at (c.in_ok-groups.ensures.entries.wired library design u) in
+    let wired = rw (c.records.ensures) at (c.in_ok-groups.ensures.entries.wired library design u) in
     no_net_more one gs c.loop-place.place c.loop-place.nets _ c.loop-place.invariant.nets (search rules)
     ∙ (in_two pins_alone whole gs
     ∙ ap (map pins_alone)

@@ -1,6 +1,5 @@
 use Rattle.std.proofs.Common.{◌≡◌, ◌++◌, drop, map}
 use Rattle.design_rules.specs.Boxes.{scale}
-use Rattle.net_entries.specs.Places.{net_group_view}
 use Rattle.net_entries.specs.NetEntries.{wired_group}
 use Rattle.design_nets.specs.NetGroups.{net_of_group}
 use Rattle.design_nets.specs.PinsAlone.{pins_alone}
@@ -10,6 +9,6 @@ abbrev pub invariant-loop-place : goal.invariant-loop-place
 invariant-loop-place g l = record {
   walk : l.walk.layers ≡ l.library;
   nets :
-      l.nets ++ map (λ x. pins_alone (net_of_group l.library l.names (scale l.names) (wired_group l.library l.names (scale l.names) x))) (drop l.place (map net_group_view l.groups-inside.groups.items))
-      ≡ map (λ x. pins_alone (net_of_group l.library l.names (scale l.names) (wired_group l.library l.names (scale l.names) x))) (map net_group_view l.groups-inside.groups.items);
+      l.nets ++ map (λ x. pins_alone (net_of_group l.library l.names (scale l.names) (wired_group l.library l.names (scale l.names) x))) (drop l.place l.groups)
+      ≡ map (λ x. pins_alone (net_of_group l.library l.names (scale l.names) (wired_group l.library l.names (scale l.names) x))) l.groups;
 }
