@@ -1,5 +1,5 @@
 -- The lines of components with others and with rectangles depend on their names and their boxes alone.
-use Rattle.std.proofs.Common.{◌≡◌, ℕ, List, [], ◌∷◌, ◌++◌, map, refl, sym, ap, ap₂, ◌∙◌, arith, subst}
+use Rattle.std.proofs.Common.{◌≡◌, ℕ, List, [], ◌∷◌, ◌++◌, map, refl, ap, ap₂, ◌∙◌, arith, subst}
 use Rattle.std.specs.Prelude.{flat_map}
 use Rattle.design_model.specs.Families.{cross_lines, lines_with, pair_lines}
 use Rattle.design_model.specs.Geometry.{Rectangle}

@@ -5,9 +5,9 @@ pub mod FitLemmas
 pub mod HeightLemmas
 pub mod HullLemmas
 pub mod KeptLemmas
+pub mod Oks
 pub mod PatternLemmas
 pub mod Ranges
 pub mod SkipLemmas
-pub mod StepLemmas
 pub mod SurroundingLemmas
 pub mod SweepLemmas

@@ -15,8 +15,10 @@ use crate::assigned::{Assigned, Starred};
 use crate::groups::Assignment;
 use crate::placed_box::PlacedBox;
 use crate::pushing::put_behind;
+use crate::sought::{Sought, all_equal};
 use place_kernels::patterns::StarredPattern;
 use std::alloc::{AllocError, Allocator, Global};
+use std::cmp::Ordering;
 
 /// The patterns of all groups: those without a star in the order of their bytes, and the others.
 #[derive(Drop)]
@@ -68,7 +70,7 @@ fn push_patterns<'t, A: Allocator>(
 {
     let mut left = assignment.patterns.again();
     while let Some(pattern) = left.next() {
-        push_pattern(pattern.word.bytes, assignment.region, named, starred)?;
+        or_error!(push_pattern(pattern.word.bytes, assignment.region, named, starred));
     }
     Ok(())
 }
@@ -94,7 +96,7 @@ fn push_regions<'t, A: Allocator>(
     ensures { OnOk result (map word_view regions.new.items ≡ map word_view regions.old.items ++ map (λ a. a.region.now) all.now) }
 {
     for assigned in all {
-        put_behind(assigned.region, regions)?;
+        or_error!(put_behind(assigned.region, regions));
     }
     Ok(())
 }
@@ -109,10 +111,34 @@ fn push_matching<'t, A: Allocator>(
 {
     for starred in all {
         if starred.pattern.matches(name) {
-            put_behind(starred.region, regions)?;
+            or_error!(put_behind(starred.region, regions));
         }
     }
     Ok(())
+}
+
+/// The order in which patterns without a star are looked up.
+fn pattern_cmp(a: &Assigned<'_>, b: &Assigned<'_>) -> Ordering
+    ensures { result ≡ slice_cmp nat_cmp a.now.pattern.now b.now.pattern.now }
+{
+    a.pattern.cmp(b.pattern)
+}
+
+/// A name that patterns without a star may be.
+#[derive(Clone, Copy)]
+struct Name<'n> {
+    name: &'n [u8],
+}
+
+impl<'t, 'n> Sought<Assigned<'t>> for Name<'n> {
+    ghost use Rattle.std.specs.Cmp.Lexicographic.{slice_cmp};
+    ghost use Rattle.std.specs.Ordering.{nat_cmp};
+
+    ghost rank = { λ n a. slice_cmp nat_cmp a.pattern.now n.name.now };
+
+    fn rank(&self, assigned: &Assigned<'t>) -> Ordering {
+        assigned.pattern.cmp(self.name)
+    }
 }
 
 impl<'t, A: Allocator + Copy> AssignmentTable<'t, A> {
@@ -131,9 +157,9 @@ impl<'t, A: Allocator + Copy> AssignmentTable<'t, A> {
         let mut named = Vec::new(alloc);
         let mut starred = Vec::new(alloc);
         for assignment in assignments {
-            push_patterns(assignment, &mut named, &mut starred)?;
+            or_error!(push_patterns(assignment, &mut named, &mut starred));
         }
-        named.sort_unstable_by(|a, b| a.pattern.cmp(b.pattern));
+        named.sort_unstable_by(pattern_cmp);
         Ok(AssignmentTable { named, starred })
     }
 
@@ -153,12 +179,7 @@ impl<'t, A: Allocator + Copy> AssignmentTable<'t, A> {
     fn with_name(&self, name: &[u8]) -> &[Assigned<'t>]
         ensures { result.now ≡ filter (λ a. is_eq (slice_cmp nat_cmp a.pattern.now name.now)) self.now.named.items }
     {
-        let start = self
-            .named
-            .partition_point(|assigned| assigned.pattern.cmp(name).is_lt());
-        let named = &self.named[start..];
-        let count = named.partition_point(|assigned| assigned.pattern.cmp(name).is_le());
-        &named[..count]
+        all_equal(&self.named, &Name { name })
     }
 
     /// Puts the regions that a component is assigned to, by itself and by groups, into an empty list. Some may stand there more than once.
@@ -170,9 +191,8 @@ impl<'t, A: Allocator + Copy> AssignmentTable<'t, A> {
         requires { regions.now.items ≡ [] }
         ensures { OnOk result (AreRegionsOf (assignments_view self.now) (boxed_view component.now) (map word_view regions.new.items)) }
     {
-        push_own(regions, component)?;
-        push_regions(regions, self.with_name(component.name))?;
-        push_matching(regions, &self.starred, component.name)?;
-        Ok(())
+        or_error!(push_own(regions, component));
+        or_error!(push_regions(regions, self.with_name(component.name)));
+        push_matching(regions, &self.starred, component.name)
     }
 }

@@ -38,9 +38,8 @@ pub fn put_lines_between<'t, A: Allocator + Copy>(
     overlap_lines_are_unordered();
     crosses_are_unordered();
     sort_boxes(boxes);
-    overlaps_of(boxes, lines)?;
-    blocked_of(boxes, keep_outs, lines)?;
-    Ok(())
+    or_error!(overlaps_of(boxes, lines));
+    blocked_of(boxes, keep_outs, lines)
 }
 
 /// Puts the lines of each of some components with each of others, which stand in the order of a sweep, behind others.
@@ -53,7 +52,7 @@ pub fn put_lines_across<'t, A: Allocator + Copy>(
     ensures { OnOk result (lines.new ≡ lines.old ++ cross_lines overlap_of (map swept_view some.now) (map swept_view others.now)) }
 {
     for one in some {
-        put_above(one, others, lines)?;
+        or_error!(put_above(one, others, lines));
     }
     Ok(())
 }

@@ -43,7 +43,7 @@ pub(crate) fn put_blocked_by<A: Allocator + Copy>(
 {
     let swept = component.swept();
     for rect in keep_outs {
-        put_blocked(&swept, rect, lines)?;
+        or_error!(put_blocked(&swept, rect, lines));
     }
     Ok(())
 }
@@ -57,7 +57,7 @@ pub fn put_blockage<A: Allocator + Copy>(
     ensures { OnOk result (lines.new ≡ lines.old ++ flat_map (λ c. blocked_of c (rectangle_of rect.now)) (map boxed_view components.now)) }
 {
     for component in components {
-        put_blocked(&component.swept(), rect, lines)?;
+        or_error!(put_blocked(&component.swept(), rect, lines));
     }
     Ok(())
 }
@@ -71,7 +71,7 @@ fn put_all_blocked<A: Allocator + Copy>(
     ensures { OnOk result (lines.new ≡ lines.old ++ flat_map (λ c. blocked_of c (rectangle_of rect.now)) (map swept_view boxes.now)) }
 {
     for swept in boxes {
-        put_blocked(swept, rect, lines)?;
+        or_error!(put_blocked(swept, rect, lines));
     }
     Ok(())
 }
@@ -91,7 +91,7 @@ pub(crate) fn blocked_of<A: Allocator + Copy>(
     let tallest = greatest_height(boxes);
     for rect in keep_outs {
         let near = end_above(begin_below(boxes, rect), tallest, rect);
-        put_all_blocked(near, rect, lines)?;
+        or_error!(put_all_blocked(near, rect, lines));
     }
     // Which of the two lists is gone over first makes no difference to the lines.
     crosses_turn();

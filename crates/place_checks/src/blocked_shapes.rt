@@ -68,7 +68,7 @@ fn push_shapes<'t, A: Allocator>(
 {
     let mut left = shapes;
     while let Some(shape) = left.next() {
-        push_shape(&shape, found)?;
+        or_error!(push_shape(&shape, found));
     }
     Ok(())
 }
@@ -80,7 +80,6 @@ pub fn push_rectangles<A: Allocator>(
 ) -> Result<(), AllocError>
     ensures { OnOk result (map rectangle_of found.new.items ≡ map rectangle_of found.old.items ++ blocked_rectangles (blockage_view blockage.now)) }
 {
-    push_shape(&blockage.first, found)?;
-    push_shapes(blockage.others.again(), found)?;
-    Ok(())
+    or_error!(push_shape(&blockage.first, found));
+    push_shapes(blockage.others.again(), found)
 }

@@ -16,6 +16,7 @@ use crate::corners::corner_of;
 use crate::last_macros::LastMacros;
 use crate::outline::Outline;
 use crate::placed_box::PlacedBox;
+use crate::pushing::put_behind;
 use cell_library::library::Library;
 use def_reader::entry::Entry;
 use def_reader::statement::Statement;
@@ -55,17 +56,14 @@ fn component_box<'t, A: Allocator + Copy>(
     ensures value { option_map boxed_view result ≡ component_box macros.old.library macros.old.scale (component_view parts.now) }
     ensures same { macros.new ≡ macros.old }
 {
-    let Some(standing) = parts.standing else {
-        return None;
-    };
-    let Standing::At(spot) = standing else {
+    let Some(Standing::At(spot)) = parts.standing else {
         return None;
     };
     match spot.status {
-        Status::Placed | Status::Fixed => {
-            let outline = macros.outline_of(parts.cell.bytes)?;
-            box_at(&outline, parts, spot)
-        }
+        Status::Placed | Status::Fixed => match macros.outline_of(parts.cell.bytes) {
+            Some(outline) => box_at(&outline, parts, spot),
+            None => None,
+        },
         Status::Cover => None,
     }
 }
@@ -96,12 +94,12 @@ pub fn boxes_among<'t, A: Allocator + Copy>(
     ensures { IfOk result (λ v. map boxed_view v.items ≡ filter_map (box_of library.now scale) (records_view records.now)) }
 {
     let mut macros = LastMacros::new(library, scale);
-    let mut boxes = Vec::with_capacity(alloc, records.len())?;
+    let mut boxes = or_error!(Vec::with_capacity(alloc, records.len()));
     for statement in records {
         let Some(placed) = box_of(&mut macros, statement) else {
             continue;
         };
-        boxes.push(placed)?;
+        or_error!(put_behind(placed, &mut boxes));
     }
     Ok(boxes)
 }

@@ -60,7 +60,7 @@ pub fn counts_of<A: Allocator + Copy>(
             continue;
         };
         let found = entries_before_end(&records[i + 1..]);
-        put_count(section, int_of(number.bytes), found, lines)?;
+        or_error!(put_count(section, int_of(number.bytes), found, lines));
     }
     Ok(())
 }

@@ -90,7 +90,7 @@ fn put_fences<A: Allocator + Copy>(
         if is_apart(&component.rect, &fence.hull) && !is_one_of(regions, fence.name) {
             continue;
         }
-        put_fence(fence, is_one_of(regions, fence.name), component, lines)?;
+        or_error!(put_fence(fence, is_one_of(regions, fence.name), component, lines));
     }
     Ok(())
 }
@@ -106,10 +106,9 @@ pub(crate) fn put_at_borders<'t, A: Allocator + Copy>(
     ensures { let s = surroundings_view surroundings.now in let c = boxed_view component.now in
         OnOk result (lines.new ≡ lines.old ++ (outside_lines s.die c ++ fence_lines s c)) }
 {
-    put_outside(surroundings.die, component, lines)?;
+    or_error!(put_outside(surroundings.die, component, lines));
     let mut regions = Vec::new(alloc);
-    surroundings
-        .assignments
-        .put_regions_of(component, &mut regions)?;
+    let assignments = &surroundings.assignments;
+    or_error!(assignments.put_regions_of(component, &mut regions));
     put_fences(&surroundings.fences, &regions, component, lines)
 }

@@ -16,6 +16,7 @@ ghost use Rattle.def_reader.specs.StatementViews.{records_view};
 
 use crate::corners::rectangle_between;
 use crate::placed_row::PlacedRow;
+use crate::pushing::put_behind;
 use crate::scale::scale_of;
 use cell_library::library::Library;
 use def_parts::number::int_of;
@@ -137,7 +138,8 @@ pub fn rows_of<'t, A: Allocator + Copy>(
     let mut rows = Vec::new(alloc);
     for statement in records {
         if let Statement::Floor(Floor::Row(row)) = statement {
-            rows.push(placed_row(library, scale, &row.parts()))?;
+            let row = placed_row(library, scale, &row.parts());
+            or_error!(put_behind(row, &mut rows));
         }
     }
     Ok(rows)

@@ -5,6 +5,7 @@ ghost use Rattle.design_rules.specs.Surroundings.{assignments};
 ghost use Rattle.place_checks.specs.PlaceViews.{assignment_view};
 ghost use Rattle.def_reader.specs.StatementViews.{records_view};
 
+use crate::pushing::put_behind;
 use def_reader::entry::Entry;
 use def_reader::statement::Statement;
 use entry_references::places::first_group_region;
@@ -33,10 +34,11 @@ pub fn assignments_of<'t, A: Allocator + Copy>(
             continue;
         };
         if let Some(region) = first_group_region(group.clauses.again()) {
-            assignments.push(Assignment {
+            let assignment = Assignment {
                 region: region.bytes,
                 patterns: group.patterns.again(),
-            })?;
+            };
+            or_error!(put_behind(assignment, &mut assignments));
         }
     }
     Ok(assignments)

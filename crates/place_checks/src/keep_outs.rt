@@ -39,7 +39,7 @@ pub fn keep_outs_of<A: Allocator + Copy>(
             continue;
         };
         if let BlockageEntry::Blocks(blockage) = blockage.parts() {
-            push_kept_out(&blockage, &mut found)?;
+            or_error!(push_kept_out(&blockage, &mut found));
         }
     }
     Ok(found)

@@ -1,11 +1,12 @@
 //! The patterns by which groups assign components to regions, kept for look-ups by a component's name.
 
-ghost use Rattle.std.specs.Prelude.{◌≡◌, IfOk, map};
-ghost use Rattle.place_checks.specs.KeptViews.{kept_assigned_view, kept_starred_view};
-ghost use Rattle.place_checks.specs.Patterns.{assigned_view, starred_view};
+ghost use Rattle.std.specs.Prelude.{◌≡◌, IfOk};
+ghost use Rattle.place_checks.specs.KeptViews.{kept_assigned_view};
+ghost use Rattle.place_checks.specs.Patterns.{pattern_view};
 
 use crate::assigned::{Assigned, Starred};
 use crate::assignment_table::{AssignmentTable, starred_of};
+use crate::copying::{CopyOf, copies_of};
 use crate::kept_assigned::{KeptAssigned, KeptStarred};
 use design_model::sequence::Bytes;
 use std::alloc::{AllocError, Allocator};
@@ -31,77 +32,100 @@ impl<A: Allocator> Model for KeptAssignments<A> {
     ghost invariant = { λ k. AreInOrder (map kept_assigned_view k.named.items) };
 }
 
-/// Copies of patterns without a star.
-fn named_of<A: Allocator + Copy>(
+/// Copies of a pattern and of the region that it assigns to.
+fn kept_pattern<A: Allocator + Copy>(
     alloc: A,
-    all: &[Assigned<'_>],
-) -> Result<Vec<KeptAssigned<A>, A>, AllocError>
-    ensures { IfOk result (λ v. map kept_assigned_view v.items ≡ map assigned_view all.now) }
+    pattern: &[u8],
+    region: &[u8],
+) -> Result<KeptAssigned<A>, AllocError>
+    ensures { IfOk result (λ k. kept_assigned_view k ≡ pattern_view region.now pattern.now) }
 {
-    let mut named = Vec::with_capacity(alloc, all.len())?;
-    for assigned in all {
-        named.push(KeptAssigned {
-            pattern: Bytes::from_slice(alloc, assigned.pattern)?,
-            region: Bytes::from_slice(alloc, assigned.region)?,
-        })?;
-    }
-    Ok(named)
+    let pattern = or_error!(Bytes::from_slice(alloc, pattern));
+    let region = or_error!(Bytes::from_slice(alloc, region));
+    Ok(KeptAssigned { pattern, region })
 }
 
-/// Copies of patterns with one.
-fn starred_ones_of<A: Allocator + Copy>(
-    alloc: A,
-    all: &[Starred<'_>],
-) -> Result<Vec<KeptStarred<A>, A>, AllocError>
-    ensures { IfOk result (λ v. map kept_starred_view v.items ≡ map starred_view all.now) }
-{
-    let mut starred = Vec::with_capacity(alloc, all.len())?;
-    for one in all {
-        starred.push(KeptStarred {
-            pattern: Bytes::from_slice(alloc, one.bytes)?,
-            region: Bytes::from_slice(alloc, one.region)?,
-        })?;
+impl<'a, 't, A: Allocator + Copy> CopyOf<'a, Assigned<'t>, A> for KeptAssigned<A> {
+    ghost use Rattle.design_rules.specs.Surroundings.{Assignment};
+    ghost use Rattle.place_checks.specs.KeptViews.{kept_assigned_view};
+    ghost use Rattle.place_checks.specs.Patterns.{assigned_view};
+
+    ghost Value = { Assignment };
+
+    ghost copied = { kept_assigned_view };
+
+    ghost seen = { assigned_view };
+
+    fn copy_of(alloc: A, from: &'a Assigned<'t>) -> Result<KeptAssigned<A>, AllocError> {
+        kept_pattern(alloc, from.pattern, from.region)
     }
-    Ok(starred)
 }
 
-/// Patterns without a star, lent.
-fn named_lent<'a, A: Allocator + Copy>(
-    alloc: A,
-    all: &'a [KeptAssigned<A>],
-) -> Result<Vec<Assigned<'a>, A>, AllocError>
-    ensures { IfOk result (λ v. map assigned_view v.items ≡ map kept_assigned_view all.entry.now) }
-{
-    let mut named = Vec::with_capacity(alloc, all.len())?;
-    for assigned in all {
-        named.push(Assigned {
-            pattern: assigned.pattern.as_slice(),
-            region: assigned.region.as_slice(),
-        })?;
+impl<'a, 't, A: Allocator + Copy> CopyOf<'a, Starred<'t>, A> for KeptStarred<A> {
+    ghost use Rattle.design_rules.specs.Surroundings.{Assignment};
+    ghost use Rattle.place_checks.specs.KeptViews.{kept_starred_view};
+    ghost use Rattle.place_checks.specs.Patterns.{starred_view};
+
+    ghost Value = { Assignment };
+
+    ghost copied = { kept_starred_view };
+
+    ghost seen = { starred_view };
+
+    fn copy_of(alloc: A, from: &'a Starred<'t>) -> Result<KeptStarred<A>, AllocError> {
+        let KeptAssigned { pattern, region } = or_error!(kept_pattern(
+            alloc,
+            from.bytes,
+            from.region
+        ));
+        Ok(KeptStarred { pattern, region })
     }
-    Ok(named)
 }
 
-/// Patterns with one, lent. Each is cut at its first star again.
-fn starred_lent<'a, A: Allocator + Copy>(
-    alloc: A,
-    all: &'a [KeptStarred<A>],
-) -> Result<Vec<Starred<'a>, A>, AllocError>
-    ensures { IfOk result (λ v. map starred_view v.items ≡ map kept_starred_view all.entry.now) }
-{
-    let mut starred = Vec::with_capacity(alloc, all.len())?;
-    for one in all {
-        let bytes = one.pattern.as_slice();
-        let region = one.region.as_slice();
-        if let Some(pattern) = starred_of(bytes) {
-            starred.push(Starred {
+impl<'a, A: Allocator + Copy> CopyOf<'a, KeptAssigned<A>, A> for Assigned<'a> {
+    ghost use Rattle.design_rules.specs.Surroundings.{Assignment};
+    ghost use Rattle.place_checks.specs.KeptViews.{kept_assigned_view};
+    ghost use Rattle.place_checks.specs.Patterns.{assigned_view};
+
+    ghost Value = { Assignment };
+
+    ghost copied = { assigned_view };
+
+    ghost seen = { kept_assigned_view };
+
+    fn copy_of(_alloc: A, from: &'a KeptAssigned<A>) -> Result<Assigned<'a>, AllocError> {
+        Ok(Assigned {
+            pattern: from.pattern.as_slice(),
+            region: from.region.as_slice(),
+        })
+    }
+}
+
+impl<'a, A: Allocator + Copy> CopyOf<'a, KeptStarred<A>, A> for Starred<'a> {
+    ghost use Rattle.design_rules.specs.Surroundings.{Assignment};
+    ghost use Rattle.place_checks.specs.KeptViews.{kept_starred_view};
+    ghost use Rattle.place_checks.specs.Patterns.{starred_view};
+
+    ghost Value = { Assignment };
+
+    ghost copied = { starred_view };
+
+    ghost seen = { kept_starred_view };
+
+    /// The pattern is cut at its first star again.
+    fn copy_of(_alloc: A, from: &'a KeptStarred<A>) -> Result<Starred<'a>, AllocError> {
+        let bytes = from.pattern.as_slice();
+        let region = from.region.as_slice();
+        match starred_of(bytes) {
+            Some(pattern) => Ok(Starred {
                 pattern,
                 bytes,
                 region,
-            })?;
+            }),
+            // It has a star.
+            None => Err(AllocError),
         }
     }
-    Ok(starred)
 }
 
 impl<A: Allocator + Copy> KeptAssignments<A> {
@@ -115,18 +139,17 @@ impl<A: Allocator + Copy> KeptAssignments<A> {
     ) -> Result<KeptAssignments<A>, AllocError>
         ensures { IfOk result (λ k. k ≡ assignments_view table.now) }
     {
-        Ok(KeptAssignments {
-            named: named_of(alloc, &table.named)?,
-            starred: starred_ones_of(alloc, &table.starred)?,
-        })
+        let named = or_error!(copies_of(alloc, &table.named));
+        let starred = or_error!(copies_of(alloc, &table.starred));
+        Ok(KeptAssignments { named, starred })
     }
 
     /// A table of the patterns, lent. Nothing is sorted.
     pub(crate) fn lent<'a>(&'a self, alloc: A) -> Result<AssignmentTable<'a, A>, AllocError>
         ensures { IfOk result (λ table. assignments_view table ≡ self.entry.now) }
     {
-        let named = named_lent(alloc, &self.named)?;
-        let starred = starred_lent(alloc, &self.starred)?;
+        let named = or_error!(copies_of(alloc, &self.named));
+        let starred = or_error!(copies_of(alloc, &self.starred));
         Ok(AssignmentTable::in_order(named, starred))
     }
 }

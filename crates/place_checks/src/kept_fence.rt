@@ -4,6 +4,7 @@ ghost use Rattle.std.specs.Prelude.{◌≡◌, IfOk, map};
 ghost use Rattle.design_model.specs.Views.{rectangle_of};
 ghost use Rattle.place_checks.specs.Hulls.{hull_of};
 
+use crate::copying::CopyOf;
 use crate::fence::Fence;
 use design_model::geometry::Rect;
 use design_model::sequence::{Bytes, Sequence};
@@ -25,35 +26,49 @@ fn copy_of<A: Allocator + Copy>(
 ) -> Result<Sequence<Rect, A>, AllocError>
     ensures { IfOk result (λ copy. copy ≡ rectangles.now) }
 {
-    let copy = Vec::from_slice(alloc, rectangles.as_slice())?;
+    let copy = or_error!(Vec::from_slice(alloc, rectangles.as_slice()));
     Ok(Sequence::from_vec(copy))
 }
 
-impl<A: Allocator + Copy> KeptFence<A> {
-    ghost use Rattle.std.specs.Prelude.{◌≡◌, IfOk};
+impl<'a, 't, A: Allocator + Copy> CopyOf<'a, Fence<'t, A>, A> for KeptFence<A> {
+    ghost use Rattle.design_rules.specs.Surroundings.{Fence};
     ghost use Rattle.place_checks.specs.KeptViews.{kept_fence_view};
     ghost use Rattle.place_checks.specs.PlaceViews.{fence_view};
 
-    /// A copy of a fence.
-    pub(crate) fn of(alloc: A, fence: &Fence<'_, A>) -> Result<KeptFence<A>, AllocError>
-        ensures { IfOk result (λ k. kept_fence_view k ≡ fence_view fence.now) }
-    {
+    ghost Value = { Fence };
+
+    ghost copied = { kept_fence_view };
+
+    ghost seen = { fence_view };
+
+    fn copy_of(alloc: A, from: &'a Fence<'t, A>) -> Result<KeptFence<A>, AllocError> {
+        let name = or_error!(Bytes::from_slice(alloc, from.name));
+        let rectangles = or_error!(copy_of(alloc, &from.rectangles));
         Ok(KeptFence {
-            name: Bytes::from_slice(alloc, fence.name)?,
-            rectangles: copy_of(alloc, &fence.rectangles)?,
-            hull: fence.hull,
+            name,
+            rectangles,
+            hull: from.hull,
         })
     }
+}
 
-    /// The fence, with its name lent.
-    pub(crate) fn lent<'a>(&'a self, alloc: A) -> Result<Fence<'a, A>, AllocError>
-        ensures { IfOk result (λ fence. fence_view fence ≡ kept_fence_view self.entry.now) }
-    {
-        let rectangles = copy_of(alloc, &self.rectangles)?;
+impl<'a, A: Allocator + Copy> CopyOf<'a, KeptFence<A>, A> for Fence<'a, A> {
+    ghost use Rattle.design_rules.specs.Surroundings.{Fence};
+    ghost use Rattle.place_checks.specs.KeptViews.{kept_fence_view};
+    ghost use Rattle.place_checks.specs.PlaceViews.{fence_view};
+
+    ghost Value = { Fence };
+
+    ghost copied = { fence_view };
+
+    ghost seen = { kept_fence_view };
+
+    fn copy_of(alloc: A, from: &'a KeptFence<A>) -> Result<Fence<'a, A>, AllocError> {
+        let rectangles = or_error!(copy_of(alloc, &from.rectangles));
         Ok(Fence {
-            name: self.name.as_slice(),
+            name: from.name.as_slice(),
             rectangles,
-            hull: self.hull,
+            hull: from.hull,
         })
     }
 }

@@ -1,10 +1,8 @@
 //! Rows of sites that are kept, for look-ups by their lower edges.
 
-ghost use Rattle.std.specs.Prelude.{◌≡◌, IfOk};
-
+use crate::copying::{CopyOf, copies_of};
 use crate::kept_row::KeptRow;
 use crate::placed_row::PlacedRow;
-use crate::pushing::put_behind;
 use crate::row_index::RowIndex;
 use design_model::sequence::Bytes;
 use std::alloc::{AllocError, Allocator};
@@ -30,31 +28,44 @@ impl<A: Allocator> Model for KeptRows<A> {
     ghost invariant = { λ k. IsSortedByKey edge_in int_cmp (map kept_row_view k.rows.items) };
 }
 
-impl<A: Allocator + Copy> KeptRow<A> {
-    ghost use Rattle.std.specs.Prelude.{◌≡◌, IfOk};
+impl<'a, 't, A: Allocator + Copy> CopyOf<'a, PlacedRow<'t>, A> for KeptRow<A> {
+    ghost use Rattle.design_rules.specs.Surroundings.{PlacedRow};
     ghost use Rattle.place_checks.specs.KeptViews.{kept_row_view};
     ghost use Rattle.place_checks.specs.PlaceViews.{placed_row_view};
 
-    /// A copy of a row.
-    fn of(alloc: A, row: &PlacedRow<'_>) -> Result<KeptRow<A>, AllocError>
-        ensures { IfOk result (λ k. kept_row_view k ≡ placed_row_view row.now) }
-    {
+    ghost Value = { PlacedRow };
+
+    ghost copied = { kept_row_view };
+
+    ghost seen = { placed_row_view };
+
+    fn copy_of(alloc: A, from: &'a PlacedRow<'t>) -> Result<KeptRow<A>, AllocError> {
+        let site = or_error!(Bytes::from_slice(alloc, from.site));
         Ok(KeptRow {
-            site: Bytes::from_slice(alloc, row.site)?,
-            orient: row.orient,
-            sites: row.sites,
+            site,
+            orient: from.orient,
+            sites: from.sites,
         })
     }
+}
 
-    /// The row, with its name lent.
-    fn lent(&self) -> PlacedRow<'_>
-        ensures { placed_row_view result ≡ kept_row_view self.now }
-    {
-        PlacedRow {
-            site: self.site.as_slice(),
-            orient: self.orient,
-            sites: self.sites,
-        }
+impl<'a, A: Allocator + Copy> CopyOf<'a, KeptRow<A>, A> for PlacedRow<'a> {
+    ghost use Rattle.design_rules.specs.Surroundings.{PlacedRow};
+    ghost use Rattle.place_checks.specs.KeptViews.{kept_row_view};
+    ghost use Rattle.place_checks.specs.PlaceViews.{placed_row_view};
+
+    ghost Value = { PlacedRow };
+
+    ghost copied = { placed_row_view };
+
+    ghost seen = { kept_row_view };
+
+    fn copy_of(_alloc: A, from: &'a KeptRow<A>) -> Result<PlacedRow<'a>, AllocError> {
+        Ok(PlacedRow {
+            site: from.site.as_slice(),
+            orient: from.orient,
+            sites: from.sites,
+        })
     }
 }
 
@@ -66,10 +77,7 @@ impl<A: Allocator + Copy> KeptRows<A> {
     pub(crate) fn of(alloc: A, index: &RowIndex<'_, A>) -> Result<KeptRows<A>, AllocError>
         ensures { IfOk result (λ k. k ≡ rows_view index.now) }
     {
-        let mut rows = Vec::with_capacity(alloc, index.rows.len())?;
-        for row in &index.rows {
-            put_behind(KeptRow::of(alloc, row)?, &mut rows)?;
-        }
+        let rows = or_error!(copies_of(alloc, &index.rows));
         Ok(KeptRows { rows })
     }
 
@@ -77,10 +85,7 @@ impl<A: Allocator + Copy> KeptRows<A> {
     pub(crate) fn lent<'a>(&'a self, alloc: A) -> Result<RowIndex<'a, A>, AllocError>
         ensures { IfOk result (λ index. rows_view index ≡ self.entry.now) }
     {
-        let mut rows = Vec::with_capacity(alloc, self.rows.len())?;
-        for row in &self.rows {
-            rows.push(row.lent())?;
-        }
+        let rows = or_error!(copies_of(alloc, &self.rows));
         Ok(RowIndex::in_order(rows))
     }
 }

@@ -63,7 +63,9 @@ fn slot_of(name: &[u8]) -> usize
 fn if_named<'t>(found: Option<FoundMacro<'t>>, name: &[u8]) -> Option<Outline<'t>>
     ensures { (library : TheLibrary) (u : ℕ) → IfSome found.entry (λ f. IsOutlineOf library u f.name.now f.outline) → IfSome result (IsOutlineOf library u name.now) }
 {
-    let found = found?;
+    let Some(found) = found else {
+        return None;
+    };
     if is_word(found.name, name) {
         Some(found.outline)
     } else {
@@ -81,8 +83,10 @@ fn look_up<'t, A: Allocator + Copy>(
     requires few { scale ≤ 100000 }
     ensures { MatchOption result (macro_named library.entry.now name.now ≡ None) (IsOutlineOf library.entry.now scale name.now) }
 {
-    let cell = library.macro_of(name)?;
-    Some(Outline::of(cell, scale))
+    match library.macro_of(name) {
+        Some(cell) => Some(Outline::of(cell, scale)),
+        None => None,
+    }
 }
 
 impl<'t, 'l, A: Allocator + Copy> LastMacros<'t, 'l, A> {
@@ -106,7 +110,9 @@ impl<'t, 'l, A: Allocator + Copy> LastMacros<'t, 'l, A> {
         ensures found { MatchOption result (macro_named self.old.library name.entry.now ≡ None) (IsOutlineOf self.old.library self.old.scale name.entry.now) }
         ensures same { self.new ≡ self.old }
     {
-        let outline = look_up(self.library, self.scale, name)?;
+        let Some(outline) = look_up(self.library, self.scale, name) else {
+            return None;
+        };
         let slots = &mut self.slots[..];
         slots[slot] = Some(FoundMacro { name, outline });
         Some(outline)

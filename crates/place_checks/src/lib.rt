@@ -19,12 +19,23 @@
 //! lines that were handed in may then have some of the new ones.
 #![tactic(auto)]
 
+/// What `?` does with a `Result` whose error is the caller's. Written as a `match` it has less to prove at each way out.
+macro_rules! or_error {
+    ($result:expr) => {
+        match $result {
+            Ok(value) => value,
+            Err(error) => return Err(error),
+        }
+    };
+}
+
 pub mod assigned;
 pub mod assignment_table;
 pub mod between;
 pub mod blocked;
 pub mod blocked_shapes;
 pub mod boxes;
+mod copying;
 mod corners;
 pub mod count;
 pub mod fence;
@@ -52,6 +63,7 @@ pub mod regions;
 pub mod row_index;
 mod rows;
 pub mod scale;
+mod sought;
 pub mod surroundings;
 mod sweep;
 pub mod swept_box;

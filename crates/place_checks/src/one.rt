@@ -27,8 +27,7 @@ pub fn put_own_lines<'t, A: Allocator + Copy>(
 ) -> Result<(), AllocError>
     ensures { OnOk result (lines.new ≡ lines.old ++ own_lines (surroundings_view surroundings.now) (map rectangle_of keep_outs.now) (boxed_view component.now) (map boxed_view others.now)) }
 {
-    put_overlaps_with(component, others, lines)?;
-    lines_in(alloc, surroundings, component, lines)?;
-    put_blocked_by(component, keep_outs, lines)?;
-    Ok(())
+    or_error!(put_overlaps_with(component, others, lines));
+    or_error!(lines_in(alloc, surroundings, component, lines));
+    put_blocked_by(component, keep_outs, lines)
 }

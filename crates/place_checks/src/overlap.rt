@@ -48,7 +48,7 @@ pub(crate) fn put_overlaps_with<'t, A: Allocator + Copy>(
 {
     let swept = first.swept();
     for other in others {
-        put_overlap(&swept, &other.swept(), lines)?;
+        or_error!(put_overlap(&swept, &other.swept(), lines));
     }
     Ok(())
 }
@@ -67,7 +67,7 @@ fn put_beside<'t, A: Allocator + Copy>(
         if next.rect.x1 >= first.rect.x2 {
             return Ok(());
         }
-        put_overlap(first, next, lines)?;
+        or_error!(put_overlap(first, next, lines));
     }
     Ok(())
 }
@@ -100,7 +100,7 @@ fn put_overlaps<'t, A: Allocator + Copy>(
 {
     let mut left = begin_below(others, &first.rect);
     while let Some((next, behind)) = left.split_first() {
-        put_overlap(first, next, lines)?;
+        or_error!(put_overlap(first, next, lines));
         left = left_behind(behind, next, first);
     }
     Ok(())
@@ -136,8 +136,8 @@ fn put_row<'t, A: Allocator + Copy>(
     ensures { OnOk result (lines.new ++ pair_lines overlap_of (map swept_view above.now) ≡ lines.old ++ pair_lines overlap_of (map swept_view (row.now ++ above.now))) }
 {
     for (i, first) in row.iter().enumerate() {
-        put_beside(first, &row[i + 1..], lines)?;
-        put_above(first, above, lines)?;
+        or_error!(put_beside(first, &row[i + 1..], lines));
+        or_error!(put_above(first, above, lines));
     }
     Ok(())
 }
@@ -158,7 +158,7 @@ pub(crate) fn overlaps_of<A: Allocator + Copy>(
     while let Some((first, _)) = left.split_first() {
         let row = begin_up_to(left, &first.rect);
         let above = &left[row.len()..];
-        put_row(row, above, lines)?;
+        or_error!(put_row(row, above, lines));
         left = above;
     }
     Ok(())

@@ -9,6 +9,7 @@ ghost use Rattle.place_checks.specs.Views.{bare, boxed_view, swept_view};
 
 use crate::fences::put_at_borders;
 use crate::placed_box::PlacedBox;
+use crate::pushing::put_behind;
 use crate::row_index::NO_EDGE;
 use crate::rows::{put_by_rows, put_in_rows};
 use crate::surroundings::Surroundings;
@@ -25,7 +26,7 @@ pub fn lines_in<'t, A: Allocator + Copy>(
 ) -> Result<(), AllocError>
     ensures { OnOk result (lines.new ≡ lines.old ++ lines_in (surroundings_view surroundings.now) (boxed_view component.now)) }
 {
-    put_in_rows(&surroundings.rows, component, lines)?;
+    or_error!(put_in_rows(&surroundings.rows, component, lines));
     put_at_borders(alloc, surroundings, component, lines)
 }
 
@@ -47,8 +48,8 @@ fn all_lines_in<'t, A: Allocator + Copy>(
     for component in boxes {
         beside = rows.at_next_edge(edge, beside, component.rect.y1);
         edge = component.rect.y1;
-        put_by_rows(beside, elsewhere, component, lines)?;
-        put_at_borders(alloc, surroundings, component, lines)?;
+        or_error!(put_by_rows(beside, elsewhere, component, lines));
+        or_error!(put_at_borders(alloc, surroundings, component, lines));
     }
     Ok(())
 }
@@ -61,7 +62,7 @@ fn push_swept<'t, A: Allocator>(
     ensures { OnOk result (map swept_view boxes.new.items ≡ map swept_view boxes.old.items ++ map bare (map boxed_view components.now)) }
 {
     for component in components {
-        boxes.push(component.swept())?;
+        or_error!(put_behind(component.swept(), boxes));
     }
     Ok(())
 }
@@ -78,7 +79,6 @@ pub fn put_components<'t, A: Allocator + Copy>(
         → OnOk result (lines.new ≡ lines.old ++ flat_map (lines_in s) (map boxed_view components.now)) }
     ensures boxes { OnOk result (map swept_view boxes.new.items ≡ map swept_view boxes.old.items ++ map bare (map boxed_view components.now)) }
 {
-    all_lines_in(alloc, surroundings, components, lines)?;
-    push_swept(components, boxes)?;
-    Ok(())
+    or_error!(all_lines_in(alloc, surroundings, components, lines));
+    push_swept(components, boxes)
 }

@@ -16,6 +16,7 @@ ghost use Rattle.place_checks.specs.PlaceViews.{fence_view};
 use crate::corners::rectangle_between;
 use crate::fence::Fence;
 use crate::hull::hull_of;
+use crate::pushing::put_behind;
 use def_reader::entry::Entry;
 use def_reader::statement::Statement;
 use design_model::geometry::Rect;
@@ -47,15 +48,15 @@ fn rectangles_of<A: Allocator + Copy>(
 {
     let first = region.first.first;
     let mut last = region.first.second.after(first);
-    let mut rectangles = Sequence::new(alloc);
-    rectangles.push(rectangle_between(first, last))?;
+    let mut rectangles = Vec::new(alloc);
+    or_error!(put_behind(rectangle_between(first, last), &mut rectangles));
     let mut left = region.others.again();
     while let Some(later) = left.next() {
         let first = later.corners.first.after(last);
         last = later.corners.second.after(first);
-        rectangles.push(rectangle_between(first, last))?;
+        or_error!(put_behind(rectangle_between(first, last), &mut rectangles));
     }
-    Ok(rectangles)
+    Ok(Sequence::from_vec(rectangles))
 }
 
 /// Adds the fence that a region is, where its first TYPE says so.
@@ -70,13 +71,14 @@ fn push_region<'t, A: Allocator + Copy>(
     let Some(RegionKind::Fence) = kind_of(region.clauses.again()) else {
         return Ok(());
     };
-    let rectangles = rectangles_of(alloc, &region)?;
+    let rectangles = or_error!(rectangles_of(alloc, &region));
     let hull = hull_of(rectangles.as_slice());
-    found.push(Fence {
+    let fence = Fence {
         name: region.name.bytes,
         rectangles,
         hull,
-    })?;
+    };
+    or_error!(put_behind(fence, found));
     Ok(())
 }
 
@@ -103,7 +105,7 @@ pub fn fences_of<'t, A: Allocator + Copy>(
 {
     let mut fences = Vec::new(alloc);
     for statement in records {
-        push_fence(alloc, statement, &mut fences)?;
+        or_error!(push_fence(alloc, statement, &mut fences));
     }
     Ok(fences)
 }

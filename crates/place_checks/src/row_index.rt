@@ -5,7 +5,9 @@ ghost use Rattle.std.specs.Ordering.{int_cmp, int_eq};
 ghost use Rattle.place_checks.specs.RowEdges.{edge_of};
 
 use crate::placed_row::PlacedRow;
+use crate::sought::{Sought, all_equal};
 use std::alloc::{Allocator, Global};
+use std::cmp::Ordering;
 
 /// The edge by which rows are looked up that have no line of sites, or several.
 pub(crate) const NO_EDGE: i64 = i64::MAX;
@@ -25,6 +27,23 @@ fn edge_of(row: &PlacedRow<'_>) -> i64
         row.sites.origin.y
     } else {
         NO_EDGE
+    }
+}
+
+/// An edge by which rows are looked up.
+#[derive(Clone, Copy)]
+struct Edge {
+    edge: i64,
+}
+
+impl<'t> Sought<PlacedRow<'t>> for Edge {
+    ghost use Rattle.std.specs.Ordering.{int_cmp};
+    ghost use Rattle.place_checks.specs.RowEdges.{edge_of};
+
+    ghost rank = { λ e row. int_cmp (edge_of row) e.edge };
+
+    fn rank(&self, row: &PlacedRow<'t>) -> Ordering {
+        edge_of(row).cmp(&self.edge)
     }
 }
 
@@ -54,10 +73,7 @@ impl<'t, A: Allocator> RowIndex<'t, A> {
     pub(crate) fn at_edge(&self, edge: i64) -> &[PlacedRow<'t>]
         ensures { result.now ≡ filter (λ row. int_eq (edge_of row) edge) self.now.rows.items }
     {
-        let start = self.rows.partition_point(|row| edge_of(row) < edge);
-        let rows = &self.rows[start..];
-        let count = rows.partition_point(|row| edge_of(row) <= edge);
-        &rows[..count]
+        all_equal(&self.rows, &Edge { edge })
     }
 
     /// The rows that are looked up by an edge, by the rows of the edge that was looked up last.

@@ -10,10 +10,11 @@ use design_model::geometry::Rect;
 use std::alloc::Allocator;
 use std::cmp::Ordering;
 
-/// The order of two rectangles in a sweep.
-fn sweep_cmp(a: &Rect, b: &Rect) -> Ordering
-    ensures { result ≡ sweep_cmp a.now b.now }
+/// The order of two boxes in a sweep.
+fn sweep_cmp(a: &SweptBox<'_>, b: &SweptBox<'_>) -> Ordering
+    ensures { result ≡ sweep_cmp a.now.rect b.now.rect }
 {
+    let (a, b) = (&a.rect, &b.rect);
     a.y1.cmp(&b.y1).then(a.x1.cmp(&b.x1))
 }
 
@@ -22,7 +23,7 @@ pub(crate) fn sort_boxes<'t, A: Allocator>(boxes: &mut Vec<SweptBox<'t>, A>)
     ensures sorted { InSweepOrder boxes.new.items }
     ensures same { IsPermutation boxes.old.items boxes.new.items }
 {
-    boxes.sort_unstable_by(|a, b| sweep_cmp(&a.rect, &b.rect))
+    boxes.sort_unstable_by(sweep_cmp)
 }
 
 /// The boxes whose lower edges are below the upper edge of a rectangle.

@@ -2,7 +2,6 @@ use Rattle.std.proofs.Common.{sym, subst}
 use Rattle.design_model.specs.Geometry.{IsNearRectangle}
 use Rattle.design_model.specs.Views.{rectangle_of}
 use Rattle.lef_grammar.specs.Measures.{boundary_of}
-use Rattle.design_rules.specs.Boxes.{is_cover}
 use Rattle.place_parts.specs.ComponentViews.{component_view}
 use Rattle.place_checks.proofs.BoxLemmas.{box_in_order, boxed_so, near_placed}
 use Rattle.place_checks.proofs.boxes.box_at.Goals as goal

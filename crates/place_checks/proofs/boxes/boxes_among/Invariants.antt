@@ -2,7 +2,6 @@ use Rattle.std.proofs.Common.{◌≡◌, ◌++◌, drop, map}
 use Rattle.std.specs.List.{filter_map}
 use Rattle.design_rules.specs.Boxes.{box_of}
 use Rattle.def_reader.specs.StatementViews.{records_view}
-use Rattle.place_checks.specs.Outlines.{Scaled}
 use Rattle.place_checks.specs.Views.{boxed_view}
 use Rattle.place_checks.proofs.boxes.boxes_among.Given as goal
 

@@ -11,4 +11,4 @@ loop-i-preserved g c =
     let back : to_z w32 (of_z w32 c.int_of.result) ≡ c.int_of.result = omega (arith, ints) in
     let found = rw take_rest at c.entries_before_end-found.ensures.count in
     header_noted c.args.records.now c.loop-i.i c.entries_before_end-found.result _ c.index-records-i.result c.in-Header.section c.in-Header.number _ _ _
-    c.loop-i-test.true c.index-records-i.is c.in-Header.is (back ∙ c.int_of.ensures) found c.in_ok-put_count.ensures c.loop-i.invariant
+    c.loop-i-test.true c.index-records-i.is c.in-Header.is (back ∙ c.int_of.ensures) found c.in-Ok.ensures c.loop-i.invariant

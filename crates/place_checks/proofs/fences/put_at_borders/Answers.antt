@@ -9,6 +9,6 @@ pub returns : goal.returns
 returns g c =
     let s = surroundings_view c.args.surroundings.now in
     let component = boxed_view c.args.component.now in
-    let fences = lines_by_regions s.assignments component (map word_view c.put_regions_of.new.regions.items) s.fences c.in_ok-put_regions_of.ensures in
+    let fences = lines_by_regions s.assignments component (map word_view c.put_regions_of.new.regions.items) s.fences c.in-Ok-put_regions_of.ensures in
     let pushed = rw (c.deref.ensures.value, c.deref-2.ensures.value) at c.put_fences.ensures in
-    rw (← append_assoc, ← c.in_ok-put_outside.ensures, ← fences) pushed
+    rw (← append_assoc, ← c.in-Ok.ensures, ← fences) pushed

@@ -1,4 +1,4 @@
-use Rattle.std.proofs.Common.{◌∙◌, ◌++◌, List, ℕ, ap, append_assoc, flat_map, map}
+use Rattle.std.proofs.Common.{◌≡◌, ◌∙◌, ◌++◌, List, ℕ, OnOk, ap, append_assoc, flat_map, map, subst}
 use Rattle.design_model.specs.Families.{lines_with}
 use Rattle.design_model.specs.Views.{rectangle_of}
 use Rattle.design_rules.specs.OverlapLines.{overlap_of}
@@ -14,7 +14,8 @@ returns g c =
     let overlaps = lines_with overlap_of one (map boxed_view c.args.others.now) in
     let around = lines_in (surroundings_view c.args.surroundings.now) one in
     let blocked = flat_map (blocked_of one) (map rectangle_of c.args.keep_outs.now) in
-    c.in_ok-put_blocked_by.ensures
-    ∙ ap (λ (l : List (List ℕ)). l ++ blocked) (c.in_ok-lines_in.ensures ∙ ap (λ (l : List (List ℕ)). l ++ around) c.in_ok-put_overlaps_with.ensures)
+    let all =
+    ap (λ (l : List (List ℕ)). l ++ blocked) (c.in-Ok-lines_in.ensures ∙ ap (λ (l : List (List ℕ)). l ++ around) c.in-Ok.ensures)
     ∙ append_assoc (old ++ overlaps) around blocked
-    ∙ append_assoc old overlaps (around ++ blocked)
+    ∙ append_assoc old overlaps (around ++ blocked) in
+    subst (λ (l : List (List ℕ)). OnOk c.put_blocked_by.result (c.put_blocked_by.new.lines ≡ l)) all c.put_blocked_by.ensures

@@ -15,7 +15,7 @@ loop-first-smaller g c = rw take_rest (fewer_above c.in-Some.first.now _ _ _ c.i
 
 pub loop-first-preserved : goal.loop-first-preserved
 loop-first-preserved g c =
-    let added = rw take_rest at c.in_ok-put_row.ensures in
+    let added = rw take_rest at c.in-Ok.ensures in
     rw take_rest (record {
       sorted = sorted_as (λ b. int_lt c.in-Some.first.now.rect.y1 b.rect.y1) _ _ c.loop-first.invariant.sorted c.begin_up_to-row.ensures.others;
       so_far = one_row c.loop-first.left.now c.begin_up_to-row.result.now _ _ _ _ c.begin_up_to-row.ensures.all added c.loop-first.invariant.so_far;

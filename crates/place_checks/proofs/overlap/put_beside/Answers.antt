@@ -16,4 +16,4 @@ returns-then-next-first g c =
 
 pub loop-next-preserved : goal.loop-next-preserved
 loop-next-preserved g c =
-    one_beside c.args.first.now c.next-item.result c.args.row.now c.loop-next.next-index _ _ _ c.loop-next-test.true c.next-item.is c.in_ok-put_overlap.ensures c.loop-next.invariant
+    one_beside c.args.first.now c.next-item.result c.args.row.now c.loop-next.next-index _ _ _ c.loop-next-test.true c.next-item.is c.in-Ok.ensures c.loop-next.invariant

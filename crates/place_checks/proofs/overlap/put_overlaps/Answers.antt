@@ -19,5 +19,5 @@ loop-next-preserved g c = record {
   sorted = c.left_behind-left.ensures.sorted;
   so_far =
       one_compared c.args.first.now c.in-Some.next.now _ _ _ c.args.others.now _ _ _ c.loop-next.invariant.sorted c.in-Some.ensures.cases.0 c.left_behind-left.ensures.those
-      c.in_ok-put_overlap.ensures c.loop-next.invariant.so_far;
+      c.in-Ok.ensures c.loop-next.invariant.so_far;
 }

@@ -9,5 +9,5 @@ put_beside-requires g c = rw take_rest (drop_from_left (c.loop-i.i + 1) c.args.r
 
 pub loop-i-preserved : goal.loop-i-preserved
 loop-i-preserved g c =
-    let beside = rw take_rest at c.in_ok-put_beside.ensures in
-    one_box c.args.row.now c.args.above.now c.loop-i.i c.index-row-i.result _ _ _ _ c.loop-i-test.true c.index-row-i.is beside c.in_ok-put_above.ensures c.loop-i.invariant
+    let beside = rw take_rest at c.in-Ok.ensures in
+    one_box c.args.row.now c.args.above.now c.loop-i.i c.index-row-i.result _ _ _ _ c.loop-i-test.true c.index-row-i.is beside c.in-Ok-put_above.ensures c.loop-i.invariant

@@ -17,5 +17,5 @@ loop-component-preserved g c =
       beside = c.at_next_edge-beside.ensures;
       so_far =
           one_component (surroundings_view c.args.surroundings.now) c.args.boxes.now c.loop-component.component-index component _ _ _ _ _ c.loop-component-test.true c.component-item.is lines
-          c.in_ok-put_by_rows.ensures c.in_ok-put_at_borders.ensures c.loop-component.invariant.so_far;
+          c.in-Ok.ensures c.in-Ok-put_at_borders.ensures c.loop-component.invariant.so_far;
     }

@@ -8,5 +8,5 @@ pub returns : goal.returns
 returns g c =
     let s = surroundings_view c.args.surroundings.now in
     let component = boxed_view c.args.component.now in
-    let both = rows_and_borders c.args.lines.now _ (row_lines s.rows component) (outside_lines s.die component) (fence_lines s component) c.in_ok-put_in_rows.ensures in
+    let both = rows_and_borders c.args.lines.now _ (row_lines s.rows component) (outside_lines s.die component) (fence_lines s component) c.in-Ok.ensures in
     rw both at (c.put_at_borders.ensures)

@@ -5,6 +5,5 @@ use Rattle.place_checks.proofs.surroundings.surroundings_of.Goals as goal
 
 pub returns : goal.returns
 returns g c =
-    let rows = rw c.in_ok-rows_of.ensures at c.new.ensures in
-    let assignments = rw (c.deref.ensures.value, c.in_ok-assignments.ensures) at c.in_ok-new.ensures in
-    same_surroundings _ (surroundings c.args.library.now (records_view c.args.records.now)) rows c.die_of.ensures c.in_ok-fences_of.ensures assignments
+    let rows = rw c.in-Ok.ensures at c.new.ensures in
+    same_surroundings _ (surroundings c.args.library.now (records_view c.args.records.now)) rows c.die_of.ensures c.in-Ok-fences_of.ensures c.in-Ok-assignment_table.ensures

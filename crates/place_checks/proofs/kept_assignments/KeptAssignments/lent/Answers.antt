@@ -10,10 +10,10 @@ use Rattle.place_checks.proofs.kept_assignments.KeptAssignments.lent.Goals as go
 
 pub in_order-requires-clause-sorted : goal.in_order-requires-clause-sorted
 in_order-requires-clause-sorted g c =
-    let same : map assigned_view c.in_ok-named.named.items ≡ map kept_assigned_view c.self.inside.named.items = c.in_ok-named.ensures ∙ ap (map kept_assigned_view) c.deref.ensures.value in
-    in_order_as_seen assigned_view pattern_in (slice_cmp nat_cmp) c.in_ok-named.named.items (subst AreInOrder (sym same) c.self.invariant).sorted
+    let same : map assigned_view c.in-Ok.value.items ≡ map kept_assigned_view c.self.inside.named.items = c.in-Ok.ensures ∙ ap (map kept_assigned_view) c.deref.ensures.value in
+    in_order_as_seen assigned_view pattern_in (slice_cmp nat_cmp) c.in-Ok.value.items (subst AreInOrder (sym same) c.self.invariant).sorted
 
 pub in_order-requires-clause-starless : goal.in_order-requires-clause-starless
 in_order-requires-clause-starless g c =
-    let same : map assigned_view c.in_ok-named.named.items ≡ map kept_assigned_view c.self.inside.named.items = c.in_ok-named.ensures ∙ ap (map kept_assigned_view) c.deref.ensures.value in
-    any_map (λ a. has_star (pattern_in a)) assigned_view c.in_ok-named.named.items ∙ (subst AreInOrder (sym same) c.self.invariant).starless
+    let same : map assigned_view c.in-Ok.value.items ≡ map kept_assigned_view c.self.inside.named.items = c.in-Ok.ensures ∙ ap (map kept_assigned_view) c.deref.ensures.value in
+    any_map (λ a. has_star (pattern_in a)) assigned_view c.in-Ok.value.items ∙ (subst AreInOrder (sym same) c.self.invariant).starless

@@ -11,7 +11,7 @@ use Rattle.place_checks.proofs.kept_assignments.KeptAssignments.of.Goals as goal
 pub invariant_of-result : goal.invariant_of-result
 invariant_of-result g c =
     let table = c.args.table.now in
-    let same : map kept_assigned_view c.in_ok-named_of.field-0.items ≡ map assigned_view table.named.items = c.in_ok-named_of.ensures ∙ ap (map assigned_view) c.deref.ensures.value in
+    let same : map kept_assigned_view c.in-Ok.value.items ≡ map assigned_view table.named.items = c.in-Ok.ensures ∙ ap (map assigned_view) c.deref.ensures.value in
     let there : AreInOrder (map assigned_view table.named.items) = record {
       sorted = seen_in_order assigned_view pattern_in (slice_cmp nat_cmp) table.named.items table.sorted;
       starless = sym (any_map (λ a. has_star (pattern_in a)) assigned_view table.named.items) ∙ table.starless;

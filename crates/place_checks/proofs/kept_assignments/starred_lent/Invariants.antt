@@ -1,7 +1,0 @@
-use Rattle.std.proofs.Common.{◌≡◌, ◌++◌, drop, map}
-use Rattle.place_checks.specs.KeptViews.{kept_starred_view}
-use Rattle.place_checks.specs.Patterns.{starred_view}
-use Rattle.place_checks.proofs.kept_assignments.starred_lent.Given as goal
-
-abbrev pub invariant-loop-one : goal.invariant-loop-one
-invariant-loop-one g l = map starred_view l.starred.items ++ map kept_starred_view (drop l.one-index l.all) ≡ map kept_starred_view l.all
