@@ -1,6 +1,6 @@
 -- Statements that are found by the numbers of those that pass a test, each number once.
-use Rattle.std.proofs.Common.{◌≡◌, ◌≢◌, ◌&&◌, ◌||◌, ◌+◌, ℕ, Bool, true, false, List, [], ◌∷◌, ◌++◌, length, Option, Some, None, refl, sym, ap, ap₂, subst, ◌∙◌, ⊎_elim, inl, inr, arith}
-use Rattle.std.specs.Prelude.{◌==◌, filter, flat_map, sum_by}
+use Rattle.std.proofs.Common.{◌≡◌, ◌≢◌, ◌&&◌, ◌||◌, ◌+◌, ℕ, Bool, true, false, List, [], ◌∷◌, ◌++◌, length, Option, Some, None, Result, Ok, Err, IfOk, refl, sym, ap, ap₂, subst, ◌∙◌, ⊎_elim, inl, inr, arith}
+use Rattle.std.specs.Prelude.{◌==◌, IfSome, filter, flat_map, sum_by}
 use Rattle.std.specs.List.{cons_option, filter_map, list_any, zip}
 use Rattle.std.specs.Option.{option_map, option_to_list}
 use Rattle.std.proofs.lemmas.Bool.{cases_Bool, cases_eq}
@@ -245,3 +245,9 @@ pub any_said : (c : Content) (test : Record → Bool) (ids : List StmtId) → li
 any_said c test [] = refl
 any_said c test (id ∷ ids) =
     one_said test (statement_under c id) (filter_map (said_under c) ids) ∙ ap (λ (b : Bool). says_one test (statement_under c id) || b) (any_said c test ids)
+
+-- what is found is what more is said of
+pub found_so : {X E : Type 0} {P Q : X → Type 0} → ((x : X) → P x → Q x) → (r : Result (Option X) E) → IfOk r (λ o. IfSome o P) → IfOk r (λ o. IfSome o Q)
+found_so f (Ok (Some x)) h = f x h
+found_so f (Ok None) h = tt
+found_so f (Err e) h = tt

@@ -114,3 +114,7 @@ module _ (name : List ℕ) where
   component_first ((ps, entry (via v)) ∷ xs) = component_first xs
   component_first ((ps, entry (rule r)) ∷ xs) = component_first xs
   component_first ((ps, entry (skipped s tokens)) ∷ xs) = rw (never (bytes_eq (section_word s) (section_word Components))) (component_first xs)
+
+  -- the component of a name is that of the entry of the name
+  pub component_at_is : (xs : List (List Token × Record)) → component_in (entry_at Components name xs) ≡ component_at name xs
+  component_at_is xs = sym (ap component_in (entry_first Components name xs)) ∙ component_first xs

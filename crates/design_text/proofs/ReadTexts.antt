@@ -1,5 +1,5 @@
 -- Texts that read.
-use Rattle.std.proofs.Common.{◌≡◌, ℕ, ◌≤◌, ◌+◌, ◌-◌, true, false, nat_lt, List, ◌++◌, length, take, drop, Result, Ok, Err, IsOk, refl, arith, ⊎_elim}
+use Rattle.std.proofs.Common.{◌≡◌, ℕ, ◌≤◌, ◌+◌, ◌-◌, true, false, nat_lt, List, ◌++◌, length, take, drop, Result, Ok, Err, IsOk, refl, ap, arith, ⊎_elim}
 use Rattle.std.specs.Prelude.{nat_le}
 use Rattle.std.proofs.lemmas.Bool.{cases_Bool}
 use Rattle.std.proofs.lemmas.Bool.Decides.{nat_tests}
@@ -10,6 +10,7 @@ use Rattle.statement_model.specs.Cuts.{Cut, with_cuts}
 use Rattle.statement_model.specs.Reading.{read_text}
 use Rattle.def_grammar.specs.Records.{Record, read_def}
 use Rattle.lef_grammar.specs.Library.{Library}
+use Rattle.edit_model.specs.declared.edit.EditRefusal.TheVariants.{Unreadable}
 use Rattle.edit_rules.specs.Edits.{Change, is_long}
 use Rattle.edit_rules.specs.Runs.{Makes, if_it_reads, new_text, text_outcome}
 use Rattle.edit_laws.specs.EditLaws.{EditsAreApplied, EditsKeepTheRest}
@@ -60,6 +61,19 @@ module _ (text : List ℕ) (a b : ℕ) (put : List ℕ) (order : a ≤ b) (withi
       let low : nat_le a b ≡ true = grind (arith, nat_tests) in
       let high : nat_le b (length text) ≡ true = grind (arith, nat_tests) in
       rw (low, high, short) (if_reads (new_text text a b put) (read_def (new_text text a b put)) reads)
+
+  pub spliced_is : take a text ++ (put ++ drop b text) ≡ new_text text a b put
+  spliced_is = ap (λ (n : ℕ). take n text ++ (put ++ drop b text)) (let e : a ≡ a - 0 = omega arith in e)
+
+  pub refused_is : is_long (new_text text a b put) ≡ false → (f : Fault) → read_def (new_text text a b put) ≡ Err f → text_outcome text a b put ≡ Err (Unreadable f)
+  refused_is short f reads =
+      let low : nat_le a b ≡ true = grind (arith, nat_tests) in
+      let high : nat_le b (length text) ≡ true = grind (arith, nat_tests) in
+      rw (low, high, short, reads) refl
+
+-- a text with a fault doesn't read
+pub has_fault : (text : List ℕ) (f : Fault) → read_def text ≡ Err f → IsOk (read_def text) → ⊥
+has_fault text f fault reads = let e = rw fault at reads in absurd (cc)
 
 -- what isn't made leaves the text
 pub not_made : (T : Type 0) (old new : List ℕ) (cuts : List Cut) (e : PrepareError) → MakesCuts {T = T} old cuts (Err e) new → new ≡ old

@@ -3,6 +3,7 @@ pub mod Editing
 pub mod EntryBytes
 pub mod Exchanges
 pub mod FewReads
+pub mod FoundOnce
 pub mod Headers
 pub mod Listings
 pub mod NamedEntries

@@ -16,7 +16,7 @@ ghost use Rattle.design_text.specs.FewReads.{ReadsFew, most_reads, new_in};
 ghost use Rattle.design_text.specs.Editing.{EditsText, IsRefused, KeepsTheRest, MakesCuts, MakesTwo, ReadsEdited, ReplacesIn};
 
 use crate::made::{Made, Steps};
-use crate::replacing::replaced_text;
+use crate::replacing::replaced_refusal;
 use crate::text::DesignText;
 use cell_library::library::Library;
 use def_splice::splices::looked_up_splices;
@@ -32,13 +32,18 @@ fn text_cuts<'s, A: Allocator + Copy>(
 ) -> Result<Vec<TextCut<'s>, A>, AllocError>
     ensures { IfOk result (λ v. map cut_of v.items ≡ map cut_view splices.now) }
 {
-    let mut cuts = Vec::with_capacity(alloc, splices.len())?;
+    let Ok(mut cuts) = Vec::with_capacity(alloc, splices.len()) else {
+        return Err(AllocError);
+    };
     for splice in splices {
-        cuts.push(TextCut {
+        let cut = TextCut {
             lo: splice.lo,
             hi: splice.hi,
             put: splice.put.as_slice(),
-        })?;
+        };
+        let Ok(()) = cuts.push(cut) else {
+            return Err(AllocError);
+        };
     }
     Ok(cuts)
 }
@@ -130,16 +135,31 @@ impl<A: Allocator + Copy> DesignText<A> {
                 reads: 0,
                 steps: Steps::Zero,
             }),
-            [first, last] => match self.make_two(alloc, *first, *last)? {
-                Some(made) => Ok(made),
-                None => {
+            [first, last] => match self.make_two(alloc, *first, *last) {
+                Ok(Some(made)) => Ok(made),
+                Ok(None) => {
                     let made = self.make(alloc, cuts);
                     self.text_reads();
                     made
                 }
+                Err(_) => Err(PrepareError::Memory),
             },
             _ => self.make(alloc, cuts),
         }
+    }
+
+    /// Makes the cuts that splices are, which stand in order.
+    fn make_splices(&mut self, alloc: A, splices: &[Splice<A>]) -> Result<Made<A>, PrepareError>
+        requires { AreInOrder 0 (map cut_view splices.now) (length (text_of self.old)) }
+        ensures makes { MakesCuts (text_of self.old) (map cut_view splices.now) result (text_of self.new) }
+        ensures few { IfOk result (λ made. made.reads ≤ most_reads (text_of self.old) (map cut_view splices.now)) }
+        ensures exchanged { IfOk result (λ made. AreExchanges self.new.pieces.table.slots (records_in self.old) made.exchanges (records_in self.new)) }
+        ensures same { OnErr result (records_in self.new ≡ records_in self.old) }
+    {
+        let Ok(cuts) = text_cuts(alloc, splices) else {
+            return Err(PrepareError::Memory);
+        };
+        self.make_apart(alloc, &cuts)
     }
 
     /// Makes an edit, and says how many statements were read for the new text and which went and came; or refuses it and leaves the
@@ -161,8 +181,7 @@ impl<A: Allocator + Copy> DesignText<A> {
         edits_keep_the_rest();
         self.text_reads();
         let splices = looked_up_splices(alloc, library, self, edit)?;
-        let cuts = text_cuts(alloc, splices.as_slice())?;
-        match self.make_apart(alloc, &cuts) {
+        match self.make_splices(alloc, splices.as_slice()) {
             Ok(made) => Ok(made),
             // The cuts of an edit stand in order, and the text with them made reads: what is left is want of memory.
             Err(_) => Err(EditRefusal::Memory),
@@ -181,10 +200,7 @@ impl<A: Allocator + Copy> DesignText<A> {
         let Ok(text) = self.text(alloc) else {
             return EditRefusal::Memory;
         };
-        match replaced_text(alloc, self.tables.hash_builder(), &text, lo, hi, put) {
-            Ok(_) => unreachable!(),
-            Err(refusal) => refusal,
-        }
+        replaced_refusal(alloc, self.tables.hash_builder(), &text, lo, hi, put)
     }
 
     /// Puts bytes in the place of those from `lo` up to `hi`, and says how many statements were read for the new text and which went and

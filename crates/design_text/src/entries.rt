@@ -23,9 +23,15 @@ impl<A: Allocator + Copy> DesignText<A> {
         ensures { (design : List Record) → read_def (text_of self.now) ≡ Ok design → AreBytesOf (text_of self.now) (entry_at section name.now (located (text_of self.now) design)) result }
     {
         self.statements_are_known();
-        let id = self.tables.find(section, name)?;
-        let bytes = self.pieces.statement(id)?;
-        let pos = self.pieces.offset(id)?;
+        let Some(id) = self.tables.find(section, name) else {
+            return None;
+        };
+        let Some(bytes) = self.pieces.statement(id) else {
+            return None;
+        };
+        let Some(pos) = self.pieces.offset(id) else {
+            return None;
+        };
         Some(EntryBytes { bytes, pos })
     }
 }

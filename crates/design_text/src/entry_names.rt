@@ -59,7 +59,9 @@ impl<A: Allocator + Copy> DesignText<A> {
     {
         self.statements_are_known();
         self.design_is_read();
-        let (statement, _) = LookUps::entry(self, section, name)?;
+        let Some((statement, _)) = LookUps::entry(self, section, name) else {
+            return None;
+        };
         statement.entry()
     }
 }

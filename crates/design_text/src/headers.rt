@@ -31,8 +31,12 @@ impl<A: Allocator + Copy> DesignText<A> {
     {
         self.statements_are_known();
         self.design_is_read();
-        let id = self.tables.header(section)?;
-        let (statement, _) = self.found(id)?;
+        let Some(id) = self.tables.header(section) else {
+            return None;
+        };
+        let Some((statement, _)) = self.found(id) else {
+            return None;
+        };
         number_of(&statement)
     }
 

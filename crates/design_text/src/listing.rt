@@ -8,6 +8,7 @@ ghost use Rattle.def_reader.specs.StatementViews.{record_view};
 ghost use Rattle.text_pieces.specs.Chunks.{AreOnce};
 ghost use Rattle.design_tables.specs.Lookups.{is_number};
 ghost use Rattle.design_text.specs.DesignTexts.{design_of};
+ghost use Rattle.design_text.specs.FoundOnce.{AreFoundOnce};
 ghost use Rattle.design_text.specs.Listings.{HasListing, HasPinListing, ListsOnce, said_under};
 
 use crate::text::DesignText;
@@ -44,7 +45,9 @@ fn each_once<A: Allocator + Copy>(
             if ids.len() == most {
                 return Ok(None);
             }
-            ids.push(id)?;
+            let Ok(()) = ids.push(id) else {
+                return Err(AllocError);
+            };
         }
     }
     Ok(Some(ids))
@@ -60,7 +63,9 @@ impl<A: Allocator + Copy> DesignText<A> {
         ensures { OnOk result (map record_view statements.new.items ≡ map record_view statements.old.items ++ option_to_list (said_under self.entry.now id)) }
     {
         if let Some((statement, _)) = self.found(id) {
-            statements.push(statement)?;
+            let Ok(()) = statements.push(statement) else {
+                return Err(AllocError);
+            };
         }
         Ok(())
     }
@@ -71,9 +76,32 @@ impl<A: Allocator + Copy> DesignText<A> {
     {
         let mut statements = Vec::new(alloc);
         for id in ids {
-            self.push_found(*id, &mut statements)?;
+            let Ok(()) = self.push_found(*id, &mut statements) else {
+                return Err(AllocError);
+            };
         }
         Ok(statements)
+    }
+
+    /// The statements of numbers, each once, unless there are more than `most`.
+    fn each_found(
+        &self,
+        alloc: A,
+        numbers: Numbers<'_>,
+        most: usize,
+    ) -> Result<Option<Vec<Statement<'_>, A>>, AllocError>
+        ensures { IfOk result (λ found. IfSome found (λ v. AreFoundOnce self.entry.now numbers.entry (map record_view v.items))) }
+    {
+        let Ok(found) = each_once(alloc, numbers, most) else {
+            return Err(AllocError);
+        };
+        let Some(ids) = found else {
+            return Ok(None);
+        };
+        let Ok(entries) = self.all_found(alloc, &ids) else {
+            return Err(AllocError);
+        };
+        Ok(Some(entries))
     }
 
     /// The entries of NETS and SPECIALNETS that list a pin of a component by its name, each once, unless there are more than `most`.
@@ -89,11 +117,7 @@ impl<A: Allocator + Copy> DesignText<A> {
     {
         self.statements_are_known();
         self.design_is_read();
-        let Some(ids) = each_once(alloc, self.tables.nets_of(component), most)? else {
-            return Ok(None);
-        };
-        let entries = self.all_found(alloc, &ids)?;
-        Ok(Some(entries))
+        self.each_found(alloc, self.tables.nets_of(component), most)
     }
 
     /// The entries of NETS and SPECIALNETS that list the pin of the design of this name, each once, unless there are more than `most`.
@@ -108,10 +132,6 @@ impl<A: Allocator + Copy> DesignText<A> {
     {
         self.statements_are_known();
         self.design_is_read();
-        let Some(ids) = each_once(alloc, self.tables.nets_of_design_pin(pin), most)? else {
-            return Ok(None);
-        };
-        let entries = self.all_found(alloc, &ids)?;
-        Ok(Some(entries))
+        self.each_found(alloc, self.tables.nets_of_design_pin(pin), most)
     }
 }

@@ -56,10 +56,16 @@ impl<A: Allocator + Copy> Steps<A> {
 }
 
 /// An edit that was made. The statements that went out are kept until it is let go of (`DesignText::let_go`).
-#[derive(Drop)]
 pub struct Made<A: Allocator + Copy = Global> {
     pub(crate) reads: u64,
     pub(crate) steps: Steps<A>,
+}
+
+// (written out, so that who owns an edit is proved over one call)
+impl<A: Allocator + Copy> Drop for Made<A> {
+    fn drop(self) {
+        let Made { reads: _, steps: _ } = self;
+    }
 }
 
 impl<A: Allocator + Copy> Model for Made<A> {
@@ -71,6 +77,12 @@ impl<A: Allocator + Copy> Model for Made<A> {
 }
 
 impl<A: Allocator + Copy> Made<A> {
+    /// The changes by which it was made.
+    fn into_steps(self) -> Steps<A> {
+        let Made { reads: _, steps } = self;
+        steps
+    }
+
     /// How many statements were read for the new text.
     pub fn reads(&self) -> u64
         ensures { result ≡ self.now.reads }
@@ -89,7 +101,9 @@ impl<A: Allocator + Copy> Made<A> {
     pub fn exchange(&self, place: usize) -> Option<Exchange<'_>>
         ensures { option_map exchange_view result ≡ slice_get self.now.exchanges place }
     {
-        let step = self.steps.at(place)?;
+        let Some(step) = self.steps.at(place) else {
+            return None;
+        };
         Some(Exchange {
             went: step.went(),
             came: step.came(),
@@ -103,7 +117,7 @@ impl<A: Allocator + Copy> DesignText<A> {
         ensures text { text_of self.new ≡ text_of self.old }
         ensures records { records_in self.new ≡ records_in self.old }
     {
-        match made.steps {
+        match made.into_steps() {
             Steps::Zero => {}
             Steps::One(step) => self.let_go_of(step),
             Steps::Two(first, second) => {

@@ -52,7 +52,9 @@ impl<'b, A: Allocator + Copy> Told for Telling<'b, A> {
     ghost says = { λ t xs. WereTold t.tables t.is_repeated xs };
 
     fn tell(&mut self, id: StmtId, statement: &Statement<'_>) -> Result<(), AllocError> {
-        let repeats = self.tables.add(id, statement, self.text)?;
+        let Ok(repeats) = self.tables.add(id, statement, self.text) else {
+            return Err(AllocError);
+        };
         if repeats {
             self.is_repeated = true;
             return Ok(());
@@ -91,8 +93,10 @@ fn check_keys<A: Allocator + Copy>(
     if telling.is_keyed() {
         return Ok(());
     }
-    read_def(alloc, hash_builder, text)?;
-    Ok(())
+    match read_def(alloc, hash_builder, text) {
+        Ok(_) => Ok(()),
+        Err(error) => Err(error),
+    }
 }
 
 /// What is answered of a text whose pieces can't be opened: its fault, which is the first of two, as a statement that comes again may

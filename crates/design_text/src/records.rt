@@ -29,9 +29,13 @@ fn statements_under<'t, A: Allocator + Copy>(
     requires { HavePieces pieces.now.table.slots ids.now }
     ensures { IfOk result (λ v. map record_view v.items ≡ map (λ id. record_of (kept_at pieces.now.table.slots id)) ids.now) }
 {
-    let mut statements = Vec::with_capacity(alloc, ids.len())?;
+    let Ok(mut statements) = Vec::with_capacity(alloc, ids.len()) else {
+        return Err(AllocError);
+    };
     for id in ids {
-        statements.push(kept_statement(pieces, *id))?;
+        let Ok(()) = statements.push(kept_statement(pieces, *id)) else {
+            return Err(AllocError);
+        };
     }
     Ok(statements)
 }
@@ -52,8 +56,12 @@ impl<A: Allocator + Copy> DesignText<A> {
     pub fn statement_at(&self, position: usize) -> Option<Statement<'_>>
         ensures { option_map record_view result ≡ record_at self.entry.now position }
     {
-        let id = self.pieces.find_at(position)?;
-        let (statement, _) = self.found(id)?;
+        let Some(id) = self.pieces.find_at(position) else {
+            return None;
+        };
+        let Some((statement, _)) = self.found(id) else {
+            return None;
+        };
         Some(statement)
     }
 

@@ -67,7 +67,9 @@ pub(crate) fn statement_of<A: Allocator + Copy>(
     ensures spelled { IfSome result (λ x. (c : Component) → record_view x.0 ≡ entry (component c) → words_of x.1.tokens ≡ spell component_form c) }
     ensures lies { IfSome result (λ x. LiesIn (text_of pieces.now) x.1) }
 {
-    let piece = pieces.piece(id)?;
+    let Some(piece) = pieces.piece(id) else {
+        return None;
+    };
     let read = read_piece(piece.bytes, piece.mode);
     let tokens = Lying {
         tokens: read.tokens,

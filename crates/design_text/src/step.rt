@@ -34,10 +34,16 @@ use text_pieces::prepared::{PrepareError, PreparedText, TextCut};
 use text_pieces::text::TextPieces;
 
 /// A change of the text of a design that is prepared; or, once it is made, the change that takes it back.
-#[derive(Drop)]
 pub(crate) struct Step<A: Allocator + Copy = Global> {
     text: PreparedText<A>,
     tables: PreparedTables<A>,
+}
+
+// (written out, so that who owns a step is proved over one call)
+impl<A: Allocator + Copy> Drop for Step<A> {
+    fn drop(self) {
+        let Step { text: _, tables: _ } = self;
+    }
 }
 
 impl<A: Allocator + Copy> Model for Step<A> {
@@ -70,6 +76,12 @@ impl<A: Allocator + Copy> Step<A> {
     {
         self.text.out()
     }
+
+    /// The changes of the pieces and of the tables that it is.
+    fn into_parts(self) -> (PreparedText<A>, PreparedTables<A>) {
+        let Step { text, tables } = self;
+        (text, tables)
+    }
 }
 
 /// The statements that are kept under some numbers, each read from its piece alone.
@@ -81,10 +93,14 @@ pub(crate) fn numbered<'t, A: Allocator + Copy>(
     requires { HavePieces pieces.now.table.slots ids.now }
     ensures { IfOk result (λ v. map numbered_view v.items ≡ records_under pieces.now.table.slots ids.now) }
 {
-    let mut statements = Vec::with_capacity(alloc, ids.len())?;
+    let Ok(mut statements) = Vec::with_capacity(alloc, ids.len()) else {
+        return Err(AllocError);
+    };
     for id in ids {
         let statement = kept_statement(pieces, *id);
-        statements.push(Numbered { id: *id, statement })?;
+        let Ok(()) = statements.push(Numbered { id: *id, statement }) else {
+            return Err(AllocError);
+        };
     }
     Ok(statements)
 }
@@ -108,8 +124,12 @@ fn prepare_tables<A: Allocator + Copy>(
 {
     order_makes_no_difference();
     pieces.statements_are_parted(change);
-    let out = numbered(alloc, pieces, change.out())?;
-    let put = numbered(alloc, pieces, change.put())?;
+    let Ok(out) = numbered(alloc, pieces, change.out()) else {
+        return Err(PrepareError::Memory);
+    };
+    let Ok(put) = numbered(alloc, pieces, change.put()) else {
+        return Err(PrepareError::Memory);
+    };
     match tables.prepare(&out, &put) {
         Ok(prepared) => Ok(prepared),
         Err(design_tables::PrepareError::Duplicate) => Err(PrepareError::Fault),
@@ -180,7 +200,7 @@ impl<A: Allocator + Copy> DesignText<A> {
     {
         records_are_read::<Statement<'_>>();
         self.text_reads();
-        let Step { text, tables } = step;
+        let (text, tables) = step.into_parts();
         self.pieces.let_go(text);
         self.tables.let_go(tables);
     }

@@ -25,12 +25,22 @@ use text_pieces::prepared::PreparedText;
 use text_pieces::text::TextPieces;
 
 /// The pieces of a text that reads, and the tables of its statements under their numbers.
-#[derive(Drop)]
 pub struct DesignText<A: Allocator + Copy = Global> {
     pub(crate) pieces: TextPieces<A>,
     pub(crate) tables: Tables<A>,
     // A change of the pieces that was prepared, and whose tables weren't.
     pub(crate) unused: Option<PreparedText<A>>,
+}
+
+// (written out, so that who owns the text of a design is proved over one call)
+impl<A: Allocator + Copy> Drop for DesignText<A> {
+    fn drop(self) {
+        let DesignText {
+            pieces: _,
+            tables: _,
+            unused: _,
+        } = self;
+    }
 }
 
 impl<A: Allocator + Copy> Model for DesignText<A> {
@@ -71,6 +81,18 @@ impl<A: Allocator + Copy> DesignText<A> {
         let _ = &self.pieces;
         let _ = &self.tables;
         self.statements_are_known();
+    }
+
+    /// The pieces of the text. The tables are given back.
+    pub(crate) fn into_pieces(self) -> TextPieces<A>
+        ensures { result ≡ self.pieces }
+    {
+        let DesignText {
+            pieces,
+            tables: _,
+            unused: _,
+        } = self;
+        pieces
     }
 
     /// The statement of a number. It alone is read.

@@ -18,7 +18,10 @@ use text_pieces::text::TextPieces;
 fn joined<A: Allocator + Copy>(alloc: A, pieces: &TextPieces<A>) -> Result<Vec<u8, A>, AllocError>
     ensures { IfOk result (λ v. v.items ≡ text_in_pieces pieces.now) }
 {
-    let mut out = Counted::new(Vec::with_capacity(alloc, pieces.len())?);
+    let Ok(bytes) = Vec::with_capacity(alloc, pieces.len()) else {
+        return Err(AllocError);
+    };
+    let mut out = Counted::new(bytes);
     match pieces.write_to(&mut out) {
         Ok(()) => Ok(out.into_inner()),
         Err(_) => Err(AllocError),
@@ -44,13 +47,7 @@ impl<A: Allocator + Copy> DesignText<A> {
     pub fn into_text(self, alloc: A) -> Result<Vec<u8, A>, AllocError>
         ensures { IfOk result (λ v. v.items ≡ text_of self) }
     {
-        let DesignText {
-            pieces,
-            tables,
-            unused,
-        } = self;
-        drop(tables);
-        drop(unused);
+        let pieces = self.into_pieces();
         joined(alloc, &pieces)
     }
 

@@ -62,7 +62,9 @@ impl<A: Allocator + Copy> Block<A> {
         if hi > MAX_TEXT {
             return Err(AllocError);
         }
-        let block = self.bytes.clone()?;
+        let Ok(block) = self.bytes.clone() else {
+            return Err(AllocError);
+        };
         Ok(PieceBytes {
             block,
             lo: lo as u32,

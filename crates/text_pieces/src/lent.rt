@@ -31,7 +31,9 @@ impl<A: Allocator + Copy> TextPieces<A> {
     {
         texts_are_read();
         chains_lead();
-        let at = self.table.start_of(id)?;
+        let Some(at) = self.table.start_of(id) else {
+            return None;
+        };
         let piece = &self.table.pieces[id.0];
         Some(LentPiece {
             bytes: piece.bytes.as_slice(),
@@ -45,7 +47,9 @@ impl<A: Allocator + Copy> TextPieces<A> {
     pub fn kept_piece(&self, id: StmtId) -> Option<(&[u8], Mode)>
         ensures { LendsKept self.now.table.slots id result }
     {
-        let piece = self.table.pieces.get(id.0)?;
+        let Some(piece) = self.table.pieces.get(id.0) else {
+            return None;
+        };
         Some((piece.bytes.as_slice(), piece.mode))
     }
 

@@ -39,10 +39,14 @@ pub(crate) fn new_lists<A: Allocator + Copy>(
     for k in chunk..table.chunk_count() {
         let old = table.ids_in(k);
         let gone = left.min(old.len() - place);
-        ids.extend_from_slice(&old[place + gone..])?;
+        let Ok(()) = ids.extend_from_slice(&old[place + gone..]) else {
+            return Err(AllocError);
+        };
         let len = table.weight_anew(k, &ids, place, gone);
         let chunk = Chunk { ids, len };
-        changes.push(Change { place: k, chunk })?;
+        let Ok(()) = changes.push(Change { place: k, chunk }) else {
+            return Err(AllocError);
+        };
         if gone == left {
             return Ok(changes);
         }
@@ -71,10 +75,20 @@ pub(crate) fn place_new<A: Allocator + Copy>(
     ensures chunks { (table_of table.new).chunks ≡ (table_of table.old).chunks }
     ensures stays { StaysKept (table_of table.old).slots (table_of table.new).slots }
 {
-    let number = small(chunk)?;
-    let mut head = Vec::from_slice(alloc, &table.ids_in(chunk)[..index])?;
-    store_all(&mut table.pieces, &mut head, new, number)?;
-    let ids = Vec::from_slice(alloc, &head[index..])?;
-    let changes = new_lists(alloc, table, chunk, index, out, head)?;
+    let Ok(number) = small(chunk) else {
+        return Err(AllocError);
+    };
+    let Ok(mut head) = Vec::from_slice(alloc, &table.ids_in(chunk)[..index]) else {
+        return Err(AllocError);
+    };
+    let Ok(()) = store_all(&mut table.pieces, &mut head, new, number) else {
+        return Err(AllocError);
+    };
+    let Ok(ids) = Vec::from_slice(alloc, &head[index..]) else {
+        return Err(AllocError);
+    };
+    let Ok(changes) = new_lists(alloc, table, chunk, index, out, head) else {
+        return Err(AllocError);
+    };
     Ok((changes, ids))
 }

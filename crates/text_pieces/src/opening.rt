@@ -80,7 +80,11 @@ pub(crate) fn read_chunk<A: Allocator + Copy, T: Told>(
     let mut mode = first;
     let mut pos = from;
     'statements: while ids.len() < CHUNK {
-        let Some(read) = next_piece(mode, text, pos)? else {
+        let found = match next_piece(mode, text, pos) {
+            Ok(found) => found,
+            Err(fault) => return Err(ReadError::Fault(fault)),
+        };
+        let Some(read) = found else {
             let chunk = Chunk {
                 ids,
                 len: pos - from,
@@ -92,12 +96,17 @@ pub(crate) fn read_chunk<A: Allocator + Copy, T: Told>(
                 is_last: true,
             });
         };
+        let Ok(bytes) = block.part(pos, read.end) else {
+            return Err(ReadError::Memory);
+        };
         let piece = Piece {
-            bytes: block.part(pos, read.end)?,
+            bytes,
             mode,
             chunk: number,
         };
-        let id = keep(pieces, &mut ids, piece)?;
+        let Ok(id) = keep(pieces, &mut ids, piece) else {
+            return Err(ReadError::Memory);
+        };
         told.tell(id, &read.statement)?;
         mode = read.place;
         pos = read.end;

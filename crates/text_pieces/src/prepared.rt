@@ -61,7 +61,6 @@ impl<'t> TextCut<'t> {
 }
 
 /// A change of a text, which is prepared and isn't made yet; or, once it is made, the change that takes it back.
-#[derive(Drop)]
 pub struct PreparedText<A: Allocator = Global> {
     pub(crate) changes: Vec<Change<A>, A>,
     pub(crate) tail: Vec<u8, A>,
@@ -69,6 +68,20 @@ pub struct PreparedText<A: Allocator = Global> {
     pub(crate) out: Vec<StmtId, A>,
     pub(crate) put: Vec<StmtId, A>,
     pub(crate) reads: u64,
+}
+
+// (written out, so that who owns this is proved over one call)
+impl<A: Allocator> Drop for PreparedText<A> {
+    fn drop(self) {
+        let PreparedText {
+            changes: _,
+            tail: _,
+            len: _,
+            out: _,
+            put: _,
+            reads: _,
+        } = self;
+    }
 }
 
 impl<A: Allocator> Model for PreparedText<A> {

@@ -30,9 +30,13 @@ pub(crate) fn keep<A: Allocator + Copy>(
     ensures kept { IfOk result (StoresBehind (map (option_map kept) pieces.old.slots) (map (option_map kept) pieces.new.slots) (kept piece) ids.old.items ids.new.items) }
     ensures stays { StaysKept (map (option_map kept) pieces.old.slots) (map (option_map kept) pieces.new.slots) }
 {
-    pieces.reserve(1)?;
+    if let Err(_) = pieces.reserve(1) {
+        return Err(AllocError);
+    }
     let id = StmtId(pieces.insert_reserved(piece));
-    ids.push(id)?;
+    let Ok(()) = ids.push(id) else {
+        return Err(AllocError);
+    };
     Ok(id)
 }
 
@@ -49,9 +53,15 @@ pub(crate) fn store_all<A: Allocator + Copy>(
 {
     for piece in new {
         let NewPiece { bytes, mode } = piece;
-        let block = Block::new(bytes)?;
-        let bytes = block.whole()?;
-        keep(pieces, ids, Piece { bytes, mode, chunk })?;
+        let Ok(block) = Block::new(bytes) else {
+            return Err(AllocError);
+        };
+        let Ok(bytes) = block.whole() else {
+            return Err(AllocError);
+        };
+        let Ok(_id) = keep(pieces, ids, Piece { bytes, mode, chunk }) else {
+            return Err(AllocError);
+        };
     }
     Ok(())
 }

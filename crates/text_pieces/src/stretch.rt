@@ -40,7 +40,9 @@ pub(crate) fn touched<S: Segments, A: Allocator + Copy>(
         let Some(segment) = segments.segment(count) else {
             return Ok((bytes, count));
         };
-        bytes.extend_from_slice(segment.bytes)?;
+        let Ok(()) = bytes.extend_from_slice(segment.bytes) else {
+            return Err(AllocError);
+        };
         count += 1;
     }
 }
@@ -57,9 +59,15 @@ pub(crate) fn spliced<A: Allocator + Copy>(
     requires hi { hi ≤ length bytes.now }
     ensures { IfOk result (λ v. v.items ≡ take lo bytes.now ++ (put.now ++ drop hi bytes.now)) }
 {
-    let mut made = Vec::from_slice(alloc, &bytes[..lo])?;
-    made.extend_from_slice(put)?;
-    made.extend_from_slice(&bytes[hi..])?;
+    let Ok(mut made) = Vec::from_slice(alloc, &bytes[..lo]) else {
+        return Err(AllocError);
+    };
+    if let Err(_) = made.extend_from_slice(put) {
+        return Err(AllocError);
+    }
+    if let Err(_) = made.extend_from_slice(&bytes[hi..]) {
+        return Err(AllocError);
+    }
     Ok(made)
 }
 
@@ -74,7 +82,9 @@ pub(crate) fn append_part<A: Allocator + Copy>(
     requires within { hi ≤ length bytes.now }
     ensures { OnOk result (out.new.items ≡ out.old.items ++ slice_range bytes.now lo hi) }
 {
-    out.extend_from_slice(&bytes[lo..hi])?;
+    if let Err(_) = out.extend_from_slice(&bytes[lo..hi]) {
+        return Err(AllocError);
+    }
     Ok(())
 }
 

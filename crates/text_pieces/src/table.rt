@@ -80,8 +80,13 @@ impl<A: Allocator> PieceTable<A> {
         requires { IsTable (table_of self.now) }
         ensures { MatchOption result (IsAbsent id (ids_of (table_of self.now))) (λ x. StandsAt (table_of self.now) id x.0 x.1) }
     {
-        let chunk = self.pieces.get(id.0)?.chunk as usize;
-        let place = place_in(self.ids_in(chunk), id)?;
+        let Some(piece) = self.pieces.get(id.0) else {
+            return None;
+        };
+        let chunk = piece.chunk as usize;
+        let Some(place) = place_in(self.ids_in(chunk), id) else {
+            return None;
+        };
         Some((chunk, place))
     }
 
@@ -90,7 +95,9 @@ impl<A: Allocator> PieceTable<A> {
         requires { IsTable (table_of self.now) }
         ensures { MatchOption result (IsAbsent id (ids_of (table_of self.now))) (λ p. (kept p.now ≡ kept_at (table_of self.now).slots id) × Stands id (ids_of (table_of self.now))) }
     {
-        let _place = self.place(id)?;
+        let Some(_place) = self.place(id) else {
+            return None;
+        };
         Some(&self.pieces[id.0])
     }
 
@@ -163,7 +170,9 @@ impl<A: Allocator> PieceTable<A> {
         requires { IsTable (table_of self.now) }
         ensures { result ≡ start_in (table_of self.now).slots 0 id (ids_of (table_of self.now)) }
     {
-        let (chunk, place) = self.place(id)?;
+        let Some((chunk, place)) = self.place(id) else {
+            return None;
+        };
         Some(self.weight_before(chunk) + self.weight_to(chunk, place))
     }
 
@@ -241,7 +250,9 @@ impl<A: Allocator> PieceTable<A> {
             let Some(id) = self.id_from(chunk, place, k) else {
                 return Ok(ids);
             };
-            ids.push(id)?;
+            let Ok(()) = ids.push(id) else {
+                return Err(AllocError);
+            };
         }
         Ok(ids)
     }
@@ -403,7 +414,9 @@ impl<A: Allocator> PieceTable<A> {
         requires { IsTable (table_of self.now) }
         ensures { result ≡ id_after id (ids_of (table_of self.now)) }
     {
-        let (chunk, place) = self.place(id)?;
+        let Some((chunk, place)) = self.place(id) else {
+            return None;
+        };
         let ids = self.ids_in(chunk);
         if place + 1 < ids.len() {
             return Some(ids[place + 1]);
@@ -416,7 +429,9 @@ impl<A: Allocator> PieceTable<A> {
         requires { IsTable (table_of self.now) }
         ensures { result ≡ id_before id (ids_of (table_of self.now)) }
     {
-        let (chunk, place) = self.place(id)?;
+        let Some((chunk, place)) = self.place(id) else {
+            return None;
+        };
         if place > 0 {
             return Some(self.ids_in(chunk)[place - 1]);
         }
@@ -429,9 +444,13 @@ impl<A: Allocator + Copy> PieceTable<A> {
     pub(crate) fn numbers(&self, alloc: A) -> Result<Vec<StmtId, A>, AllocError>
         ensures { IfOk result (λ ids. ids.items ≡ ids_of (table_of self.now)) }
     {
-        let mut ids = Vec::with_capacity(alloc, self.pieces.len())?;
+        let Ok(mut ids) = Vec::with_capacity(alloc, self.pieces.len()) else {
+            return Err(AllocError);
+        };
         for chunk in &self.chunks {
-            ids.extend_from_slice(&chunk.ids)?;
+            let Ok(()) = ids.extend_from_slice(&chunk.ids) else {
+                return Err(AllocError);
+            };
         }
         Ok(ids)
     }

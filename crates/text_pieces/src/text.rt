@@ -43,11 +43,21 @@ use std::alloc::{AllocError, Allocator, Global};
 use std::marker::Model;
 
 /// A text as the pieces of its statements, and the bytes behind the last of them.
-#[derive(Drop)]
 pub struct TextPieces<A: Allocator = Global> {
     pub(crate) table: PieceTable<A>,
     tail: Vec<u8, A>,
     len: usize,
+}
+
+// (written out, so that who owns this is proved over one call)
+impl<A: Allocator> Drop for TextPieces<A> {
+    fn drop(self) {
+        let TextPieces {
+            table: _,
+            tail: _,
+            len: _,
+        } = self;
+    }
 }
 
 impl<A: Allocator> Model for TextPieces<A> {
@@ -115,7 +125,12 @@ impl<A: Allocator + Copy> TextPieces<A> {
     pub fn open(alloc: A, text: &[u8]) -> Result<TextPieces<A>, ReadError>
         ensures { Opens text.now result }
     {
-        let block = Block::new(Vec::from_slice(alloc, text)?)?;
+        let Ok(bytes) = Vec::from_slice(alloc, text) else {
+            return Err(ReadError::Memory);
+        };
+        let Ok(block) = Block::new(bytes) else {
+            return Err(ReadError::Memory);
+        };
         TextPieces::open_telling(alloc, &block, &mut Untold)
     }
 
@@ -170,12 +185,18 @@ impl<A: Allocator + Copy> TextPieces<A> {
         let at = self.table.first_touched(lo);
         let behind = Behind::from_place(&self.table, &self.tail, at.chunk, at.index);
         let mode = first_mode(&behind);
-        let (old, passed) = touched(alloc, &behind, hi - at.start)?;
-        let raw = spliced(alloc, &old, lo - at.start, hi - at.start, put)?;
+        let Ok((old, passed)) = touched(alloc, &behind, hi - at.start) else {
+            return Err(ReadError::Memory);
+        };
+        let Ok(raw) = spliced(alloc, &old, lo - at.start, hi - at.start, put) else {
+            return Err(ReadError::Memory);
+        };
         let later = behind.after(passed);
         let new = reread(alloc, mode, &raw, &later)?;
         let out = passed + new.used;
-        let tail = tail_after(alloc, &later, new.used, new.rest, &self.tail)?;
+        let Ok(tail) = tail_after(alloc, &later, new.used, new.rest, &self.tail) else {
+            return Err(ReadError::Memory);
+        };
         Ok(Stretch {
             chunk: at.chunk,
             index: at.index,
@@ -191,7 +212,9 @@ impl<A: Allocator + Copy> TextPieces<A> {
         ensures { option_map lent_bytes result ≡ option_map (bytes_in (text_of self.now)) (look_up id (spans_by_number self.now)) }
     {
         texts_are_read();
-        let piece = self.table.piece(id)?;
+        let Some(piece) = self.table.piece(id) else {
+            return None;
+        };
         let bytes = piece.bytes.as_slice();
         Some(&bytes[lead(bytes)..])
     }
@@ -201,7 +224,9 @@ impl<A: Allocator + Copy> TextPieces<A> {
         ensures { result ≡ look_up id (modes_by_number self.now) }
     {
         texts_are_read();
-        let piece = self.table.piece(id)?;
+        let Some(piece) = self.table.piece(id) else {
+            return None;
+        };
         Some(piece.mode)
     }
 
@@ -210,7 +235,9 @@ impl<A: Allocator + Copy> TextPieces<A> {
         ensures { result ≡ option_map (λ s. s.lo) (look_up id (spans_by_number self.now)) }
     {
         texts_are_read();
-        let start = self.table.start_of(id)?;
+        let Some(start) = self.table.start_of(id) else {
+            return None;
+        };
         Some(start + lead(self.table.pieces[id.0].bytes.as_slice()))
     }
 
@@ -219,7 +246,9 @@ impl<A: Allocator + Copy> TextPieces<A> {
         ensures { result ≡ number_at pos (spans_by_number self.now) }
     {
         texts_are_read();
-        let (id, start) = self.table.at(pos)?;
+        let Some((id, start)) = self.table.at(pos) else {
+            return None;
+        };
         let first = start + lead(self.table.pieces[id.0].bytes.as_slice());
         (first <= pos).then_some(id)
     }
@@ -288,17 +317,22 @@ impl<A: Allocator + Copy> TextPieces<A> {
         }
         let stretch = self.stretch(alloc, lo, hi, put)?;
         let len = self.len - (hi - lo) + put.len();
-        let out = self
+        let Ok(out) = self
             .table
-            .ids_at_most(alloc, stretch.chunk, stretch.index, stretch.out)?;
-        let (changes, put) = place_new(
+            .ids_at_most(alloc, stretch.chunk, stretch.index, stretch.out)
+        else {
+            return Err(PrepareError::Memory);
+        };
+        let Ok((changes, put)) = place_new(
             alloc,
             &mut self.table,
             stretch.chunk,
             stretch.index,
             stretch.out,
             stretch.pieces,
-        )?;
+        ) else {
+            return Err(PrepareError::Memory);
+        };
         Ok(PreparedText {
             changes,
             tail: stretch.tail,
@@ -323,7 +357,9 @@ impl<A: Allocator + Copy> TextPieces<A> {
     {
         let at = self.table.first_touched(lo);
         let behind = Behind::from_place(&self.table, &self.tail, at.chunk, at.index);
-        let (old, _) = touched(alloc, &behind, hi - at.start)?;
+        let Ok((old, _)) = touched(alloc, &behind, hi - at.start) else {
+            return Err(AllocError);
+        };
         append_part(out, &old, lo - at.start, hi - at.start)
     }
 
@@ -344,8 +380,12 @@ impl<A: Allocator + Copy> TextPieces<A> {
             if !cut.follows(at, self.len) {
                 return Err(PrepareError::Range);
             }
-            self.append_range(alloc, &mut put, at, cut.lo)?;
-            put.extend_from_slice(cut.put)?;
+            let Ok(()) = self.append_range(alloc, &mut put, at, cut.lo) else {
+                return Err(PrepareError::Memory);
+            };
+            let Ok(()) = put.extend_from_slice(cut.put) else {
+                return Err(PrepareError::Memory);
+            };
             at = cut.hi;
         }
         Ok((put, at))

@@ -15,7 +15,7 @@ loop-id-preserved g c =
     let ids = c.args.ids.now in
     let i = c.loop-id.id-index in
     let id = get_or ids i (record { 0 = 0 }) in
-    pushed record_view (λ x. record_of (kept_at slots x)) ids i (record { 0 = 0 }) id c.loop-id.statements.items c.push.new.self.items _ c.loop-id-test.true refl c.in_ok-push.ensures.items
+    pushed record_view (λ x. record_of (kept_at slots x)) ids i (record { 0 = 0 }) id c.loop-id.statements.items c.push.new.self.items _ c.loop-id-test.true refl c.in-Ok-push.ensures.items
     c.kept_statement.ensures c.loop-id.invariant
 
 pub returns : goal.returns

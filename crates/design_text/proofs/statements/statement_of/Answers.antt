@@ -6,10 +6,10 @@ use Rattle.design_text.proofs.statements.statement_of.Goals as goal
 
 pub returns-clause-gives : goal.returns-clause-gives
 returns-clause-gives g c =
-    let piece = c.in_ok-piece.piece in
-    let l = c.in_ok-piece.ensures in
+    let piece = c.in-Some.piece in
+    let l = c.in-Some.ensures in
     let e = c.read_piece-read.ensures in
     ap₂ (λ (ps : List Token) (r : Record). Some (moved_tokens piece.at ps, r)) e.tokens (e.says l.rec l.after l.piece) ∙ sym l.numbered
 
 pub read_piece-read-requires : goal.read_piece-read-requires
-read_piece-read-requires g c = let l = c.in_ok-piece.ensures in (l.rec, l.after, l.piece)
+read_piece-read-requires g c = let l = c.in-Some.ensures in (l.rec, l.after, l.piece)

@@ -21,7 +21,7 @@ weight_anew-len-requires-clause-kept g c =
     let gone = c.min-gone.result in
     let gone_is = rw c.ids_in-old.ensures at c.min-gone.ensures in
     let items : c.extend_from_slice.new.self.items ≡ s.ids.items ++ drop (s.place + gone) (ids_at cs s.k) =
-    c.in_ok-extend_from_slice.ensures.items ∙ ap (λ (l : List StmtId). s.ids.items ++ l) (take_rest c.ids_in-old.result.now (s.place + gone) ∙ ap (drop (s.place + gone)) c.ids_in-old.ensures) in
+    c.in-Ok.ensures.items ∙ ap (λ (l : List StmtId). s.ids.items ++ l) (take_rest c.ids_in-old.result.now (s.place + gone) ∙ ap (drop (s.place + gone)) c.ids_in-old.ensures) in
     subst (AreHome slots s.k) (sym (c.deref.ensures.value ∙ items)) (home_here slots cs front rest rs s.k s.place s.left s.ids.items s.invariant.0 below gone)
 
 pub weight_anew-len-requires-clause-fits : goal.weight_anew-len-requires-clause-fits
@@ -36,7 +36,7 @@ weight_anew-len-requires-clause-fits g c =
     let gone = c.min-gone.result in
     let gone_is = rw c.ids_in-old.ensures at c.min-gone.ensures in
     let items : c.extend_from_slice.new.self.items ≡ s.ids.items ++ drop (s.place + gone) (ids_at cs s.k) =
-    c.in_ok-extend_from_slice.ensures.items ∙ ap (λ (l : List StmtId). s.ids.items ++ l) (take_rest c.ids_in-old.result.now (s.place + gone) ∙ ap (drop (s.place + gone)) c.ids_in-old.ensures) in
+    c.in-Ok.ensures.items ∙ ap (λ (l : List StmtId). s.ids.items ++ l) (take_rest c.ids_in-old.result.now (s.place + gone) ∙ ap (drop (s.place + gone)) c.ids_in-old.ensures) in
     let few = fits_here slots cs front rest rs s.k s.place s.left s.ids.items s.invariant.0 below gone gone_is in
     let same = ap (weight slots) (c.deref.ensures.value ∙ items) in
     omega (arith, few, same, c.requires.fits)
@@ -53,7 +53,7 @@ weight_anew-len-requires-clause-inside g c =
     let gone = c.min-gone.result in
     let gone_is = rw c.ids_in-old.ensures at c.min-gone.ensures in
     let items : c.extend_from_slice.new.self.items ≡ s.ids.items ++ drop (s.place + gone) (ids_at cs s.k) =
-    c.in_ok-extend_from_slice.ensures.items ∙ ap (λ (l : List StmtId). s.ids.items ++ l) (take_rest c.ids_in-old.result.now (s.place + gone) ∙ ap (drop (s.place + gone)) c.ids_in-old.ensures) in
+    c.in-Ok.ensures.items ∙ ap (λ (l : List StmtId). s.ids.items ++ l) (take_rest c.ids_in-old.result.now (s.place + gone) ∙ ap (drop (s.place + gone)) c.ids_in-old.ensures) in
     omega (arith, gone_is, s.invariant.0.inside)
 
 pub weight_anew-len-requires-clause-is : goal.weight_anew-len-requires-clause-is
@@ -68,7 +68,7 @@ weight_anew-len-requires-clause-is g c =
     let gone = c.min-gone.result in
     let gone_is = rw c.ids_in-old.ensures at c.min-gone.ensures in
     let items : c.extend_from_slice.new.self.items ≡ s.ids.items ++ drop (s.place + gone) (ids_at cs s.k) =
-    c.in_ok-extend_from_slice.ensures.items ∙ ap (λ (l : List StmtId). s.ids.items ++ l) (take_rest c.ids_in-old.result.now (s.place + gone) ∙ ap (drop (s.place + gone)) c.ids_in-old.ensures) in
+    c.in-Ok.ensures.items ∙ ap (λ (l : List StmtId). s.ids.items ++ l) (take_rest c.ids_in-old.result.now (s.place + gone) ∙ ap (drop (s.place + gone)) c.ids_in-old.ensures) in
     anew s.ids.items (ids_at cs s.k) s.place gone _ s.invariant.3 (c.deref.ensures.value ∙ items)
 
 pub returns-then-gone-left : goal.returns-then-gone-left
@@ -83,10 +83,10 @@ returns-then-gone-left g c =
     let gone = c.min-gone.result in
     let gone_is = rw c.ids_in-old.ensures at c.min-gone.ensures in
     let items : c.extend_from_slice.new.self.items ≡ s.ids.items ++ drop (s.place + gone) (ids_at cs s.k) =
-    c.in_ok-extend_from_slice.ensures.items ∙ ap (λ (l : List StmtId). s.ids.items ++ l) (take_rest c.ids_in-old.result.now (s.place + gone) ∙ ap (drop (s.place + gone)) c.ids_in-old.ensures) in
+    c.in-Ok.ensures.items ∙ ap (λ (l : List StmtId). s.ids.items ++ l) (take_rest c.ids_in-old.result.now (s.place + gone) ∙ ap (drop (s.place + gone)) c.ids_in-old.ensures) in
     let n : Numbers = record { ids = c.extend_from_slice.new.self.items; len = c.weight_anew-len.result } in
     let heavy : n.len ≡ weight slots n.ids = c.weight_anew-len.ensures ∙ ap (weight slots) c.deref.ensures.value in
-    let put : map shown_change c.push.new.self.items ≡ rs ++ (s.k, n) ∷ [] = ap (map shown_change) c.in_ok-push.ensures.items ∙ map-append shown_change s.changes.items _ in
+    let put : map shown_change c.push.new.self.items ≡ rs ++ (s.k, n) ∷ [] = ap (map shown_change) c.in-Ok-push.ensures.items ∙ map-append shown_change s.changes.items _ in
     subst (AreLists slots cs (front ++ rest)) (sym put) (ended slots cs front rest rs s.k s.place s.left s.ids.items s.invariant.0 below gone n items heavy gone_is c.if-gone-left.true)
 
 pub loop-k-preserved : goal.loop-k-preserved
@@ -101,10 +101,10 @@ loop-k-preserved g c =
     let gone = c.min-gone.result in
     let gone_is = rw c.ids_in-old.ensures at c.min-gone.ensures in
     let items : c.extend_from_slice.new.self.items ≡ s.ids.items ++ drop (s.place + gone) (ids_at cs s.k) =
-    c.in_ok-extend_from_slice.ensures.items ∙ ap (λ (l : List StmtId). s.ids.items ++ l) (take_rest c.ids_in-old.result.now (s.place + gone) ∙ ap (drop (s.place + gone)) c.ids_in-old.ensures) in
+    c.in-Ok.ensures.items ∙ ap (λ (l : List StmtId). s.ids.items ++ l) (take_rest c.ids_in-old.result.now (s.place + gone) ∙ ap (drop (s.place + gone)) c.ids_in-old.ensures) in
     let n : Numbers = record { ids = c.extend_from_slice.new.self.items; len = c.weight_anew-len.result } in
     let heavy : n.len ≡ weight slots n.ids = c.weight_anew-len.ensures ∙ ap (weight slots) c.deref.ensures.value in
-    let put : map shown_change c.push.new.self.items ≡ rs ++ (s.k, n) ∷ [] = ap (map shown_change) c.in_ok-push.ensures.items ∙ map-append shown_change s.changes.items _ in
+    let put : map shown_change c.push.new.self.items ≡ rs ++ (s.k, n) ∷ [] = ap (map shown_change) c.in-Ok-push.ensures.items ∙ map-append shown_change s.changes.items _ in
     let next = goes_on slots cs front rest rs s.k s.place s.left s.ids.items s.invariant.0 below gone n items heavy gone_is c.if-gone-left.false in
     (rw (put, c.new-ids.ensures.items) next, λ h. c.new-ids.ensures.items, λ h. refl, refl)
 

@@ -20,9 +20,9 @@ new_lists-requires-clause-table g c =
     let cs = map shown c.args.table.now.chunks.items in
     let k = c.args.chunk in
     let i = c.args.index in
-    let head : c.in_ok-head.head.items ≡ take i (ids_at cs k) = c.in_ok-head.ensures.items ∙ ap (take i) c.ids_in.ensures in
-    let a = rw c.in_ok-number.ensures at c.in_ok-store_all.ensures.kept in
-    let stays = c.in_ok-store_all.ensures.stays in
+    let head : c.in-Ok-from_slice.head.items ≡ take i (ids_at cs k) = c.in-Ok-from_slice.ensures.items ∙ ap (take i) c.ids_in.ensures in
+    let a = rw c.in-Ok.ensures at c.in-Ok-store_all.ensures.kept in
+    let stays = c.in-Ok-store_all.ensures.stays in
     let after : c.store_all.new.ids.items ≡ take i (ids_at cs k) ++ a.ids = a.is ∙ ap (λ (l : List StmtId). l ++ a.ids) head in
     table_stays old new stays cs c.requires.table
 
@@ -33,9 +33,9 @@ new_lists-requires-clause-front g c =
     let cs = map shown c.args.table.now.chunks.items in
     let k = c.args.chunk in
     let i = c.args.index in
-    let head : c.in_ok-head.head.items ≡ take i (ids_at cs k) = c.in_ok-head.ensures.items ∙ ap (take i) c.ids_in.ensures in
-    let a = rw c.in_ok-number.ensures at c.in_ok-store_all.ensures.kept in
-    let stays = c.in_ok-store_all.ensures.stays in
+    let head : c.in-Ok-from_slice.head.items ≡ take i (ids_at cs k) = c.in-Ok-from_slice.ensures.items ∙ ap (take i) c.ids_in.ensures in
+    let a = rw c.in-Ok.ensures at c.in-Ok-store_all.ensures.kept in
+    let stays = c.in-Ok-store_all.ensures.stays in
     let after : c.store_all.new.ids.items ≡ take i (ids_at cs k) ++ a.ids = a.is ∙ ap (λ (l : List StmtId). l ++ a.ids) head in
     ap (take i) after ∙ take-append-le i (take i (ids_at cs k)) a.ids (omega (arith, length-take-le i (ids_at cs k) c.requires.inside)) ∙ take_all i (take i (ids_at cs k)) (omega (arith, length-take-le i (ids_at cs k) c.requires.inside))
 
@@ -46,9 +46,9 @@ new_lists-requires-clause-home g c =
     let cs = map shown c.args.table.now.chunks.items in
     let k = c.args.chunk in
     let i = c.args.index in
-    let head : c.in_ok-head.head.items ≡ take i (ids_at cs k) = c.in_ok-head.ensures.items ∙ ap (take i) c.ids_in.ensures in
-    let a = rw c.in_ok-number.ensures at c.in_ok-store_all.ensures.kept in
-    let stays = c.in_ok-store_all.ensures.stays in
+    let head : c.in-Ok-from_slice.head.items ≡ take i (ids_at cs k) = c.in-Ok-from_slice.ensures.items ∙ ap (take i) c.ids_in.ensures in
+    let a = rw c.in-Ok.ensures at c.in-Ok-store_all.ensures.kept in
+    let stays = c.in-Ok-store_all.ensures.stays in
     let after : c.store_all.new.ids.items ≡ take i (ids_at cs k) ++ a.ids = a.is ∙ ap (λ (l : List StmtId). l ++ a.ids) head in
     let here = home_in old cs k c.requires.table c.requires.within in
     subst (AreHome new k) (sym after) (home_append new k (take i (ids_at cs k)) a.ids (home_stays old new stays k (take i (ids_at cs k)) (home_take old k (ids_at cs k) i here)) a.home)
@@ -60,9 +60,9 @@ new_lists-requires-clause-fits g c =
     let cs = map shown c.args.table.now.chunks.items in
     let k = c.args.chunk in
     let i = c.args.index in
-    let head : c.in_ok-head.head.items ≡ take i (ids_at cs k) = c.in_ok-head.ensures.items ∙ ap (take i) c.ids_in.ensures in
-    let a = rw c.in_ok-number.ensures at c.in_ok-store_all.ensures.kept in
-    let stays = c.in_ok-store_all.ensures.stays in
+    let head : c.in-Ok-from_slice.head.items ≡ take i (ids_at cs k) = c.in-Ok-from_slice.ensures.items ∙ ap (take i) c.ids_in.ensures in
+    let a = rw c.in-Ok.ensures at c.in-Ok-store_all.ensures.kept in
+    let stays = c.in-Ok-store_all.ensures.stays in
     let after : c.store_all.new.ids.items ≡ take i (ids_at cs k) ++ a.ids = a.is ∙ ap (λ (l : List StmtId). l ++ a.ids) head in
     let same = ap (weight new) (regrouped cs k i c.store_all.new.ids.items a.ids (ids_left cs k i c.args.out) after) in
     let fits = then_fits old new stays cs k i c.args.out a.ids (news_of k c.args.new.items) c.requires.table.chunks c.requires.within a.kept in
@@ -75,17 +75,17 @@ returns-clause-put g c =
     let cs = map shown c.args.table.now.chunks.items in
     let k = c.args.chunk in
     let i = c.args.index in
-    let head : c.in_ok-head.head.items ≡ take i (ids_at cs k) = c.in_ok-head.ensures.items ∙ ap (take i) c.ids_in.ensures in
-    let a = rw c.in_ok-number.ensures at c.in_ok-store_all.ensures.kept in
-    let stays = c.in_ok-store_all.ensures.stays in
+    let head : c.in-Ok-from_slice.head.items ≡ take i (ids_at cs k) = c.in-Ok-from_slice.ensures.items ∙ ap (take i) c.ids_in.ensures in
+    let a = rw c.in-Ok.ensures at c.in-Ok-store_all.ensures.kept in
+    let stays = c.in-Ok-store_all.ensures.stays in
     let after : c.store_all.new.ids.items ≡ take i (ids_at cs k) ++ a.ids = a.is ∙ ap (λ (l : List StmtId). l ++ a.ids) head in
-    let put : c.in_ok-ids.ids.items ≡ a.ids =
-    c.in_ok-ids.ensures.items ∙ take_rest c.deref.result.now i ∙ ap (drop i) (c.deref.ensures.value ∙ after)
+    let put : c.in-Ok-from_slice-2.ids.items ≡ a.ids =
+    c.in-Ok-from_slice-2.ensures.items ∙ take_rest c.deref.result.now i ∙ ap (drop i) (c.deref.ensures.value ∙ after)
     ∙ drop_at (take i (ids_at cs k)) a.ids i (length-take-le i (ids_at cs k) c.requires.inside) in
-    let is : IsPut (table_of c.args.table.now) (record { chunks = cs; slots = new }) k i c.args.out (news_of k c.args.new.items) (map shown_change c.in_ok-changes.changes.items) a.ids = record {
+    let is : IsPut (table_of c.args.table.now) (record { chunks = cs; slots = new }) k i c.args.out (news_of k c.args.new.items) (map shown_change c.in-Ok-new_lists.changes.items) a.ids = record {
       free = a.free;
       once = a.once;
       own = a.kept;
-      lists = subst (λ (ids : List StmtId). AreLists new cs ids (map shown_change c.in_ok-changes.changes.items)) (regrouped cs k i c.store_all.new.ids.items a.ids (ids_left cs k i c.args.out) after) c.in_ok-changes.ensures;
+      lists = subst (λ (ids : List StmtId). AreLists new cs ids (map shown_change c.in-Ok-new_lists.changes.items)) (regrouped cs k i c.store_all.new.ids.items a.ids (ids_left cs k i c.args.out) after) c.in-Ok-new_lists.ensures;
     } in
-    subst (IsPut (table_of c.args.table.now) (record { chunks = cs; slots = new }) k i c.args.out (news_of k c.args.new.items) (map shown_change c.in_ok-changes.changes.items)) (sym put) is
+    subst (IsPut (table_of c.args.table.now) (record { chunks = cs; slots = new }) k i c.args.out (news_of k c.args.new.items) (map shown_change c.in-Ok-new_lists.changes.items)) (sym put) is

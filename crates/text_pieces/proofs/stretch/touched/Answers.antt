@@ -10,7 +10,7 @@ segments-preserved g c =
     let more = segment_more (g.S.Segments.listed c.args.segments.now) s.count (segment_view c.in-Some.segment) (sym c.in-Some.ensures.at) in
     let long = ap (λ (l : List ℕ). length l) s.invariant.0 in
     let back : s.count + 1 - 1 ≡ s.count = omega arith in (
-      c.in_ok-extend_from_slice.ensures.items ∙ ap (λ (l : _). l ++ c.in-Some.segment.bytes.now) s.invariant.0 ∙ sym more.1,
+      c.in-Ok.ensures.items ∙ ap (λ (l : _). l ++ c.in-Some.segment.bytes.now) s.invariant.0 ∙ sym more.1,
       omega (arith, more.0),
       λ many. rw back (elim c.else-count-gt0.branch [
         | else-count-gt0-via-then-count-gt0+else-len-end w ↦ omega (arith, long, w.len.ensures, w.if-len-end.false)

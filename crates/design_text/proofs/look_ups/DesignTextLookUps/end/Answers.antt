@@ -12,23 +12,14 @@ use Rattle.design_text.proofs.KeptKeys.{headers_once}
 use Rattle.design_text.proofs.SectionEnds.{ends_once}
 use Rattle.design_text.proofs.look_ups.DesignTextLookUps.end.Goals as goal
 
-pub returns-in_err-id-clause-gives : goal.returns-in_err-id-clause-gives
-returns-in_err-id-clause-gives g c = λ design reads.
+pub returns-in_default-clause-gives : goal.returns-in_default-clause-gives
+returns-in_default-clause-gives g c = λ design reads.
     let content = c.args.self.now in
     let s = c.args.section in
     let k = c.statements_are_known.ensures design reads in
     let tables = rw (ap (λ (v : Content). v.names) (sym c.self.view_is)) at k.tables in
-    let none = none_is (is_end s) content design k (c.in_err-id.ensures (zip (numbers_of content) design) tables) in
-    rw c.from_residual.ensures (ap (option_map (λ (x : List Token × Record). x.0)) none ∙ sym (tokens_of_first (is_end s) (located (text_of content) design)))
-
-pub returns-in_err-tokens-clause-gives : goal.returns-in_err-tokens-clause-gives
-returns-in_err-tokens-clause-gives g c = λ design reads.
-    let content = c.args.self.now in
-    let s = c.args.section in
-    let k = c.statements_are_known.ensures design reads in
-    let tables = rw (ap (λ (v : Content). v.names) (sym c.self.view_is)) at k.tables in
-    let found = found_is (is_end s) content design k c.in_ok-id.id (ends_once s (text_of content) design k.said (headers_once s design k.keys)) (c.in_ok-id.ensures (zip (numbers_of content) design) tables) in
-    rw c.from_residual-in_err-tokens.ensures (ap (option_map (λ (x : List Token × Record). x.0)) (c.in_err-tokens.ensures.gives ∙ found) ∙ sym (tokens_of_first (is_end s) (located (text_of content) design)))
+    let none = none_is (is_end s) content design k (c.in_default.ensures (zip (numbers_of content) design) tables) in
+    (ap (option_map (λ (x : List Token × Record). x.0)) none ∙ sym (tokens_of_first (is_end s) (located (text_of content) design)))
 
 pub returns-clause-gives : goal.returns-clause-gives
 returns-clause-gives g c = λ design reads.
@@ -36,5 +27,5 @@ returns-clause-gives g c = λ design reads.
     let s = c.args.section in
     let k = c.statements_are_known.ensures design reads in
     let tables = rw (ap (λ (v : Content). v.names) (sym c.self.view_is)) at k.tables in
-    let found = found_is (is_end s) content design k c.in_ok-id.id (ends_once s (text_of content) design k.said (headers_once s design k.keys)) (c.in_ok-id.ensures (zip (numbers_of content) design) tables) in
-    ap (option_map (λ (x : List Token × Record). x.0)) (c.in_ok-tokens.ensures.gives ∙ found) ∙ sym (tokens_of_first (is_end s) (located (text_of content) design))
+    let found = found_is (is_end s) content design k c.in-Some.id (ends_once s (text_of content) design k.said (headers_once s design k.keys)) (c.in-Some.ensures (zip (numbers_of content) design) tables) in
+    c.tokens_of.ensures.gives ∙ ap (option_map (λ (x : List Token × Record). x.0)) found ∙ sym (tokens_of_first (is_end s) (located (text_of content) design))

@@ -1,45 +1,27 @@
-use Rattle.std.proofs.Common.{◌≡◌, ◌∙◌, List, ap, flat_map, map, sum_by, sym}
-use Rattle.std.specs.List.{filter_map, list_any, zip}
-use Rattle.std.specs.Option.{option_to_list}
-use Rattle.design_model.specs.declared.identifier.StmtId.{StmtId}
-use Rattle.def_reader.specs.StatementViews.{record_view}
-use Rattle.text_pieces.specs.Chunks.{AreOnce}
-use Rattle.design_tables.specs.Lookups.{FindsAll, is_number, is_of, lists}
+use Rattle.std.proofs.Common.{◌∙◌, ap, sum_by, sym}
+use Rattle.std.specs.List.{list_any, zip}
+use Rattle.design_tables.specs.Lookups.{is_of, lists}
 use Rattle.design_text.specs.DesignTexts.{Content, design_of, numbers_of}
-use Rattle.design_text.specs.Listings.{said_under}
-use Rattle.design_text.proofs.EntriesOnce.{any_said, as_found, found_once}
+use Rattle.design_text.proofs.EntriesOnce.{any_said, found_once, found_so}
 use Rattle.design_text.proofs.ListedEntries.{listing_is}
 use Rattle.design_text.proofs.text.DesignText.entries_listing.Goals as goal
 
 pub returns-clause-listing : goal.returns-clause-listing
 returns-clause-listing g c =
     let content = c.args.self.now in
-    let name = c.args.component.now in
     let design = design_of content in
+    let wide = lists (is_of c.args.component.now) in
     let k = c.statements_are_known.ensures design c.design_is_read.ensures.reads in
     let tables = rw (ap (λ (v : Content). v.names) (sym c.self.view_is)) at k.tables in
     let finds = c.nets_of.ensures (zip (numbers_of content) design) tables in
-    let ids = c.in-Some.ids.items in
-    let same : (id : StmtId) → list_any (is_number id) ids ≡ list_any (is_number id) c.nets_of.result = rw (c.in-Some.is) at (c.in_ok-ids.ensures.same) in
-    let each : FindsAll (lists (is_of name)) (zip (numbers_of content) design) ids = λ id. same id ∙ finds id in
-    let entries : map record_view c.in_ok-entries.entries.items ≡ filter_map (said_under content) ids =
-    c.in_ok-entries.ensures ∙ ap (λ (l : List StmtId). flat_map (λ (id : StmtId). option_to_list (said_under content id)) l) c.deref.ensures.value ∙ as_found content ids
-    in
-    λ test. listing_is (lists (is_of name)) test content design k ids each ∙ sym (any_said content test ids) ∙ ap (list_any test) (sym entries)
+    found_so (λ v f test. listing_is wide test content design k f.ids (λ id. f.same id ∙ finds id) ∙ sym (any_said content test f.ids) ∙ ap (list_any test) (sym f.says)) c.each_found.result c.each_found.ensures
 
 pub returns-clause-once : goal.returns-clause-once
 returns-clause-once g c =
     let content = c.args.self.now in
-    let name = c.args.component.now in
     let design = design_of content in
+    let wide = lists (is_of c.args.component.now) in
     let k = c.statements_are_known.ensures design c.design_is_read.ensures.reads in
     let tables = rw (ap (λ (v : Content). v.names) (sym c.self.view_is)) at k.tables in
     let finds = c.nets_of.ensures (zip (numbers_of content) design) tables in
-    let ids = c.in-Some.ids.items in
-    let once : AreOnce ids = rw (c.in-Some.is) at (c.in_ok-ids.ensures.once) in
-    let same : (id : StmtId) → list_any (is_number id) ids ≡ list_any (is_number id) c.nets_of.result = rw (c.in-Some.is) at (c.in_ok-ids.ensures.same) in
-    let each : FindsAll (lists (is_of name)) (zip (numbers_of content) design) ids = λ id. same id ∙ finds id in
-    let entries : map record_view c.in_ok-entries.entries.items ≡ filter_map (said_under content) ids =
-    c.in_ok-entries.ensures ∙ ap (λ (l : List StmtId). flat_map (λ (id : StmtId). option_to_list (said_under content id)) l) c.deref.ensures.value ∙ as_found content ids
-    in
-    λ w. found_once content design k (lists (is_of name)) ids once each w ∙ ap (sum_by w) (sym entries)
+    found_so (λ v f w. found_once content design k wide f.ids f.once (λ id. f.same id ∙ finds id) w ∙ ap (sum_by w) (sym f.says)) c.each_found.result c.each_found.ensures

@@ -7,25 +7,25 @@ use Rattle.design_text.proofs.HeaderNumbers.{number_found, number_is}
 use Rattle.design_text.proofs.KeptKeys.{headers_once}
 use Rattle.design_text.proofs.text.DesignText.header_number.Goals as goal
 
-pub returns-in_err-id : goal.returns-in_err-id
-returns-in_err-id g c =
+pub returns-in_default : goal.returns-in_default
+returns-in_default g c =
     let content = c.args.self.now in
     let s = c.args.section in
     let design = design_of content in
     let k = c.statements_are_known.ensures design c.design_is_read.ensures.reads in
     let tables = rw (ap (λ (v : Content). v.names) (sym c.self.view_is)) at k.tables in
-    let none = none_is (is_header s) content design k (c.in_err-id.ensures (zip (numbers_of content) design) tables) in
-    rw c.from_residual.ensures (ap number_found none ∙ number_is s content design k)
+    let none = none_is (is_header s) content design k (c.in_default.ensures (zip (numbers_of content) design) tables) in
+    (ap number_found none ∙ number_is s content design k)
 
-pub returns-in_err-statement : goal.returns-in_err-statement
-returns-in_err-statement g c =
+pub returns-in_default-found : goal.returns-in_default-found
+returns-in_default-found g c =
     let content = c.args.self.now in
     let s = c.args.section in
     let design = design_of content in
     let k = c.statements_are_known.ensures design c.design_is_read.ensures.reads in
     let tables = rw (ap (λ (v : Content). v.names) (sym c.self.view_is)) at k.tables in
-    let found = found_is (is_header s) content design k c.in_ok-id.id (headers_once s design k.keys) (c.in_ok-id.ensures (zip (numbers_of content) design) tables) in
-    rw c.from_residual-in_err-statement.ensures (ap number_found (c.in_err-statement.ensures.gives ∙ found) ∙ number_is s content design k)
+    let found = found_is (is_header s) content design k c.in-Some.id (headers_once s design k.keys) (c.in-Some.ensures (zip (numbers_of content) design) tables) in
+    (ap number_found (c.in_default-found.ensures.gives ∙ found) ∙ number_is s content design k)
 
 pub returns : goal.returns
 returns g c =
@@ -34,5 +34,5 @@ returns g c =
     let design = design_of content in
     let k = c.statements_are_known.ensures design c.design_is_read.ensures.reads in
     let tables = rw (ap (λ (v : Content). v.names) (sym c.self.view_is)) at k.tables in
-    let found = found_is (is_header s) content design k c.in_ok-id.id (headers_once s design k.keys) (c.in_ok-id.ensures (zip (numbers_of content) design) tables) in
-    c.number_of.ensures ∙ (ap number_found (c.in_ok-statement.ensures.gives ∙ found) ∙ number_is s content design k)
+    let found = found_is (is_header s) content design k c.in-Some.id (headers_once s design k.keys) (c.in-Some.ensures (zip (numbers_of content) design) tables) in
+    c.number_of.ensures ∙ (ap number_found (c.in-Some-found.ensures.gives ∙ found) ∙ number_is s content design k)

@@ -6,14 +6,14 @@ use Rattle.design_text.specs.DesignTexts.{design_of}
 use Rattle.design_text.proofs.NamedEntries.{entry_said, named_is}
 use Rattle.design_text.proofs.text.DesignText.named.Goals as goal
 
-pub returns-in_err-statement : goal.returns-in_err-statement
-returns-in_err-statement g c =
+pub returns-in_default : goal.returns-in_default
+returns-in_default g c =
     let content = c.args.self.now in
     let design = design_of content in
     let reads = c.design_is_read.ensures.reads in
     let k = c.statements_are_known.ensures design reads in
-    rw c.from_residual.ensures (
-    ap (λ (o : Option (List Token × Record)). o >>= entry_said) (c.in_err-statement.ensures.gives design reads) ∙ sym (named_is c.args.section c.args.name.now content design k))
+    (
+    ap (λ (o : Option (List Token × Record)). o >>= entry_said) (c.in_default.ensures.gives design reads) ∙ sym (named_is c.args.section c.args.name.now content design k))
 
 pub returns : goal.returns
 returns g c =
@@ -21,4 +21,4 @@ returns g c =
     let design = design_of content in
     let reads = c.design_is_read.ensures.reads in
     let k = c.statements_are_known.ensures design reads in
-    c.entry-2.ensures.gives ∙ ap (λ (o : Option (List Token × Record)). o >>= entry_said) (c.in_ok-statement.ensures.gives design reads) ∙ sym (named_is c.args.section c.args.name.now content design k)
+    c.entry-2.ensures.gives ∙ ap (λ (o : Option (List Token × Record)). o >>= entry_said) (c.in-Some.ensures.gives design reads) ∙ sym (named_is c.args.section c.args.name.now content design k)

@@ -9,4 +9,4 @@ pub loop-k-preserved : goal.loop-k-preserved
 loop-k-preserved g c =
     let ids = ids_from (map shown c.args.self.now.chunks.items) c.args.chunk c.args.place in
     let id = c.in-Some.id in
-    c.in_ok-push.ensures.items ∙ ap (λ (l : List StmtId). l ++ id ∷ []) c.loop-k.invariant ∙ sym (id_more ids c.loop-k.k id (sym c.in-Some.ensures))
+    c.in-Ok.ensures.items ∙ ap (λ (l : List StmtId). l ++ id ∷ []) c.loop-k.invariant ∙ sym (id_more ids c.loop-k.k id (sym c.in-Some.ensures))

@@ -7,14 +7,14 @@ use Rattle.text_pieces.proofs.Shown.{is_there, kept_is}
 use Rattle.text_pieces.proofs.table.PieceTable.piece.Goals as goal
 
 pub index-requires : goal.index-requires
-index-requires g c = is_there c.args.self.now.pieces.slots c.args.id _ c.in_ok-_place.ensures.held
+index-requires g c = is_there c.args.self.now.pieces.slots c.args.id _ c.in-Some.ensures.held
 
 pub returns : goal.returns
 returns g c =
-    let s = c.in_ok-_place.ensures in
+    let s = c.in-Some.ensures in
     let cs = map shown c.args.self.now.chunks.items in
-    let k = c.in_ok-_place._place.0 in
-    let i = c.in_ok-_place._place.1 in (
+    let k = c.in-Some._place.0 in
+    let i = c.in-Some._place.1 in (
       sym (kept_is c.args.self.now.pieces.slots c.args.id _ c.index.ensures),
       record {
         before = ids_before cs k i;

@@ -8,16 +8,16 @@ use Rattle.text_pieces.proofs.NewWeights.{has_bytes}
 use Rattle.text_pieces.proofs.Weights.{no_start, start_is, weight_append, weight_within}
 use Rattle.text_pieces.proofs.table.PieceTable.start_of.Goals as goal
 
-pub returns-in_err-chunk : goal.returns-in_err-chunk
-returns-in_err-chunk g c = c.from_residual.ensures ∙ sym (no_start (map (option_map kept) c.args.self.now.pieces.slots) 0 c.args.id _ c.in_err-chunk.ensures)
+pub returns-in_default : goal.returns-in_default
+returns-in_default g c = sym (no_start (map (option_map kept) c.args.self.now.pieces.slots) 0 c.args.id _ c.in_default.ensures)
 
 pub returns : goal.returns
 returns g c =
-    let s = c.in_ok-chunk.ensures in
+    let s = c.in-Some.ensures in
     let slots = map (option_map kept) c.args.self.now.pieces.slots in
     let cs = map shown c.args.self.now.chunks.items in
-    let k = c.in_ok-chunk.chunk in
-    let i = c.in_ok-chunk.place in
+    let k = c.in-Some.chunk in
+    let i = c.in-Some.place in
     let id = c.args.id in
     let before = ids_before cs k i in
     let absent = absent_before id before (ids_after cs k i) (subst (λ (l : List StmtId). AreOnce l) s.is c.requires.once) in
@@ -26,9 +26,9 @@ returns g c =
 
 pub overflow_add-result : goal.overflow_add-result
 overflow_add-result g c =
-    let s = c.in_ok-chunk.ensures in
+    let s = c.in-Some.ensures in
     let slots = map (option_map kept) c.args.self.now.pieces.slots in
     let cs = map shown c.args.self.now.chunks.items in
-    let k = c.in_ok-chunk.chunk in
+    let k = c.in-Some.chunk in
     let n = has_bytes slots cs k _ c.requires s.within refl in
-    omega (arith, c.weight_to.ensures, c.weight_before.ensures, weight_within slots (ids_at cs k) c.in_ok-chunk.place, n.is, n.fits)
+    omega (arith, c.weight_to.ensures, c.weight_before.ensures, weight_within slots (ids_at cs k) c.in-Some.place, n.is, n.fits)

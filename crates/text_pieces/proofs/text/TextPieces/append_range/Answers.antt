@@ -69,9 +69,9 @@ append_part-requires-clause-within g c =
     let within : hi ≤ length (text_of content) = rw (← c.self.view_is) at c.requires.within in
     let behind : List OldBytes = segments (kept_from content.table p.chunk p.index) content.tail in
     let behind_is : c.from_place-behind.result ≡ behind = c.from_place-behind.ensures ∙ ap (segments (kept_from content.table p.chunk p.index)) c.deref.ensures.value in
-    let old = c.in_ok-old.old.items in
-    let n = c.in_ok-old.field-0-1 in
-    let touched : AreTouched behind (hi - p.start) old n = subst (λ (ss : List OldBytes). AreTouched ss (hi - p.start) old n) behind_is c.in_ok-old.ensures in
+    let old = c.in-Ok.old.items in
+    let n = c.in-Ok.field-0-1 in
+    let touched : AreTouched behind (hi - p.start) old n = subst (λ (ss : List OldBytes). AreTouched ss (hi - p.start) old n) behind_is c.in-Ok.ensures in
     let long = ap (λ (l : List ℕ). length l) c.deref-2.ensures.value in
     let enough = room content t lo hi [] p b order within old n touched in
     omega (arith, long, enough)
@@ -89,9 +89,9 @@ returns g c =
     let within : hi ≤ length (text_of content) = rw (← c.self.view_is) at c.requires.within in
     let behind : List OldBytes = segments (kept_from content.table p.chunk p.index) content.tail in
     let behind_is : c.from_place-behind.result ≡ behind = c.from_place-behind.ensures ∙ ap (segments (kept_from content.table p.chunk p.index)) c.deref.ensures.value in
-    let old = c.in_ok-old.old.items in
-    let n = c.in_ok-old.field-0-1 in
-    let touched : AreTouched behind (hi - p.start) old n = subst (λ (ss : List OldBytes). AreTouched ss (hi - p.start) old n) behind_is c.in_ok-old.ensures in
+    let old = c.in-Ok.old.items in
+    let n = c.in-Ok.field-0-1 in
+    let touched : AreTouched behind (hi - p.start) old n = subst (λ (ss : List OldBytes). AreTouched ss (hi - p.start) old n) behind_is c.in-Ok.ensures in
     let same : slice_range c.deref-2.result.now (lo - p.start) (hi - p.start) ≡ slice_range (text_of content) lo hi =
     ap (λ (l : List ℕ). slice_range l (lo - p.start) (hi - p.start)) c.deref-2.ensures.value ∙ sym (range_is content t lo hi [] p b order within old n touched) in
     rw (← c.self.view_is) (subst (λ (l : List ℕ). OnOk c.append_part.result (c.append_part.new.out.items ≡ c.args.out.now.items ++ l)) same c.append_part.ensures)

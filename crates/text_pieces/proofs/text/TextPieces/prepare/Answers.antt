@@ -47,8 +47,8 @@ invariant_of-self-2 g c =
     let cs = (table_of c.place_new.new.table).chunks in
     text_stays content t new c.place_new.ensures.stays cs c.place_new.ensures.chunks
 
-pub returns-in_err-changes-clause-still : goal.returns-in_err-changes-clause-still
-returns-in_err-changes-clause-still g c =
+pub returns-in_default-place_new-clause-still : goal.returns-in_default-place_new-clause-still
+returns-in_default-place_new-clause-still g c =
     let s = c.self.inside in
     let t = c.self.invariant in
     let content : Content = record { table = table_of s.table; tail = s.tail.items; len = s.len } in
@@ -82,4 +82,4 @@ returns-clause-prepares g c =
     let new = map (option_map kept) c.place_new.new.table.pieces.slots in
     let cs = (table_of c.place_new.new.table).chunks in
     let len : s.len - (cut.hi - cut.lo) + length cut.put ≡ length (cut_text content cut) = omega (arith, long, t.whole) in
-    rw (← c.self.view_is) (prepared content t new c.place_new.ensures.stays g.row.A.Denot cut x is fits _ len (map shown_change c.in_ok-changes.changes.items) c.in_ok-out.out.items c.in_ok-changes.put.items c.in_ok-out.ensures cs c.place_new.ensures.chunks c.in_ok-changes.ensures.put)
+    rw (← c.self.view_is) (prepared content t new c.place_new.ensures.stays g.row.A.Denot cut x is fits _ len (map shown_change c.in-Ok-place_new.changes.items) c.in-Ok.out.items c.in-Ok-place_new.put.items c.in-Ok.ensures cs c.place_new.ensures.chunks c.in-Ok-place_new.ensures.put)

@@ -7,18 +7,18 @@ use Rattle.text_pieces.proofs.PlacedPieces.{no_statement, statement_is}
 use Rattle.text_pieces.proofs.Weights.{no_start}
 use Rattle.text_pieces.proofs.text.TextPieces.statement.Goals as goal
 
-pub returns-in_err-piece : goal.returns-in_err-piece
-returns-in_err-piece g c =
+pub returns-in_default : goal.returns-in_default
+returns-in_default g c =
     let slots = map (option_map kept) c.self.inside.table.pieces.slots in
-    rw (c.from_residual.ensures, ← c.self.view_is) (
-    sym (ap (option_map (bytes_in _)) (no_statement c.texts_are_read.ensures _ c.self.invariant c.args.id (no_start slots 0 c.args.id _ c.in_err-piece.ensures))))
+    rw (← c.self.view_is) (
+    sym (ap (option_map (bytes_in _)) (no_statement c.texts_are_read.ensures _ c.self.invariant c.args.id (no_start slots 0 c.args.id _ c.in_default.ensures))))
 
 pub returns : goal.returns
 returns g c =
     let slots = map (option_map kept) c.self.inside.table.pieces.slots in
     let id = c.args.id in
     let bytes = (kept_at slots id).bytes in
-    let e = c.in_ok-piece.ensures in
+    let e = c.in-Some.ensures in
     let own : c.as_slice-bytes.result.now ≡ bytes = c.as_slice-bytes.ensures ∙ ap (λ (k : Kept). k.bytes) e.0 in
     let first : c.lead.result ≡ lead bytes = c.lead.ensures.lead ∙ ap lead own in
     let low : lead bytes ≤ length bytes = omega (arith, first, c.lead.ensures.within, ap length own) in

@@ -81,9 +81,9 @@ spliced-requires-clause-lo g c =
     let within : hi ≤ length (text_of content) = rw (← c.self.view_is) at c.requires.within in
     let behind : List OldBytes = segments (kept_from content.table p.chunk p.index) content.tail in
     let behind_is : c.from_place-behind.result ≡ behind = c.from_place-behind.ensures ∙ ap (segments (kept_from content.table p.chunk p.index)) c.deref.ensures.value in
-    let old = c.in_ok-old.old.items in
-    let n = c.in_ok-old.passed in
-    let touched : AreTouched behind (hi - p.start) old n = subst (λ (ss : List OldBytes). AreTouched ss (hi - p.start) old n) behind_is c.in_ok-old.ensures in
+    let old = c.in-Ok.old.items in
+    let n = c.in-Ok.passed in
+    let touched : AreTouched behind (hi - p.start) old n = subst (λ (ss : List OldBytes). AreTouched ss (hi - p.start) old n) behind_is c.in-Ok.ensures in
     let long = ap (λ (l : List ℕ). length l) c.deref-2.ensures.value in
     let enough = room content t lo hi put p b order within old n touched in
     omega (arith, long, enough, order)
@@ -102,9 +102,9 @@ spliced-requires-clause-hi g c =
     let within : hi ≤ length (text_of content) = rw (← c.self.view_is) at c.requires.within in
     let behind : List OldBytes = segments (kept_from content.table p.chunk p.index) content.tail in
     let behind_is : c.from_place-behind.result ≡ behind = c.from_place-behind.ensures ∙ ap (segments (kept_from content.table p.chunk p.index)) c.deref.ensures.value in
-    let old = c.in_ok-old.old.items in
-    let n = c.in_ok-old.passed in
-    let touched : AreTouched behind (hi - p.start) old n = subst (λ (ss : List OldBytes). AreTouched ss (hi - p.start) old n) behind_is c.in_ok-old.ensures in
+    let old = c.in-Ok.old.items in
+    let n = c.in-Ok.passed in
+    let touched : AreTouched behind (hi - p.start) old n = subst (λ (ss : List OldBytes). AreTouched ss (hi - p.start) old n) behind_is c.in-Ok.ensures in
     let long = ap (λ (l : List ℕ). length l) c.deref-2.ensures.value in
     let enough = room content t lo hi put p b order within old n touched in
     omega (arith, long, enough, order)
@@ -123,9 +123,9 @@ reread-requires-clause-apart g c =
     let within : hi ≤ length (text_of content) = rw (← c.self.view_is) at c.requires.within in
     let behind : List OldBytes = segments (kept_from content.table p.chunk p.index) content.tail in
     let behind_is : c.from_place-behind.result ≡ behind = c.from_place-behind.ensures ∙ ap (segments (kept_from content.table p.chunk p.index)) c.deref.ensures.value in
-    let old = c.in_ok-old.old.items in
-    let n = c.in_ok-old.passed in
-    let touched : AreTouched behind (hi - p.start) old n = subst (λ (ss : List OldBytes). AreTouched ss (hi - p.start) old n) behind_is c.in_ok-old.ensures in
+    let old = c.in-Ok.old.items in
+    let n = c.in-Ok.passed in
+    let touched : AreTouched behind (hi - p.start) old n = subst (λ (ss : List OldBytes). AreTouched ss (hi - p.start) old n) behind_is c.in-Ok.ensures in
     let later_is : c.after-later.result ≡ drop n behind = c.after-later.ensures ∙ ap (drop n) behind_is in
     subst BeginApart (sym later_is) (begin_apart content t p.chunk p.index b.within n (touched.some (some_segments content t lo hi put p b order within)))
 
@@ -143,9 +143,9 @@ reread-requires-clause-full g c =
     let within : hi ≤ length (text_of content) = rw (← c.self.view_is) at c.requires.within in
     let behind : List OldBytes = segments (kept_from content.table p.chunk p.index) content.tail in
     let behind_is : c.from_place-behind.result ≡ behind = c.from_place-behind.ensures ∙ ap (segments (kept_from content.table p.chunk p.index)) c.deref.ensures.value in
-    let old = c.in_ok-old.old.items in
-    let n = c.in_ok-old.passed in
-    let touched : AreTouched behind (hi - p.start) old n = subst (λ (ss : List OldBytes). AreTouched ss (hi - p.start) old n) behind_is c.in_ok-old.ensures in
+    let old = c.in-Ok.old.items in
+    let n = c.in-Ok.passed in
+    let touched : AreTouched behind (hi - p.start) old n = subst (λ (ss : List OldBytes). AreTouched ss (hi - p.start) old n) behind_is c.in-Ok.ensures in
     let later_is : c.after-later.result ≡ drop n behind = c.after-later.ensures ∙ ap (drop n) behind_is in
     subst AreFull (sym later_is) (full content t p.chunk p.index b.within n)
 
@@ -163,15 +163,15 @@ returns-in_err-new g c =
     let within : hi ≤ length (text_of content) = rw (← c.self.view_is) at c.requires.within in
     let behind : List OldBytes = segments (kept_from content.table p.chunk p.index) content.tail in
     let behind_is : c.from_place-behind.result ≡ behind = c.from_place-behind.ensures ∙ ap (segments (kept_from content.table p.chunk p.index)) c.deref.ensures.value in
-    let old = c.in_ok-old.old.items in
-    let n = c.in_ok-old.passed in
-    let touched : AreTouched behind (hi - p.start) old n = subst (λ (ss : List OldBytes). AreTouched ss (hi - p.start) old n) behind_is c.in_ok-old.ensures in
+    let old = c.in-Ok.old.items in
+    let n = c.in-Ok.passed in
+    let touched : AreTouched behind (hi - p.start) old n = subst (λ (ss : List OldBytes). AreTouched ss (hi - p.start) old n) behind_is c.in-Ok.ensures in
     let raw = take (lo - p.start) old ++ (put ++ drop (hi - p.start) old) in
-    let raw_is : c.deref-3.result.now ≡ raw = c.deref-3.ensures.value ∙ c.in_ok-raw.ensures ∙ ap (λ (l : List ℕ). take (lo - p.start) l ++ (put ++ drop (hi - p.start) l)) c.deref-2.ensures.value in
+    let raw_is : c.deref-3.result.now ≡ raw = c.deref-3.ensures.value ∙ c.in-Ok-spliced.ensures ∙ ap (λ (l : List ℕ). take (lo - p.start) l ++ (put ++ drop (hi - p.start) l)) c.deref-2.ensures.value in
     let later_is : c.after-later.result ≡ drop n behind = c.after-later.ensures ∙ ap (drop n) behind_is in
     let mid = (chains content t p.chunk p.index b.within).0 in
     let mode_here : c.first_mode-mode.result ≡ mid = c.first_mode-mode.ensures mid (ap (λ (ss : List OldBytes). mode_at ss 0) behind_is ∙ mode_is content t p.chunk p.index b.within) in
-    let e = err_from_is_err_and c.from_residual-in_err-new.result c.from_residual-in_err-new.ensures.1 in
+    let e = err_from_is_err_and c.from_residual.result c.from_residual.ensures.1 in
     let fits : length (cut_text content (record { lo = lo; hi = hi; put = put })) ≤ MAX_TEXT = rw (← c.self.view_is) at c.requires.fits in
     let cut : Cut = record { lo = lo; hi = hi; put = put } in
     let f = c.in_err-new.field-0.0 in
@@ -194,11 +194,11 @@ overflow_add-out g c =
     let within : hi ≤ length (text_of content) = rw (← c.self.view_is) at c.requires.within in
     let behind : List OldBytes = segments (kept_from content.table p.chunk p.index) content.tail in
     let behind_is : c.from_place-behind.result ≡ behind = c.from_place-behind.ensures ∙ ap (segments (kept_from content.table p.chunk p.index)) c.deref.ensures.value in
-    let old = c.in_ok-old.old.items in
-    let n = c.in_ok-old.passed in
-    let touched : AreTouched behind (hi - p.start) old n = subst (λ (ss : List OldBytes). AreTouched ss (hi - p.start) old n) behind_is c.in_ok-old.ensures in
+    let old = c.in-Ok.old.items in
+    let n = c.in-Ok.passed in
+    let touched : AreTouched behind (hi - p.start) old n = subst (λ (ss : List OldBytes). AreTouched ss (hi - p.start) old n) behind_is c.in-Ok.ensures in
     let raw = take (lo - p.start) old ++ (put ++ drop (hi - p.start) old) in
-    let raw_is : c.deref-3.result.now ≡ raw = c.deref-3.ensures.value ∙ c.in_ok-raw.ensures ∙ ap (λ (l : List ℕ). take (lo - p.start) l ++ (put ++ drop (hi - p.start) l)) c.deref-2.ensures.value in
+    let raw_is : c.deref-3.result.now ≡ raw = c.deref-3.ensures.value ∙ c.in-Ok-spliced.ensures ∙ ap (λ (l : List ℕ). take (lo - p.start) l ++ (put ++ drop (hi - p.start) l)) c.deref-2.ensures.value in
     let later_is : c.after-later.result ≡ drop n behind = c.after-later.ensures ∙ ap (drop n) behind_is in
     let mid = (chains content t p.chunk p.index b.within).0 in
     let mode_here : c.first_mode-mode.result ≡ mid = c.first_mode-mode.ensures mid (ap (λ (ss : List OldBytes). mode_at ss 0) behind_is ∙ mode_is content t p.chunk p.index b.within) in
@@ -224,11 +224,11 @@ returns g c =
     let within : hi ≤ length (text_of content) = rw (← c.self.view_is) at c.requires.within in
     let behind : List OldBytes = segments (kept_from content.table p.chunk p.index) content.tail in
     let behind_is : c.from_place-behind.result ≡ behind = c.from_place-behind.ensures ∙ ap (segments (kept_from content.table p.chunk p.index)) c.deref.ensures.value in
-    let old = c.in_ok-old.old.items in
-    let n = c.in_ok-old.passed in
-    let touched : AreTouched behind (hi - p.start) old n = subst (λ (ss : List OldBytes). AreTouched ss (hi - p.start) old n) behind_is c.in_ok-old.ensures in
+    let old = c.in-Ok.old.items in
+    let n = c.in-Ok.passed in
+    let touched : AreTouched behind (hi - p.start) old n = subst (λ (ss : List OldBytes). AreTouched ss (hi - p.start) old n) behind_is c.in-Ok.ensures in
     let raw = take (lo - p.start) old ++ (put ++ drop (hi - p.start) old) in
-    let raw_is : c.deref-3.result.now ≡ raw = c.deref-3.ensures.value ∙ c.in_ok-raw.ensures ∙ ap (λ (l : List ℕ). take (lo - p.start) l ++ (put ++ drop (hi - p.start) l)) c.deref-2.ensures.value in
+    let raw_is : c.deref-3.result.now ≡ raw = c.deref-3.ensures.value ∙ c.in-Ok-spliced.ensures ∙ ap (λ (l : List ℕ). take (lo - p.start) l ++ (put ++ drop (hi - p.start) l)) c.deref-2.ensures.value in
     let later_is : c.after-later.result ≡ drop n behind = c.after-later.ensures ∙ ap (drop n) behind_is in
     let mid = (chains content t p.chunk p.index b.within).0 in
     let mode_here : c.first_mode-mode.result ≡ mid = c.first_mode-mode.ensures mid (ap (λ (ss : List OldBytes). mode_at ss 0) behind_is ∙ mode_is content t p.chunk p.index b.within) in
@@ -237,7 +237,7 @@ returns g c =
     subst (λ (m : Mode). IsReread m raw (drop n behind) new) mode_here
     (subst (λ (r : List ℕ). IsReread c.first_mode-mode.result r (drop n behind) new) raw_is
     (subst (λ (ss : List OldBytes). IsReread c.first_mode-mode.result c.deref-3.result.now ss new) later_is c.in_ok-new.ensures)) in
-    let v = c.in_ok-tail.tail.items in
-    let follows = ended content t lo hi put p b order within old n touched g.row.A.Denot new is c.tails_may_end.ensures (slice_get (drop n behind) new.used) v refl (rw (later_is, c.deref-4.ensures.value) at c.in_ok-tail.ensures) in
+    let v = c.in-Ok-tail_after.tail.items in
+    let follows = ended content t lo hi put p b order within old n touched g.row.A.Denot new is c.tails_may_end.ensures (slice_get (drop n behind) new.used) v refl (rw (later_is, c.deref-4.ensures.value) at c.in-Ok-tail_after.ensures) in
     let both = accepted content t lo hi put p b order within old n touched g.row.A.Denot new is v follows in
     rw (← c.self.view_is) (record { within = b.within; inside = b.inside; ends = both.0; whole = both.1; read = is.reads; few = few_again content t lo hi put p b order within old n touched g.row.A.Denot new is c.texts_are_read.ensures v follows })

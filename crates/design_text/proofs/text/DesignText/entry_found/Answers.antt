@@ -5,15 +5,15 @@ use Rattle.design_tables.specs.Lookups.{is_named_entry}
 use Rattle.design_text.specs.DesignTexts.{Content, numbers_of, text_of}
 use Rattle.design_text.proofs.FoundStatements.{found_is, none_is}
 use Rattle.design_text.proofs.KeptKeys.{entries_once, entry_first}
-use Rattle.design_text.proofs.look_ups.DesignTextLookUps.entry.Goals as goal
+use Rattle.design_text.proofs.text.DesignText.entry_found.Goals as goal
 
-pub returns-in_err-id-clause-gives : goal.returns-in_err-id-clause-gives
-returns-in_err-id-clause-gives g c = λ design reads.
+pub returns-in_default-clause-gives : goal.returns-in_default-clause-gives
+returns-in_default-clause-gives g c = λ design reads.
     let content = c.args.self.now in
     let k = c.statements_are_known.ensures design reads in
     let tables = rw (ap (λ (v : Content). v.names) (sym c.self.view_is)) at k.tables in
-    let none = none_is (is_named_entry c.args.section c.args.name.now) content design k (c.in_err-id.ensures (zip (numbers_of content) design) tables) in
-    rw c.from_residual.ensures (none ∙ entry_first c.args.section c.args.name.now (located (text_of content) design))
+    let none = none_is (is_named_entry c.args.section c.args.name.now) content design k (c.in_default.ensures (zip (numbers_of content) design) tables) in
+    (none ∙ entry_first c.args.section c.args.name.now (located (text_of content) design))
 
 pub returns-clause-gives : goal.returns-clause-gives
 returns-clause-gives g c = λ design reads.
@@ -22,5 +22,5 @@ returns-clause-gives g c = λ design reads.
     let name = c.args.name.now in
     let k = c.statements_are_known.ensures design reads in
     let tables = rw (ap (λ (v : Content). v.names) (sym c.self.view_is)) at k.tables in
-    let found = found_is (is_named_entry s name) content design k c.in_ok-id.id (entries_once s name design k.keys) (c.in_ok-id.ensures (zip (numbers_of content) design) tables) in
+    let found = found_is (is_named_entry s name) content design k c.in-Some.id (entries_once s name design k.keys) (c.in-Some.ensures (zip (numbers_of content) design) tables) in
     c.found.ensures.gives ∙ found ∙ entry_first s name (located (text_of content) design)
