@@ -20,7 +20,7 @@ use Rattle.measuring_laws.specs.Measuring.{LengthsAreTold}
 use Rattle.measuring_laws.proofs.FoundNets.{net_is_found}
 use Rattle.net_laws.specs.NetsTold.{is_of_net}
 use Rattle.net_laws.specs.OneNet.{TellNet}
-use Rattle.net_laws.specs.StarNets.{AgreeBut, OneComponentExchanged, OneEntryTells, PinsAreExchanged, pins_by_one}
+use Rattle.net_laws.specs.StarNets.{AgreeBut, OneComponentExchanged, EntriesTell, PinsAreExchanged, pins_by_one}
 use Rattle.reports.specs.Answers.{Answers, box_in, length_in}
 use Rattle.reports.specs.Exchanges.{NetExchanged}
 use Rattle.followed_nets.specs.StarHeads.{PinShapes}
@@ -78,13 +78,13 @@ box_if : (there : Bool) (n : Net) (bounds : Option Rectangle) → option_map (λ
 box_if true n bounds is t = cc
 box_if false n bounds is t = absurd (cc)
 
-module _ (library : Library) (old new : List Record) (name component : List ℕ) (lengths_told : LengthsAreTold) (exchange : OneComponentExchanged) (tells : OneEntryTells) (agree : AgreeBut old new name component) (scales : scale old ≡ scale new)
-    (entry : Record) (only : filter (is_of_net name) old ≡ entry ∷ []) where
+module _ (library : Library) (old new : List Record) (name component : List ℕ) (lengths_told : LengthsAreTold) (exchange : OneComponentExchanged) (tells : EntriesTell) (agree : AgreeBut old new name component) (scales : scale old ≡ scale new)
+    (entry : Record) (others : List Record) (entries : filter (is_of_net name) old ≡ entry ∷ others) where
   pub tell : (some : List Record) × TellNet some old name
-  tell = tells old name entry only
+  tell = tells old name entry others entries
 
   pub then_tell : (some : List Record) × TellNet some new name
-  then_tell = tells new name entry (sym agree.entries ∙ only)
+  then_tell = tells new name entry others (sym agree.entries ∙ entries)
 
   pub as_long : length_of library new (scale new) name ≡ length_of library old (scale old) name
   as_long = ap (λ (u : ℕ). length_of library new u name) (sym scales) ∙ sym (lengths_told library old new (scale old) name agree.common agree.entries).length
@@ -129,14 +129,14 @@ module _ (library : Library) (old new : List Record) (name component : List ℕ)
         (subst (λ (ss : List Shape). SameThings ss (come ++ stay)) (sym (net_shapes library new name)) new_parted)
 
 -- one that awaits its exchange
-pub star_told : (library : Library) (old new : List Record) (component : List ℕ) (lengths_told : LengthsAreTold) (exchange : OneComponentExchanged) (tells : OneEntryTells) (before after : PinShapes) (a : Answers)
+pub star_told : (library : Library) (old new : List Record) (component : List ℕ) (lengths_told : LengthsAreTold) (exchange : OneComponentExchanged) (tells : EntriesTell) (before after : PinShapes) (a : Answers)
     → AwaitsStar library old new component before after a → after.name ≡ before.name → (length : ℕ) (was bounds : Option Rectangle) → length_in a before.name ≡ Some length → box_in a before.name ≡ Some was
     → BoxFollows (boxes_in before.shapes) (boxes_in after.shapes) was bounds → (b : Answers) → NetExchanged before.name length length before.shapes after.shapes bounds a b → NetsExchanged library old new (before.name ∷ []) a b
 star_told library old new component lengths_told exchange tells before after a awaits same length was bounds length_is box_is follows b e =
     let name = before.name in
     let goes : before.shapes ≡ shapes_in (pins_by_one library old (scale old) name component) = awaits.goes.shapes_are in
     let comes : after.shapes ≡ shapes_in (pins_by_one library new (scale new) name component) = awaits.comes.shapes_are ∙ ap (λ (n : List ℕ). shapes_in (pins_by_one library new (scale new) n component)) same in
-    exchange_of_star library old new name component lengths_told exchange tells (awaits.agree name) awaits.scales awaits.goes.entry awaits.goes.one_entry a awaits.had length was length_is box_is bounds
+    exchange_of_star library old new name component lengths_told exchange tells (awaits.agree name) awaits.scales awaits.goes.entry awaits.goes.others awaits.goes.entries a awaits.had length was length_is box_is bounds
     (subst (λ (ss : List Shape). BoxFollows (boxes_in ss) (boxes_in (shapes_in (pins_by_one library new (scale new) name component))) was bounds) goes (subst (λ (ss : List Shape). BoxFollows (boxes_in before.shapes) (boxes_in ss) was bounds) comes follows))
     b
     (subst (λ (ss : List Shape). NetExchanged name length length ss (shapes_in (pins_by_one library new (scale new) name component)) bounds a b) goes (subst (λ (ss : List Shape). NetExchanged name length length before.shapes ss bounds a b) comes e))

@@ -14,7 +14,7 @@ use design_model::geometry::Rect;
 use design_model::identifier::StmtId;
 use design_model::mode::Section;
 use design_text::text::DesignText;
-use followed_nets::told_statements::entry_in;
+use followed_nets::entries::entry_in;
 use line_laws::scales::scales_are_good;
 use place_checks::boxes::box_of;
 use place_checks::last_macros::LastMacros;

@@ -16,7 +16,7 @@ use crate::bounds::bounds_after;
 use design_model::geometry::Rect;
 use followed_nets::ToldPins;
 use measuring_laws::lengths_are_told;
-use net_laws::{one_component_exchanged, one_entry_tells};
+use net_laws::{entries_tell, one_component_exchanged};
 use net_lists::NetShape;
 use reports::Reports;
 use std::alloc::{AllocError, Allocator};
@@ -61,7 +61,7 @@ fn exchange_star<A: Allocator + Copy>(
 {
     lengths_are_told();
     one_component_exchanged();
-    one_entry_tells();
+    entries_tell();
     let name = before.name.bytes();
     if name != after.name.bytes() {
         return Ok(false);

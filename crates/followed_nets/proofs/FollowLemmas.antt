@@ -27,7 +27,7 @@ use Rattle.net_laws.specs.NetExchanges.{nets_where}
 use Rattle.net_laws.specs.NetsTold.{AgreeOnNet, NetsAreTold, is_of_net, terminals_in, terminals_of}
 use Rattle.net_laws.specs.OneNet.{TellNet}
 use Rattle.net_laws.specs.PinLines.{ArePins, PinLinesFollow}
-use Rattle.net_laws.specs.StarNets.{OneComponentExchanged, OneEntryTells, PinsAreExchanged, pins_by_one, tells_of}
+use Rattle.net_laws.specs.StarNets.{OneComponentExchanged, EntriesTell, PinsAreExchanged, pins_by_one, tells_of}
 use Rattle.net_queries.specs.ShortLaws.{ShortIsSymmetric}
 use Rattle.shape_index.specs.Near.{near_shapes}
 use Rattle.followed_nets.specs.Blocked.{AllTell}
@@ -62,11 +62,11 @@ pub apart_tell : (design : List Record) (names : List (List ℕ)) → AreApart n
 apart_tell design [] apart tell = tt
 apart_tell design (n ∷ names) apart tell = (apart.0, tell.0, apart_tell design names apart.1 tell.1)
 
--- those that are kept with their parts are told by their one entry
-stars_tell : OneEntryTells → (library : Library) (old design : List Record) → ((net : List ℕ) → filter (is_of_net net) old ≡ filter (is_of_net net) design)
+-- those that are kept with their parts are told by their entries
+stars_tell : EntriesTell → (library : Library) (old design : List Record) → ((net : List ℕ) → filter (is_of_net net) old ≡ filter (is_of_net net) design)
     → (stars : List Net) → AllByRecursion (IsStar library old) stars → AllTell design (names_of stars)
 stars_tell law library old design same [] kept = tt
-stars_tell law library old design same (s ∷ stars) kept = (law design s.name kept.0.entry (sym (same s.name) ∙ kept.0.one_entry), stars_tell law library old design same stars kept.1)
+stars_tell law library old design same (s ∷ stars) kept = (law design s.name kept.0.entry kept.0.others (sym (same s.name) ∙ kept.0.entries), stars_tell law library old design same stars kept.1)
 
 -- and these nets are those of the names
 nets_are : (library : Library) (design : List Record) (ts : List Told) → nets_told library design ts ≡ nets_of library design (map name_of ts)
@@ -101,7 +101,7 @@ near_as library design names more same =
     same.sums (λ (name : List ℕ). sum_by (λ (s : Shape). near_shapes s (map (λ (n : NetShape). n.shape) (net_shapes library design (scale design)))) (map (λ (n : NetShape). n.shape) (shapes_of_net (net_named library design (scale design) name))))
 
 module _ (library : Library) (records then_records : List (StmtId × Record)) (noted : Nets) (kept : Kept) (t : Touched) (after : List Told)
-    (exchanged : ToldNetsAreExchanged) (entries : OneEntryTells) (sorted : SameLinesSortAlike) (symmetric : ShortIsSymmetric)
+    (exchanged : ToldNetsAreExchanged) (entries : EntriesTell) (sorted : SameLinesSortAlike) (symmetric : ShortIsSymmetric)
     (touched : AreTouched library (said records) t) (followed : AreFollowed library records noted kept) (leaves : LeavesOthers (said records) (said then_records) t) (fits : Fits noted.stars noted.heads t)
     (then_told : AreToldIn library (barriers library (said records) (scale (said records))) (said then_records) after) (then_named : map name_of after ≡ t.names) where
   abbrev old : List Record
@@ -249,7 +249,8 @@ module _ (library : Library) (records then_records : List (StmtId × Record)) (n
             same_parts = subst (λ (n : Net). SameThings s.parts n.parts) same star.net.same_parts;
           };
           entry = star.entry;
-          one_entry = sym agree.entries ∙ star.one_entry;
+          others = star.others;
+          entries = sym agree.entries ∙ star.entries;
         }
 
     still_stars : (ss : List Net) → AllByRecursion (λ (s : Net). is_one_of t.names s.name ≡ false) ss → AllByRecursion (IsStar library old) ss → AllByRecursion (IsStar library new) ss

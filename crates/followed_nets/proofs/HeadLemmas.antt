@@ -1,5 +1,5 @@
 -- What a head of a net is read as, and what it is in a design.
-use Rattle.std.proofs.Common.{◌≡◌, ◌∙◌, ◌<◌, ◌+◌, ℕ, zero, suc, Bool, true, false, List, [], ◌∷◌, ◌++◌, filter, flat_map, map, drop, get_or, length, Option, Some, None, Result, Ok, Err, refl, sym, ap, subst, append-nil}
+use Rattle.std.proofs.Common.{◌≡◌, ◌∙◌, ◌<◌, ◌+◌, ℕ, zero, suc, Bool, true, false, List, [], ◌∷◌, ◌++◌, filter, flat_map, map, drop, get_or, length, Option, Some, None, Result, Ok, Err, refl, sym, ap, subst}
 use Rattle.std.specs.Prelude.{IfSome}
 use Rattle.std.specs.List.{AllByRecursion}
 use Rattle.std.specs.Str.{bytes_eq}
@@ -14,7 +14,7 @@ use Rattle.def_grammar.specs.Records.{Record, end_section, entry, in_properties,
 use Rattle.def_grammar.specs.Terminals.{Terminal}
 use Rattle.net_laws.specs.NetsTold.{is_of_net, net_of_record, terminals_in, terminals_of}
 use Rattle.followed_nets.specs.Heads.{Head, HeadLists, IsHead, IsHeadOf, ReadsAs}
-use Rattle.followed_nets.proofs.TellLemmas.{is_entry_of, passes}
+use Rattle.followed_nets.proofs.TellLemmas.{first_passes, is_entry_of}
 
 -- a head is read as one record
 abbrev said_by : Record → Result (Option (Record × Mode × Lexed)) Fault → Record
@@ -50,15 +50,15 @@ of_its_net name (entry (records.via x)) h = absurd (cc)
 of_its_net name (entry (records.rule x)) h = absurd (cc)
 of_its_net name (entry (records.skipped s x)) h = absurd (cc)
 
--- the head of an only entry
+-- the head of a net's entries
 one_name : (n m : List ℕ) → Some n ≡ Some m → n ≡ m
 one_name n m is = cc
 
-pub of_only_entry : (design : List Record) (net : List ℕ) (r : Record) (h : Head) → filter (is_of_net net) design ≡ r ∷ [] → IsHeadOf r h → IsHead design h
-of_only_entry design net r h only is =
-    let own = is_entry_of net r (passes (is_of_net net) design r only) in
+pub of_entries : (design : List Record) (net : List ℕ) (r : Record) (rs : List Record) (h : Head) → filter (is_of_net net) design ≡ r ∷ rs → IsHeadOf r (r ∷ rs) h → IsHead design h
+of_entries design net r rs h entries is =
+    let own = is_entry_of net r (first_passes (is_of_net net) design r rs entries) in
     let named : h.name ≡ net = one_name h.name net (sym is.net_is ∙ own.net_is) in
-    let all : terminals_in design h.name ≡ terminals_of r = ap (terminals_in design) named ∙ ap (flat_map terminals_of) only ∙ append-nil (terminals_of r) in
+    let all : terminals_in design h.name ≡ flat_map terminals_of (r ∷ rs) = ap (terminals_in design) named ∙ ap (flat_map terminals_of) entries in
     record { entry = is.head_lists.entry; reads = is.head_lists.reads; of_net = is.head_lists.of_net; lists = is.head_lists.lists ∙ sym all }
 
 -- of a head that may have been made

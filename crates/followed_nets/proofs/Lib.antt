@@ -3,6 +3,8 @@ mod BarredNets
 mod BlockedLemmas
 mod ChangedBars
 mod ChangedShapes
+mod EntryOrder
+mod EntryOwners
 mod FollowLemmas
 mod HeadLemmas
 mod HeadsStay

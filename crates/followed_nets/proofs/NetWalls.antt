@@ -12,7 +12,7 @@ use Rattle.line_laws.specs.Lines.{SameLines, SameThings, times}
 use Rattle.line_laws.proofs.PairSums.{times-append, times-flat_map}
 use Rattle.net_laws.specs.OneNet.{TellNet}
 use Rattle.net_laws.specs.PinLines.{shapes_of_parts}
-use Rattle.net_laws.specs.StarNets.{OneEntryTells}
+use Rattle.net_laws.specs.StarNets.{EntriesTell}
 use Rattle.followed_nets.specs.Blocked.{Adds, barred_lines}
 use Rattle.followed_nets.specs.Stars.{IsStar}
 use Rattle.followed_nets.proofs.PinPieces.{net_splits}
@@ -63,6 +63,6 @@ module _ (name_of : ℕ → List ℕ) (library : Library) (design : List Record)
           };
         })
 
--- it is told by its one entry
-pub star_tells : OneEntryTells → (library : Library) (design : List Record) (star : Net) (net : List ℕ) → IsStar library design star → star.name ≡ net → (some : List Record) × TellNet some design net
-star_tells law library design star net is named = subst (λ (n : List ℕ). (some : List Record) × TellNet some design n) named (law design star.name is.entry is.one_entry)
+-- it is told by its entries
+pub star_tells : EntriesTell → (library : Library) (design : List Record) (star : Net) (net : List ℕ) → IsStar library design star → star.name ≡ net → (some : List Record) × TellNet some design net
+star_tells law library design star net is named = subst (λ (n : List ℕ). (some : List Record) × TellNet some design n) named (law design star.name is.entry is.others is.entries)

@@ -93,14 +93,15 @@ of_names library design u (name ∷ names) [] n behind is =
     same ∙ ap (λ (m : Net). net_named library design u m.name) (sym same)
 of_names library design u (name ∷ names) (m ∷ before) n behind is = of_names library design u names before n behind (cc)
 
-pub star_among : (library : Library) (design : List Record) (nets before behind : List Net) (n : Net) (name : List ℕ) (e : Record) → nets ≡ all_nets library design (scale design) → nets ≡ before ++ n ∷ behind
-    → n.name ≡ name → filter (is_of_net name) design ≡ e ∷ [] → IsStar library design n
-star_among library design nets before behind n name e all parts named only =
+pub star_among : (library : Library) (design : List Record) (nets before behind : List Net) (n : Net) (name : List ℕ) (e : Record) (others : List Record) → nets ≡ all_nets library design (scale design) → nets ≡ before ++ n ∷ behind
+    → n.name ≡ name → filter (is_of_net name) design ≡ e ∷ others → IsStar library design n
+star_among library design nets before behind n name e others all parts named entries =
     let same : n ≡ net_named library design (scale design) n.name = of_names library design (scale design) (net_names library design (scale design)) before n behind (sym parts ∙ all) in
     record {
       net = record { same_power = ap (λ (m : Net). m.is_power) same; same_parts = subst (λ (m : Net). SameThings n.parts m.parts) same (record { sums = λ w. refl }) };
       entry = e;
-      one_entry = ap (λ (own : List ℕ). filter (is_of_net own) design) named ∙ only;
+      others = others;
+      entries = ap (λ (own : List ℕ). filter (is_of_net own) design) named ∙ entries;
     }
 
 -- names beside those of nets that are kept with their parts

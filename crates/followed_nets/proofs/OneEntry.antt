@@ -1,7 +1,7 @@
--- The one entry of a net, among all statements of a design.
+-- The entries of a net in the two sections, among all statements of a design.
 use Rattle.std.proofs.Common.{◌≡◌, ◌∙◌, ℕ, Bool, true, false, ◌&&◌, ◌||◌, List, [], ◌∷◌, filter, Option, Some, None, refl, sym, ap, if◌then◌else◌}
-use Rattle.std.specs.Prelude.{IfSome, Ok}
-use Rattle.std.specs.Option.{option_map, option_to_list, option_xor}
+use Rattle.std.specs.Prelude.{Ok}
+use Rattle.std.specs.Option.{option_map, option_to_list}
 use Rattle.std.specs.Str.{bytes_eq}
 use Rattle.design_model.specs.declared.mode.Section.{Section}
 use Rattle.design_model.specs.declared.mode.Section.TheVariants.{Nets, SpecialNets}
@@ -28,7 +28,7 @@ and_none false true = refl
 and_none false false = refl
 
 -- it is an entry of NETS or of SPECIALNETS with that name
-of_either : (name : List ℕ) (r : Record) → is_of_net name r ≡ (is_in Nets name r || is_in SpecialNets name r)
+pub of_either : (name : List ℕ) (r : Record) → is_of_net name r ≡ (is_in Nets name r || is_in SpecialNets name r)
 unfolding Rattle.design_model.specs.EnumWords.section_word
 of_either name (top t) = refl
 of_either name (in_properties p) = refl
@@ -65,23 +65,7 @@ module _ {A : Type 0} (p q r : A → Bool) (either : (a : A) → r a ≡ (p a ||
   second_alone [] none = refl
   second_alone (a ∷ xs) none = by_second (p a) (q a) (r a) a (filter p xs) (filter q xs) (filter r xs) (either a) none (second_alone xs)
 
--- the entries of a net are those of one section, where the other has none
-pub in_nets : (name : List ℕ) (design : List Record) → filter (is_in SpecialNets name) design ≡ [] → filter (is_of_net name) design ≡ filter (is_in Nets name) design
-in_nets name design none = first_alone (is_in Nets name) (is_in SpecialNets name) (is_of_net name) (of_either name) design none
-
-pub in_special_nets : (name : List ℕ) (design : List Record) → filter (is_in Nets name) design ≡ [] → filter (is_of_net name) design ≡ filter (is_in SpecialNets name) design
-in_special_nets name design none = second_alone (is_in Nets name) (is_in SpecialNets name) (is_of_net name) (of_either name) design none
-
 -- the entry that is found by a section and a name is the only one
 pub found_alone : NamedOnce → (text : List ℕ) (design : List Record) → read_def text ≡ Ok design → (s : Section) (name : List ℕ) (found : Option (List Token × Record)) → found ≡ entry_at s name (located text design)
     → option_to_list (option_map (λ x. x.1) found) ≡ filter (is_in s name) design
 found_alone once text design reads s name found is = ap (λ (x : Option (List Token × Record)). option_to_list (option_map (λ y. y.1) x)) is ∙ sym (once text design reads s name)
-
--- so it is the one that is found in one of them alone
-pub only_one : {X : Type 0} (view : X → Record) (name : List ℕ) (design : List Record) (a b : Option X)
-    → option_to_list (option_map view a) ≡ filter (is_in Nets name) design → option_to_list (option_map view b) ≡ filter (is_in SpecialNets name) design
-    → IfSome (option_xor a b) (λ x. filter (is_of_net name) design ≡ view x ∷ [])
-only_one view name design None None one two = tt
-only_one view name design None (Some y) one two = in_special_nets name design (sym one) ∙ sym two
-only_one view name design (Some x) None one two = in_nets name design (sym two) ∙ sym one
-only_one view name design (Some x) (Some y) one two = tt

@@ -1,4 +1,4 @@
--- Heads of nets that list a pin of all components, each of one entry.
+-- Heads of nets that list a pin of all components.
 use Rattle.std.proofs.Common.{◌≡◌, ◌∙◌, ◌+◌, ◌<◌, ℕ, Bool, true, false, ◌||◌, List, [], ◌∷◌, ◌++◌, append_assoc, drop, filter, flat_map, get_or, length, map, Some, refl, sym, ap}
 use Rattle.std.specs.List.{AllByRecursion, list_any}
 use Rattle.std.specs.Str.{bytes_eq}
@@ -16,21 +16,22 @@ use Rattle.net_laws.specs.NetsTold.{is_of_net, terminals_in, terminals_of}
 use Rattle.net_laws.specs.StarNets.{pins_by_one}
 use Rattle.followed_nets.specs.Heads.{Head, IsHeadOf}
 use Rattle.followed_nets.specs.StarHeads.{AreStarHeads, IsPinsBy, IsStarHead, head_names}
-use Rattle.followed_nets.proofs.HeadLemmas.{of_only_entry}
-use Rattle.followed_nets.proofs.TellLemmas.{is_entry_of, passes}
+use Rattle.followed_nets.proofs.HeadLemmas.{of_entries}
+use Rattle.followed_nets.proofs.TellLemmas.{first_passes, is_entry_of}
 
 one_name : (n m : List ℕ) → Some n ≡ Some m → n ≡ m
 one_name n m is = cc
 
--- the head of an only entry is of its net
-pub of_its_entry : (design : List Record) (net : List ℕ) (r : Record) (h : Head) → filter (is_of_net net) design ≡ r ∷ [] → IsHeadOf r h → h.name ≡ net
-of_its_entry design net r h only is = one_name h.name net (sym is.net_is ∙ (is_entry_of net r (passes (is_of_net net) design r only)).net_is)
+-- the head of a net's entries is of the net
+pub of_its_entries : (design : List Record) (net : List ℕ) (r : Record) (rs : List Record) (h : Head) → filter (is_of_net net) design ≡ r ∷ rs → IsHeadOf r (r ∷ rs) h → h.name ≡ net
+of_its_entries design net r rs h entries is = one_name h.name net (sym is.net_is ∙ (is_entry_of net r (first_passes (is_of_net net) design r rs entries)).net_is)
 
-pub star_of_entry : (design : List Record) (net : List ℕ) (r : Record) (h : Head) → filter (is_of_net net) design ≡ r ∷ [] → IsHeadOf r h → IsStarHead design h
-star_of_entry design net r h only is = record {
-  head = of_only_entry design net r h only is;
+pub star_of_entries : (design : List Record) (net : List ℕ) (r : Record) (rs : List Record) (h : Head) → filter (is_of_net net) design ≡ r ∷ rs → IsHeadOf r (r ∷ rs) h → IsStarHead design h
+star_of_entries design net r rs h entries is = record {
+  head = of_entries design net r rs h entries is;
   entry = r;
-  one_entry = ap (λ (n : List ℕ). filter (is_of_net n) design) (of_its_entry design net r h only is) ∙ only;
+  others = rs;
+  entries = ap (λ (n : List ℕ). filter (is_of_net n) design) (of_its_entries design net r rs h entries is) ∙ entries;
 }
 
 -- heads stay so where the entries of their nets stay, and no other net comes to list a pin of all components
@@ -39,7 +40,8 @@ module _ (old new : List Record) where
   still_head h same star = record {
     head = record { entry = star.head.entry; reads = star.head.reads; of_net = star.head.of_net; lists = star.head.lists ∙ ap (flat_map terminals_of) same };
     entry = star.entry;
-    one_entry = sym same ∙ star.one_entry;
+    others = star.others;
+    entries = sym same ∙ star.entries;
   }
 
   own_name : (n : List ℕ) (ns : List (List ℕ)) → is_one_of (n ∷ ns) n ≡ true
@@ -84,7 +86,8 @@ pub told_pins : (library : Library) (design : List Record) (component : List ℕ
 told_pins library design component h star name shapes pins named shapes_are pins_are = record {
   shapes_are = shapes_are ∙ ap shapes_in pins_are ∙ ap (λ (n : List ℕ). shapes_in (pins_by_one library design (scale design) n component)) (sym named);
   entry = star.entry;
-  one_entry = ap (λ (n : List ℕ). filter (is_of_net n) design) named ∙ star.one_entry;
+  others = star.others;
+  entries = ap (λ (n : List ℕ). filter (is_of_net n) design) named ∙ star.entries;
 }
 
 -- the next of a list of which some are left

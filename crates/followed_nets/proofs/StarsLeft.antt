@@ -166,7 +166,8 @@ module _ (library : Library) (old new : List Record) (component : List ℕ) (all
           same_parts = subst (λ (n : List ℕ). SameThings then_star.parts (is_now n).parts) (sym then_name) then_parts;
         };
         entry = kept.1.entry;
-        one_entry = ap (λ (n : List ℕ). filter (is_of_net n) new) then_name ∙ sym (left.awaits.agree s.name).entries ∙ kept.1.one_entry;
+        others = kept.1.others;
+        entries = ap (λ (n : List ℕ). filter (is_of_net n) new) then_name ∙ sym (left.awaits.agree s.name).entries ∙ kept.1.entries;
       }
 
       gone_name : g.name ≡ s.name

@@ -1,11 +1,11 @@
--- A net's entry with the components that it lists, behind the statements that are read whichever net is told, tells the net.
+-- A net's entries with the components that they list, behind the statements that are read whichever net is told, tell the net.
 use Rattle.std.proofs.Common.{◌≡◌, ◌∙◌, ℕ, Bool, true, false, ◌||◌, List, [], ◌∷◌, ◌++◌, filter, flat_map, Option, Some, None, refl, sym, ap, ap₂, append-nil, append_assoc, option_to_list, if◌then◌else◌}
 use Rattle.std.specs.List.{AllByRecursion, filter_map, list_any}
 use Rattle.std.specs.Option.{option_map}
 use Rattle.std.specs.Str.{bytes_eq}
 use Rattle.std.proofs.lemmas.List.Elements.{filter-append, filter_map-append}
 use Rattle.std.proofs.lemmas.Slice.Eq.{bytes_eq-Decides}
-use Rattle.form_meanings.specs.Firsts.{find_named}
+use Rattle.form_meanings.specs.Firsts.{find_named, with_all}
 use Rattle.def_grammar.specs.Components.{Component}
 use Rattle.def_grammar.specs.Nets.{is_net, must_join}
 use Rattle.def_grammar.specs.Records as records
@@ -13,9 +13,9 @@ use Rattle.def_grammar.specs.Records.{Record, component_of, end_section, entry, 
 use Rattle.def_grammar.specs.Terminals.{Terminal, is_of_all}
 use Rattle.entry_rules.specs.Unknown.{component_named}
 use Rattle.net_laws.specs.NetsTold.{FindsAlike, is_common, is_of_net, net_of_record, terminals_in, terminals_of}
-use Rattle.net_laws.specs.OneNet.{AllPinsTell, TellNet, is_of_pins}
+use Rattle.net_laws.specs.OneNet.{AllPinsTell, EntriesNameOneNet, TellNet, is_of_pins}
 use Rattle.followed_nets.specs.Noted.{tells_any}
-use Rattle.followed_nets.specs.Owners.{HasOwners, as_record, owners_in}
+use Rattle.followed_nets.specs.Owners.{HasEntries, as_record, owners_in}
 
 abbrev name_of : Component → List ℕ
 name_of c = c.name
@@ -33,13 +33,13 @@ module _ {A : Type 0} (wide test : A → Bool) (so : (a : A) → test a ≡ true
   filtered_within (a ∷ xs) = within_both (wide a) (test a) a (filter wide xs) (filter test xs) refl refl (filtered_within xs)
 
 module _ {A : Type 0} (test : A → Bool) where
-  first_passes : (b : Bool) (x a : A) (left : List A) → test x ≡ b → (if b then x ∷ left else left) ≡ a ∷ [] → (left ≡ a ∷ [] → test a ≡ true) → test a ≡ true
-  first_passes true x a left h is later = let same : x ≡ a = cc in ap test (sym same) ∙ h
-  first_passes false x a left h is later = later is
+  one_passes : (b : Bool) (x a : A) (left rest : List A) → test x ≡ b → (if b then x ∷ left else left) ≡ a ∷ rest → (left ≡ a ∷ rest → test a ≡ true) → test a ≡ true
+  one_passes true x a left rest h is later = let same : x ≡ a = cc in ap test (sym same) ∙ h
+  one_passes false x a left rest h is later = later is
 
-  pub passes : (xs : List A) (a : A) → filter test xs ≡ a ∷ [] → test a ≡ true
-  passes [] a is = absurd (cc)
-  passes (x ∷ xs) a is = first_passes (test x) x a (filter test xs) refl is (passes xs a)
+  pub first_passes : (xs : List A) (a : A) (rest : List A) → filter test xs ≡ a ∷ rest → test a ≡ true
+  first_passes [] a rest is = absurd (cc)
+  first_passes (x ∷ xs) a rest is = one_passes (test x) x a (filter test xs) rest refl is (first_passes xs a rest)
 
 -- and none of it passes a test that is apart from that one
 module _ {A : Type 0} (test other : A → Bool) (apart : (a : A) → test a ≡ true → other a ≡ false) where
@@ -245,75 +245,78 @@ module _ (design : List Record) where
         let there : list_any (is_owner t.owner) all ≡ true = ap (list_any (is_owner t.owner)) is ∙ any_there t.owner front ts t ((bytes_eq-Decides t.owner t.owner).1 refl) in
         (record { named = alike t there; all = not_of_all t both.0 }, all_alike (front ++ t ∷ []) ts (is ∙ sym (append_assoc front (t ∷ []) ts)) both.1)
 
--- The components that the entry of a net lists, and the entry, behind these statements of a design, tell the net.
-module _ (law : AllPinsTell) (design : List Record) (name : List ℕ) (e : Record) (only : filter (is_of_net name) design ≡ e ∷ []) (none : list_any is_of_all (terminals_of e) ≡ false) where
-  own : IsEntryOf name e
-  own = is_entry_of name e (passes (is_of_net name) design e only)
+-- The components that the entries of a net list, and the entries, behind these statements of a design, tell the net.
+module _ (law : AllPinsTell) (named : EntriesNameOneNet) (design : List Record) (name : List ℕ) (e : Record) (es : List Record) (all : filter (is_of_net name) design ≡ e ∷ es)
+    (none : list_any is_of_all (terminals_in design name) ≡ false) where
+  abbrev entries : List Record
+  entries = filter (is_of_net name) design
+
+  abbrev terminals : List Terminal
+  terminals = terminals_in design name
 
   abbrev commons : List Record
   commons = filter tells_any design
 
   abbrev owners : List Record
-  owners = owners_in design (terminals_of e)
+  owners = owners_in design terminals
 
   -- these statements
   abbrev these : List Record
-  these = (commons ++ owners) ++ e ∷ []
+  these = (commons ++ owners) ++ entries
 
   -- what passes a test that no component passes
-  those : (test : Record → Bool) → ((c : Component) → test (as_record c) ≡ false) → filter test these ≡ filter test commons ++ filter test (e ∷ [])
+  those : (test : Record → Bool) → ((c : Component) → test (as_record c) ≡ false) → filter test these ≡ filter test commons ++ filter test entries
   those test fails =
-      filter-append test (commons ++ owners) (e ∷ [])
-      ∙ ap (λ (l : List Record). l ++ filter test (e ∷ []))
-      (filter-append test commons owners ∙ ap (λ (l : List Record). filter test commons ++ l) (owners_fail design test fails (terminals_of e)) ∙ append-nil (filter test commons))
+      filter-append test (commons ++ owners) entries
+      ∙ ap (λ (l : List Record). l ++ filter test entries)
+      (filter-append test commons owners ∙ ap (λ (l : List Record). filter test commons ++ l) (owners_fail design test fails terminals) ∙ append-nil (filter test commons))
 
   common : filter is_common these ≡ filter is_common design
   common =
       those is_common (λ c. refl)
-      ∙ ap₂ (λ (a b : List Record). a ++ b) (commons_in design) (ap (λ (b : Bool). if b then e ∷ [] else []) own.not_common)
+      ∙ ap₂ (λ (a b : List Record). a ++ b) (commons_in design) (none_of_others (is_of_net name) is_common (λ r is. (is_entry_of name r is).not_common) design)
       ∙ append-nil (filter is_common design)
 
   same_pins : filter is_of_pins these ≡ filter is_of_pins design
   same_pins =
       those is_of_pins (λ c. refl)
-      ∙ ap₂ (λ (a b : List Record). a ++ b) (pins_in design) (ap (λ (b : Bool). if b then e ∷ [] else []) own.no_pin)
+      ∙ ap₂ (λ (a b : List Record). a ++ b) (pins_in design) (none_of_others (is_of_net name) is_of_pins (λ r is. (is_entry_of name r is).no_pin) design)
       ∙ append-nil (filter is_of_pins design)
 
-  entries : filter (is_of_net name) these ≡ filter (is_of_net name) design
-  entries =
+  same_entries : filter (is_of_net name) these ≡ entries
+  same_entries =
       those (is_of_net name) (λ c. refl)
-      ∙ ap₂ (λ (a b : List Record). a ++ b) (none_of_others tells_any (is_of_net name) (no_net_entry name) design)
-      (ap (λ (b : Bool). if b then e ∷ [] else []) (passes (is_of_net name) design e only))
-      ∙ sym only
+      ∙ ap₂ (λ (a b : List Record). a ++ b) (none_of_others tells_any (is_of_net name) (no_net_entry name) design) (filtered_within (is_of_net name) (is_of_net name) (λ r is. is) design)
 
-  components_are : filter_map component_of these ≡ flat_map (owned design) (terminals_of e)
+  components_are : filter_map component_of these ≡ flat_map (owned design) terminals
   components_are =
-      filter_map-append component_of (commons ++ owners) (e ∷ [])
-      ∙ ap₂ (λ (a b : List Component). a ++ b) (filter_map-append component_of commons owners) (ap (λ (c : Option Component). filter_map (λ (o : Option Component). o) (c ∷ [])) own.no_component)
+      filter_map-append component_of (commons ++ owners) entries
+      ∙ ap₂ (λ (a b : List Component). a ++ b) (filter_map-append component_of commons owners) (none_selected (is_of_net name) component_of (λ r is. (is_entry_of name r is).no_component) design)
       ∙ append-nil (filter_map component_of commons ++ filter_map component_of owners)
-      ∙ ap₂ (λ (a b : List Component). a ++ b) (none_selected tells_any component_of no_component design) (owners_are design (terminals_of e))
+      ∙ ap₂ (λ (a b : List Component). a ++ b) (none_selected tells_any component_of no_component design) (owners_are design terminals)
 
-  only_name : filter_map net_of_record these ≡ name ∷ []
-  only_name =
-      filter_map-append net_of_record (commons ++ owners) (e ∷ [])
-      ∙ ap₂ (λ (a b : List (List ℕ)). a ++ b)
+  their_names : filter_map net_of_record these ≡ filter_map net_of_record entries
+  their_names =
+      filter_map-append net_of_record (commons ++ owners) entries
+      ∙ ap (λ (l : List (List ℕ)). l ++ filter_map net_of_record entries)
       (filter_map-append net_of_record commons owners
-      ∙ ap₂ (λ (a b : List (List ℕ)). a ++ b) (none_selected tells_any net_of_record no_net design) (owners_no_nets design (terminals_of e)))
-      (ap (λ (n : Option (List ℕ)). filter_map (λ (o : Option (List ℕ)). o) (n ∷ [])) own.net_is)
+      ∙ ap₂ (λ (a b : List (List ℕ)). a ++ b) (none_selected tells_any net_of_record no_net design) (owners_no_nets design terminals))
 
-  listed : terminals_in these name ≡ terminals_of e
-  listed = ap (flat_map terminals_of) (entries ∙ only) ∙ append-nil (terminals_of e)
+  listed : terminals_in these name ≡ terminals
+  listed = ap (flat_map terminals_of) same_entries
 
   these_are : TellNet these design name
   these_are = record {
-    agree = record { common = common; entries = entries; pins = law these design name (ap (flat_map terminals_of) entries) same_pins; components = rw listed (all_alike design these (terminals_of e) components_are [] (terminals_of e) refl none) };
-    only = only_name;
+    agree = record { common = common; entries = same_entries; pins = law these design name listed same_pins; components = rw listed (all_alike design these terminals components_are [] terminals refl none) };
+    only = ap (with_all (λ (n : List ℕ). n) []) their_names ∙ named design name e es all;
   }
 
 -- so they do once they were put one behind the other
-pub these_tell : AllPinsTell → (design : List Record) (name : List ℕ) (e : Record) (commons with_owners some : List Record) → filter (is_of_net name) design ≡ e ∷ [] → commons ≡ filter tells_any design
-    → HasOwners design (terminals_of e) commons with_owners → some ≡ with_owners ++ e ∷ [] → TellNet some design name
-these_tell law design name e commons with_owners some only commons_are has some_is =
-    let is : some ≡ (filter tells_any design ++ owners_in design (terminals_of e)) ++ e ∷ [] =
-    some_is ∙ ap (λ (l : List Record). l ++ e ∷ []) (has.new_is ∙ ap (λ (l : List Record). l ++ owners_in design (terminals_of e)) commons_are) in
-    rw is (these_are law design name e only has.named)
+pub these_tell : AllPinsTell → EntriesNameOneNet → (design : List Record) (name : List ℕ) (e : Record) (es : List Record) (commons some : List Record) → filter (is_of_net name) design ≡ e ∷ es → commons ≡ filter tells_any design
+    → HasEntries design (e ∷ es) commons some → TellNet some design name
+these_tell law named design name e es commons some all commons_are has =
+    let none : list_any is_of_all (terminals_in design name) ≡ false = ap (λ (rs : List Record). list_any is_of_all (flat_map terminals_of rs)) all ∙ has.named in
+    let is : some ≡ (filter tells_any design ++ owners_in design (terminals_in design name)) ++ filter (is_of_net name) design =
+    has.new_is
+    ∙ ap₂ (λ (l rs : List Record). (l ++ owners_in design (flat_map terminals_of rs)) ++ rs) commons_are (sym all) in
+    rw is (these_are law named design name e es all none)

@@ -3,6 +3,7 @@ use Rattle.std.proofs.Common.{◌≡◌, ◌∙◌, ℕ, Bool, true, false, ◌&
 use Rattle.std.specs.List.{filter_map}
 use Rattle.std.specs.Str.{bytes_eq}
 use Rattle.std.proofs.lemmas.List.Elements.{filter-append, filter_map-append}
+use Rattle.form_meanings.specs.Firsts.{with_all}
 use Rattle.design_model.specs.declared.mode.Section.TheVariants.{Components}
 use Rattle.design_model.specs.EnumWords.{section_word}
 use Rattle.def_grammar.specs.Components.{Component}
@@ -162,6 +163,7 @@ module _ (law : AllPinsTell) (design : List Record) (net component : List ℕ) (
       ∙ append-nil (filter is_of_pins design)
 
   these_are : TellOne these design net component
+  unfolding Rattle.form_meanings.specs.Firsts.with_all
   these_are = record {
     common =
         those is_common
@@ -178,10 +180,11 @@ module _ (law : AllPinsTell) (design : List Record) (net component : List ℕ) (
         (ap (λ (c : Option Component). filter_map (λ (o : Option Component). o) (c ∷ [])) own.no_component)
         ∙ append-nil (those_named component design);
     only =
-        selected net_of_record
+        ap (with_all (λ (n : List ℕ). n) [])
+        (selected net_of_record
         ∙ ap₂ (λ (a b : List (List ℕ)). a ++ b)
         (ap₂ (λ (a b : List (List ℕ)). a ++ b) (none_selected tells_any net_of_record no_net design) (none_selected (owns component) net_of_record (no_name component) design))
-        (ap (λ (n : Option (List ℕ)). filter_map (λ (o : Option (List ℕ)). o) (n ∷ [])) own.net_is);
+        (ap (λ (n : Option (List ℕ)). filter_map (λ (o : Option (List ℕ)). o) (n ∷ [])) own.net_is));
   }
 
 -- so they do once they were put one behind the other

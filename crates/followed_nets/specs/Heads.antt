@@ -1,5 +1,5 @@
--- Heads of nets: their entries without wiring, as bytes that are read each time.
-use Rattle.std.specs.Prelude.{◌≡◌, ℕ, true, List, Option, Some, Ok}
+-- Heads of nets: entries that list what a net's entries do, without wiring, as bytes that are read each time.
+use Rattle.std.specs.Prelude.{◌≡◌, ℕ, true, List, Option, Some, Ok, flat_map}
 use Rattle.design_model.specs.declared.mode.Mode.{Mode}
 use Rattle.statement_model.specs.Reading.{read_at}
 use Rattle.statement_model.specs.Tokens.{Lexed, left_from}
@@ -30,7 +30,7 @@ pub record HeadLists (h : Head) (ts : List Terminal) : Type 0 where
 abbrev pub IsHead : List Record → Head → Type 0
 IsHead design h = HeadLists h (terminals_in design h.name)
 
--- the name and the terminals are those of an entry
-pub record IsHeadOf (r : Record) (h : Head) : Type 0 where
+-- the name is that of an entry, and the terminals are those of some entries
+pub record IsHeadOf (r : Record) (all : List Record) (h : Head) : Type 0 where
   pub net_is : net_of_record r ≡ Some h.name
-  pub head_lists : HeadLists h (terminals_of r)
+  pub head_lists : HeadLists h (flat_map terminals_of all)

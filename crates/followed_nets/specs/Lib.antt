@@ -1,4 +1,5 @@
 pub mod Blocked
+pub mod Entries
 pub mod Exchanging
 pub mod FollowedNets
 pub mod Heads

@@ -1,4 +1,4 @@
--- The components that the entry of a net lists.
+-- The components that the entries of a net list.
 use Rattle.std.specs.Prelude.{◌≡◌, ℕ, false, List, ◌++◌, flat_map}
 use Rattle.std.specs.List.{list_any}
 use Rattle.std.specs.Option.{option_map, option_to_list}
@@ -6,6 +6,7 @@ use Rattle.def_grammar.specs.Components.{Component}
 use Rattle.def_grammar.specs.Records.{Record, component, entry}
 use Rattle.def_grammar.specs.Terminals.{Terminal, is_of_all}
 use Rattle.entry_rules.specs.Unknown.{component_named}
+use Rattle.net_laws.specs.NetsTold.{terminals_of}
 
 -- the statement that says a component
 abbrev pub as_record : Component → Record
@@ -26,3 +27,8 @@ owners_in design ts = flat_map (owner_in design) ts
 pub record HasOwners (design : List Record) (ts : List Terminal) (old new : List Record) : Type 0 where
   pub named : list_any is_of_all ts ≡ false
   pub new_is : new ≡ old ++ owners_in design ts
+
+-- the same of the terminals of some entries, which stand behind these
+pub record HasEntries (design es : List Record) (old new : List Record) : Type 0 where
+  pub named : list_any is_of_all (flat_map terminals_of es) ≡ false
+  pub new_is : new ≡ (old ++ owners_in design (flat_map terminals_of es)) ++ es

@@ -16,11 +16,12 @@ use Rattle.followed_nets.specs.Stars.{AreStarNames}
 abbrev pub head_names : List Head → List (List ℕ)
 head_names hs = map (λ (h : Head). h.name) hs
 
--- the head of a net of one entry
+-- the head of a net that has an entry
 pub record IsStarHead (design : List Record) (h : Head) : Type 0 where
   pub head : IsHead design h
   pub entry : Record
-  pub one_entry : filter (is_of_net h.name) design ≡ entry ∷ []
+  pub others : List Record
+  pub entries : filter (is_of_net h.name) design ≡ entry ∷ others
 
 -- the nets that list a pin of all components are those of these heads
 pub record AreStarHeads (design : List Record) (hs : List Head) : Type 0 where
@@ -35,11 +36,12 @@ pub record PinShapes : Type 0 where
 abbrev pub pin_names : List PinShapes → List (List ℕ)
 pin_names ps = map (λ (p : PinShapes). p.name) ps
 
--- those of the pins by one component of a net that has one entry
+-- those of the pins by one component of a net that has an entry
 pub record IsPinsBy (library : Library) (design : List Record) (component : List ℕ) (p : PinShapes) : Type 0 where
   pub shapes_are : p.shapes ≡ shapes_in (pins_by_one library design (scale design) p.name component)
   pub entry : Record
-  pub one_entry : filter (is_of_net p.name) design ≡ entry ∷ []
+  pub others : List Record
+  pub entries : filter (is_of_net p.name) design ≡ entry ∷ others
 
 -- so net by net
 abbrev pub ArePinShapes : Library → List Record → List ℕ → List PinShapes → Type 0

@@ -19,11 +19,12 @@ pub record IsNetOf (library : Library) (design : List Record) (n : Net) : Type 0
   pub same_power : n.is_power ≡ (net_named library design (scale design) n.name).is_power
   pub same_parts : SameThings n.parts (net_named library design (scale design) n.name).parts
 
--- and has one entry there
+-- and has an entry there, or one in each section
 pub record IsStar (library : Library) (design : List Record) (n : Net) : Type 0 where
   pub net : IsNetOf library design n
   pub entry : Record
-  pub one_entry : filter (is_of_net n.name) design ≡ entry ∷ []
+  pub others : List Record
+  pub entries : filter (is_of_net n.name) design ≡ entry ∷ others
 
 -- the nets of a design that list a pin of all components are those of some names
 pub record AreStarNames (design : List Record) (names : List (List ℕ)) : Type 0 where

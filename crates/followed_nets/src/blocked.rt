@@ -40,7 +40,7 @@ use line_laws::scales::scales_are_good;
 use name_keys::OwnName;
 use named_shapes::{NamedShapes, TouchingNets};
 use net_checks::barriers_of;
-use net_laws::{one_entry_tells, one_net_is_told};
+use net_laws::{entries_tell, one_net_is_told};
 use net_lists::NetShape;
 use net_queries::put_barred_nets;
 use net_touches::Barrier;
@@ -272,7 +272,7 @@ fn put_net<A: Allocator + Copy>(
     ensures out { IfOk result (λ there. IsTrue there → Adds lines.old.out (barred_lines (name_at (map (λ w. w.now) layers.now)) library.now (design_of text.now) (map barrier_view changed.now.gone.items) net.now) lines.new.out) }
     ensures put { IfOk result (λ there. IsTrue there → Adds lines.old.put (barred_lines (name_at (map (λ w. w.now) layers.now)) library.now (design_of text.now) (map barrier_view changed.now.come.items) net.now) lines.new.put) }
 {
-    one_entry_tells();
+    entries_tell();
     match star_named(stars, net) {
         Some(star) => {
             put_star(layers, star, changed, lines)?;

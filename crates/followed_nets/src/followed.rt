@@ -54,8 +54,8 @@ use name_keys::OwnName;
 use named_shapes::NamedShapes;
 use net_checks::layer_names::layer_names;
 use net_laws::{
-    barred_lines_follow, bars_are_exchanged, nets_are_told, one_component_exchanged,
-    one_entry_tells, pin_lines_follow, told_nets_are_exchanged,
+    barred_lines_follow, bars_are_exchanged, entries_tell, nets_are_told, one_component_exchanged,
+    pin_lines_follow, told_nets_are_exchanged,
 };
 use net_queries::short_is_symmetric;
 use net_touches::{Barrier, layers_have_their_names};
@@ -446,7 +446,7 @@ impl<A: Allocator + Copy> FollowedNets<A> {
     {
         told_nets_are_exchanged();
         one_component_exchanged();
-        one_entry_tells();
+        entries_tell();
         nets_are_told();
         pin_lines_follow();
         short_is_symmetric();

@@ -1,10 +1,10 @@
-//! Heads of nets: what an entry says without its wiring.
+//! Heads of nets: what their entries say without wiring.
 //!
 //! The entry of a power net has its wiring, which is long. Of a net whose pins by one component are sought, only the name and the terminals
-//! are needed. So these are written into bytes once, as an entry, and read each time. What is written is read back and compared before it is
+//! are needed. So these are written into bytes once, as one entry, and read each time. What is written is read back and compared before it is
 //! taken for a head, so that nothing is to be known of how it is spelled.
 
-ghost use Rattle.std.specs.Prelude.{◌≡◌, false, List, IfOk, IfSome, IsTrue, map};
+ghost use Rattle.std.specs.Prelude.{◌≡◌, ◌++◌, false, List, IfOk, IfSome, IsTrue, OnOk, flat_map, map};
 ghost use Rattle.std.specs.List.{AllByRecursion};
 ghost use Rattle.def_grammar.specs.Records.{Record};
 ghost use Rattle.wire_parts.specs.TerminalViews.{terminal_view, terminals_of as terminals_left};
@@ -12,11 +12,12 @@ ghost use Rattle.def_reader.specs.StatementViews.{record_view};
 ghost use Rattle.net_laws.specs.NetChanges.{is_one_of};
 ghost use Rattle.net_laws.specs.NetsTold.{terminals_of};
 ghost use Rattle.design_text.specs.DesignTexts.{design_of};
+ghost use Rattle.followed_nets.specs.Entries.{entries_view};
 ghost use Rattle.followed_nets.specs.Heads.{HeadLists, IsHead, IsHeadOf, ReadsAs};
 ghost use Rattle.followed_nets.specs.ToldViews.{head_view};
 
+use crate::entries::{NetEntries, entries_of};
 use crate::listed::net_name;
-use crate::told_statements::only_entry;
 use crate::within::is_one_of;
 use def_reader::entry::Entry;
 use def_reader::read_statement::read_statement;
@@ -30,7 +31,7 @@ use std::alloc::{AllocError, Allocator, Global};
 use wire_parts::nets::NetEntry;
 use wire_parts::terminals::Terminal;
 
-/// An entry of a net without its wiring, as bytes that are read each time.
+/// An entry that lists what all entries of a net do, without wiring, as bytes that are read each time.
 #[derive(Drop)]
 pub(crate) struct Head<A: Allocator = Global> {
     pub(crate) name: OwnName<A>,
@@ -82,33 +83,47 @@ fn put_entry<A: Allocator>(
     put_word(bytes, b";")
 }
 
-/// All of these terminals.
-fn all_of<'t, A: Allocator + Copy>(
-    alloc: A,
+/// Puts all of these terminals behind others.
+fn put_all<'t, A: Allocator + Copy>(
     terminals: &Parts<'t, Terminal<'t>>,
-) -> Result<Vec<Terminal<'t>, A>, AllocError>
-    ensures { IfOk result (λ v. map terminal_view v.items ≡ terminals_left terminals.now) }
+    all: &mut Vec<Terminal<'t>, A>,
+) -> Result<(), AllocError>
+    ensures { OnOk result (map terminal_view all.new.items ≡ map terminal_view all.old.items ++ terminals_left terminals.now) }
 {
-    let mut all = Vec::new(alloc);
     let mut left = terminals.again();
     while let Some(terminal) = left.next() {
         all.push(terminal)?;
     }
-    Ok(all)
+    Ok(())
 }
 
-/// All terminals that a statement lists, which are none where it is no entry of a net.
-fn all_listed<'t, A: Allocator + Copy>(
-    alloc: A,
+/// Puts all terminals that a statement lists behind others, which are none where it is no entry of a net.
+fn put_listed<'t, A: Allocator + Copy>(
     statement: &Statement<'t>,
-) -> Result<Vec<Terminal<'t>, A>, AllocError>
-    ensures { IfOk result (λ v. map terminal_view v.items ≡ terminals_of (record_view statement.now)) }
+    all: &mut Vec<Terminal<'t>, A>,
+) -> Result<(), AllocError>
+    ensures { OnOk result (map terminal_view all.new.items ≡ map terminal_view all.old.items ++ terminals_of (record_view statement.now)) }
 {
     match statement {
-        Statement::Entry(Entry::Net(NetEntry::Net(net))) => all_of(alloc, &net.terminals),
-        Statement::Entry(Entry::SpecialNet(net)) => all_of(alloc, &net.terminals),
-        _ => Ok(Vec::new(alloc)),
+        Statement::Entry(Entry::Net(NetEntry::Net(net))) => put_all(&net.terminals, all),
+        Statement::Entry(Entry::SpecialNet(net)) => put_all(&net.terminals, all),
+        _ => Ok(()),
     }
+}
+
+/// All terminals that the entries of a net list.
+fn all_listed<'t, A: Allocator + Copy>(
+    alloc: A,
+    entries: &NetEntries<'t>,
+) -> Result<Vec<Terminal<'t>, A>, AllocError>
+    ensures { IfOk result (λ v. map terminal_view v.items ≡ flat_map terminals_of (entries_view entries.now)) }
+{
+    let mut all = Vec::new(alloc);
+    put_listed(&entries.first, &mut all)?;
+    if let Some(second) = &entries.second {
+        put_listed(second, &mut all)?;
+    }
+    Ok(all)
 }
 
 /// Whether two terminals are alike.
@@ -202,22 +217,22 @@ fn read_back<A: Allocator + Copy>(
     Ok(Some(head))
 }
 
-/// The head of the net that a statement is an entry of.
+/// The head of the net that has these entries.
 pub(crate) fn head_of<A: Allocator + Copy>(
     alloc: A,
-    entry: &Statement<'_>,
+    entries: &NetEntries<'_>,
 ) -> Result<Option<Head<A>>, AllocError>
-    ensures { IfOk result (λ found. IfSome found (λ h. IsHeadOf (record_view entry.now) (head_view h))) }
+    ensures { IfOk result (λ found. IfSome found (λ h. IsHeadOf (record_view entries.now.first) (entries_view entries.now) (head_view h))) }
 {
-    let Some(name) = net_name(entry) else {
+    let Some(name) = net_name(&entries.first) else {
         return Ok(None);
     };
-    let terminals = all_listed(alloc, entry)?;
-    let found = read_back(alloc, name, mode_of(entry), &terminals)?;
+    let terminals = all_listed(alloc, entries)?;
+    let found = read_back(alloc, name, mode_of(&entries.first), &terminals)?;
     Ok(found)
 }
 
-/// The head of the net of a name in a text, if it has one entry.
+/// The head of the net of a name in a text, if it has an entry.
 fn head_in<A: Allocator + Copy>(
     alloc: A,
     text: &DesignText<A>,
@@ -225,10 +240,10 @@ fn head_in<A: Allocator + Copy>(
 ) -> Result<Option<Head<A>>, AllocError>
     ensures { IfOk result (λ found. IfSome found (λ h. IsHead (design_of text.now) (head_view h))) }
 {
-    let Some(entry) = only_entry(text, net) else {
+    let Some(entries) = entries_of(text, net) else {
         return Ok(None);
     };
-    let found = head_of(alloc, &entry)?;
+    let found = head_of(alloc, &entries)?;
     Ok(found)
 }
 

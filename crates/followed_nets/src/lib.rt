@@ -5,11 +5,12 @@
 //! others, and how many pairs of shapes were compared for them (`specs/Tests`). What is noted follows then, too, and else isn't to be
 //! used any more.
 //!
-//! A net is told by few statements of the text (`told`), and exchanged as a whole. Its shapes are compared with each other to find how its
-//! parts hang together, and with those of other nets; both is counted. A net that lists a pin of all components is kept with its parts, and an
-//! edit of a component exchanges its pins of that component (`star_pins`, `star_exchange`); of its entry only the name and the terminals are
-//! read then, which are kept without the wiring (`heads`). What is compared there is counted too (`specs/StarTests`). Both are pieces of
-//! `specs/Pieces`: first all that go are taken out, then all that come are put in (`exchanging`).
+//! A net is told by few statements of the text (`told`), its entries among them (`entries`), and exchanged as a whole. Its shapes are
+//! compared with each other to find how its parts hang together, and with those of other nets; both is counted. A net that lists a pin of
+//! all components is kept with its parts, and an edit of a component exchanges its pins of that component (`star_pins`, `star_exchange`); of
+//! its entries only the name and the terminals are read then, which are kept without the wiring, as one entry (`heads`). What is compared
+//! there is counted too (`specs/StarTests`). Both are pieces of `specs/Pieces`: first all that go are taken out, then all that come are put
+//! in (`exchanging`).
 //!
 //! Pins of the design are read for each net that is told, with what any net may be made of, by numbers that are noted; after an edit of one
 //! the numbers are exchanged, too (`numbers`).
@@ -24,6 +25,7 @@
 
 mod blocked;
 mod changed_shapes;
+pub mod entries;
 mod exchanging;
 mod exchanging_bars;
 mod followed;

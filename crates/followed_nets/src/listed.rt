@@ -12,7 +12,7 @@ ghost use Rattle.net_laws.specs.NetsTold.{is_of_net, net_of_record};
 ghost use Rattle.design_text.specs.DesignTexts.{design_of};
 ghost use Rattle.followed_nets.specs.Listed.{AllList, AllOfPin, AreApart, AreListing, AreListingPin, is_pin_naming, net_named_by};
 
-use crate::told_statements::entry_in;
+use crate::entries::entry_in;
 use crate::within::{is_one_of, net_of_pin};
 use def_reader::entry::Entry;
 use def_reader::statement::Statement;
@@ -23,7 +23,7 @@ use std::alloc::{AllocError, Allocator};
 use wire_parts::nets::NetEntry;
 
 /// How many nets may list a component or a pin so that they are followed one by one. Their names are gone over where one is looked for.
-const MOST_NETS: usize = 64;
+const MOST_NETS: usize = 1024;
 
 /// The name of the net that a statement is an entry of.
 pub(crate) fn net_name<'t>(statement: &Statement<'t>) -> Option<&'t [u8]>

@@ -15,9 +15,9 @@ ghost use Rattle.design_text.specs.DesignTexts.{design_of};
 ghost use Rattle.followed_nets.specs.Noted.{numbers_telling, said, tells_any};
 ghost use Rattle.followed_nets.specs.Stars.{AreStarNames, AreStars, IsStar, names_of};
 
+use crate::entries::entries_of;
 use crate::listed::add_net;
 use crate::stars::lists_all;
-use crate::told_statements::only_entry;
 use cell_library::library::Library;
 use def_reader::entry::Entry;
 use def_reader::statement::Statement;
@@ -37,10 +37,10 @@ use net_touches::Barrier;
 use std::alloc::{AllocError, Allocator};
 
 /// How many nets that list a pin of all components are kept with their parts. They are gone over for each edit of a component.
-const MOST_STARS: usize = 16;
+const MOST_STARS: usize = 64;
 
-/// The shapes of all nets of a text, the rectangles where routing is blocked, and the nets that list a pin of all components with their parts, unless these are many or one of
-/// them has two entries.
+/// The shapes of all nets of a text, the rectangles where routing is blocked, and the nets that list a pin of all components with their
+/// parts, unless these are many.
 #[derive(Drop)]
 pub(crate) struct DrawnNets<A: Allocator> {
     pub(crate) shapes: NamedShapes<A>,
@@ -114,7 +114,7 @@ fn copied<A: Allocator + Copy>(
     Ok(None)
 }
 
-/// The net of this name, with its parts as in a list of all nets of a text, if it has one entry.
+/// The net of this name, with its parts as in a list of all nets of a text, if it has an entry.
 fn star_of<A: Allocator + Copy>(
     alloc: A,
     text: &DesignText<A>,
@@ -125,13 +125,13 @@ fn star_of<A: Allocator + Copy>(
     ensures star { (library : TheLibrary) → nets.now ≡ all_nets library (design_of text.now) (scale (design_of text.now))
         → IfOk result (λ found. IfSome found (IsStar library (design_of text.now))) }
 {
-    let Some(_entry) = only_entry(text, name) else {
+    let Some(_entries) = entries_of(text, name) else {
         return Ok(None);
     };
     copied(alloc, nets, name)
 }
 
-/// The nets of these names, unless one of them isn't there with one entry.
+/// The nets of these names, unless one of them isn't there.
 fn stars_of<A: Allocator + Copy>(
     alloc: A,
     text: &DesignText<A>,

@@ -13,11 +13,11 @@ ghost use Rattle.followed_nets.specs.StarHeads.{AreAllListing, ArePinShapes, Are
 ghost use Rattle.followed_nets.specs.StarHeadViews.{pins_view};
 ghost use Rattle.followed_nets.specs.ToldViews.{head_view};
 
+use crate::entries::entries_of;
 use crate::heads::{Head, are_of_others, head_of};
 use crate::listed::{add_name, nets_listing};
 use crate::noted::star_names;
 use crate::star_pins::star_pins;
-use crate::told_statements::only_entry;
 use cell_library::library::Library;
 use design_model::identifier::StmtId;
 use design_tables::Numbered;
@@ -52,7 +52,7 @@ pub struct ToldPins<A: Allocator = Global> {
     pub shapes: Vec<NetShape, A>,
 }
 
-/// The head of the net of a name in a text, if it has one entry.
+/// The head of the net of a name in a text, if it has an entry.
 fn star_head<A: Allocator + Copy>(
     alloc: A,
     text: &DesignText<A>,
@@ -61,10 +61,10 @@ fn star_head<A: Allocator + Copy>(
     ensures named { IfOk result (λ found. IfSome found (λ h. (head_view h).name ≡ net.now)) }
     ensures head { IfOk result (λ found. IfSome found (λ h. IsStarHead (design_of text.now) (head_view h))) }
 {
-    let Some(entry) = only_entry(text, net) else {
+    let Some(entries) = entries_of(text, net) else {
         return Ok(None);
     };
-    let found = head_of(alloc, &entry)?;
+    let found = head_of(alloc, &entries)?;
     Ok(found)
 }
 
@@ -164,7 +164,7 @@ fn pins_of_heads<A: Allocator + Copy>(
 }
 
 impl<A: Allocator + Copy> StarHeads<A> {
-    /// Those of a text with these statements: `None` where they are many, or one of them has two entries, or a head of one isn't read.
+    /// Those of a text with these statements: `None` where they are many, or a head of one isn't read.
     pub fn of(
         alloc: A,
         text: &DesignText<A>,

@@ -15,8 +15,8 @@ ghost use Rattle.followed_nets.specs.Heads.{IsHead};
 ghost use Rattle.followed_nets.specs.Noted.{AreCommon};
 ghost use Rattle.followed_nets.specs.ToldViews.{head_view};
 
+use crate::entries::entry_in;
 use crate::heads::Head;
-use crate::told_statements::entry_in;
 use cell_library::library::Library;
 use def_reader::statement::Statement;
 use design_model::identifier::StmtId;

@@ -1,60 +1,27 @@
 //! The statements that tell one net of a text.
 
-ghost use Rattle.std.specs.Prelude.{◌≡◌, ◌++◌, ◌∷◌, [], IfOk, IfSome, IsTrue, OnOk, filter, map};
-ghost use Rattle.std.specs.Option.{option_map, option_to_list};
-ghost use Rattle.def_grammar.specs.Located.{is_entry};
-ghost use Rattle.def_grammar.specs.Records.{entry_of};
+ghost use Rattle.std.specs.Prelude.{◌≡◌, ◌++◌, IfOk, IfSome, IsTrue, OnOk, flat_map, map};
 ghost use Rattle.wire_parts.specs.TerminalViews.{terminals_of};
 ghost use Rattle.def_reader.specs.StatementViews.{record_view};
-ghost use Rattle.net_laws.specs.NetsTold.{is_of_net, terminals_of as terminals_of_record};
+ghost use Rattle.net_laws.specs.NetsTold.{terminals_of as terminals_of_record};
 ghost use Rattle.net_laws.specs.OneNet.{TellNet};
 ghost use Rattle.design_text.specs.DesignTexts.{design_of};
 ghost use Rattle.design_text.specs.Exchanges.{records_in};
+ghost use Rattle.followed_nets.specs.Entries.{entries_view, said_by};
 ghost use Rattle.followed_nets.specs.Noted.{AreCommon};
-ghost use Rattle.followed_nets.specs.Owners.{HasOwners, owners_in, statement_of};
+ghost use Rattle.followed_nets.specs.Owners.{HasEntries, HasOwners, owners_in, statement_of};
 
+use crate::entries::{NetEntries, entries_of};
 use crate::stars::is_any_of_all;
 use def_reader::entry::Entry;
 use def_reader::statement::Statement;
-use def_splice::lookups::LookUps;
 use design_model::identifier::StmtId;
-use design_model::mode::Section;
-use design_text::laws::named_once;
 use design_text::text::DesignText;
-use net_laws::all_pins_tell;
+use net_laws::{all_pins_tell, entries_name_one_net};
 use statement_reader::parts::Parts;
 use std::alloc::{AllocError, Allocator};
 use wire_parts::nets::NetEntry;
 use wire_parts::terminals::Terminal;
-
-/// The entry of a name in a section of nets or of components. It alone is read.
-pub fn entry_in<'t, A: Allocator + Copy>(
-    text: &'t DesignText<A>,
-    section: Section,
-    net: &[u8],
-) -> Option<Statement<'t>>
-    ensures { option_to_list (option_map record_view result) ≡ filter (λ r. is_entry section net.now (entry_of r)) (design_of text.entry.now) }
-{
-    named_once();
-    text.text_reads();
-    text.design_is_read();
-    let Some((statement, _)) = text.entry(section, net) else {
-        return None;
-    };
-    Some(statement)
-}
-
-/// The one entry of a net: `None` where the net has none, or one in each section.
-pub(crate) fn only_entry<'t, A: Allocator + Copy>(
-    text: &'t DesignText<A>,
-    net: &[u8],
-) -> Option<Statement<'t>>
-    ensures { IfSome result (λ s. filter (is_of_net net.now) (design_of text.entry.now) ≡ record_view s ∷ []) }
-{
-    let listed = entry_in(text, Section::Nets, net);
-    let special = entry_in(text, Section::SpecialNets, net);
-    listed.xor(special)
-}
 
 /// Puts the component of a name behind statements, if there is one. The owners `PIN` and `VPIN` are looked up like any other, since a
 /// component may have that name.
@@ -121,8 +88,56 @@ fn push_listed<'t, A: Allocator + Copy>(
     }
 }
 
+/// The same of a second entry, if there is one.
+fn push_listed_if<'t, A: Allocator + Copy>(
+    text: &'t DesignText<A>,
+    entry: &Option<Statement<'t>>,
+    statements: &mut Vec<Statement<'t>, A>,
+) -> Result<bool, AllocError>
+    ensures { IfOk result (λ put. IsTrue put → HasOwners (design_of text.entry.now) (flat_map terminals_of_record (said_by entry.now)) (map record_view statements.old.items) (map record_view statements.new.items)) }
+{
+    match entry {
+        Some(entry) => push_listed(text, entry, statements),
+        None => Ok(true),
+    }
+}
+
+/// Puts a statement behind others, if there is one.
+fn push_if<'t, A: Allocator>(
+    found: Option<Statement<'t>>,
+    statements: &mut Vec<Statement<'t>, A>,
+) -> Result<(), AllocError>
+    ensures { OnOk result (map record_view statements.new.items ≡ map record_view statements.old.items ++ said_by found.entry) }
+{
+    if let Some(statement) = found {
+        statements.push(statement)?;
+    }
+    Ok(())
+}
+
+/// Puts the owners of all terminals that the entries of a net list behind statements, and then the entries, unless one of these terminals
+/// is of all components: whether they were put there.
+fn push_entries<'t, A: Allocator + Copy>(
+    text: &'t DesignText<A>,
+    entries: NetEntries<'t>,
+    statements: &mut Vec<Statement<'t>, A>,
+) -> Result<bool, AllocError>
+    ensures { IfOk result (λ put. IsTrue put → HasEntries (design_of text.entry.now) (entries_view entries.entry) (map record_view statements.old.items) (map record_view statements.new.items)) }
+{
+    let NetEntries { first, second } = entries;
+    if !push_listed(text, &first, statements)? {
+        return Ok(false);
+    }
+    if !push_listed_if(text, &second, statements)? {
+        return Ok(false);
+    }
+    statements.push(first)?;
+    push_if(second, statements)?;
+    Ok(true)
+}
+
 /// The statements that tell a net of a text: those that are read whichever net is told, which have these numbers, the components that its
-/// entry lists, and the entry. There are none where the net has no entry, or one in each section, or lists a pin of all components.
+/// entries list, and the entries. There are none where the net has no entry, or lists a pin of all components.
 pub fn told_statements<'t, A: Allocator + Copy>(
     alloc: A,
     text: &'t DesignText<A>,
@@ -133,14 +148,14 @@ pub fn told_statements<'t, A: Allocator + Copy>(
     ensures { IfOk result (λ found. IfSome found (λ v. TellNet (map record_view v.items) (design_of text.entry.now) net.now)) }
 {
     all_pins_tell();
+    entries_name_one_net();
     text.statements_are_kept();
-    let Some(entry) = only_entry(text, net) else {
+    let Some(entries) = entries_of(text, net) else {
         return Ok(None);
     };
     let mut statements = text.kept(alloc, common)?;
-    if !push_listed(text, &entry, &mut statements)? {
+    if !push_entries(text, entries, &mut statements)? {
         return Ok(None);
     }
-    statements.push(entry)?;
     Ok(Some(statements))
 }

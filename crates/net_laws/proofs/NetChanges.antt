@@ -88,9 +88,10 @@ once library u some design net tell =
     (ap (filter (is_net net)) (wired_names library design u design)
     ∙ names_of_net net design
     ∙ ap (filter_map net_of_record) (sym tell.agree.entries)
-    ∙ sym (names_of_net net some)
+    ∙ sym (names_of_net net some))
+    ∙ sym (each_once_passing (is_net net) [] (filter_map net_of_record some))
     ∙ ap (filter (is_net net)) tell.only
-    ∙ ap (λ (b : Bool). if b then net ∷ [] else []) ((bytes_eq-Decides net net).1 refl))
+    ∙ ap (λ (b : Bool). if b then net ∷ [] else []) ((bytes_eq-Decides net net).1 refl)
 
 none_pass : {A : Type 0} (xs : List A) → filter (λ (x : A). false) xs ≡ []
 none_pass [] = refl

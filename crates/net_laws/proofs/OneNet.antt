@@ -32,7 +32,7 @@ module _ (library : Library) where
   module _ (some design : List Record) (net : List ℕ) (tell : TellNet some design net) where
     told_names : net_names library some (scale some) ≡ net ∷ []
     unfolding Rattle.form_meanings.specs.Firsts.with_all
-    told_names = ap (λ (ns : List (List ℕ)). with_all (λ (n : List ℕ). n) [] ns) (wired_names library some (scale some) some ∙ tell.only)
+    told_names = ap (λ (ns : List (List ℕ)). with_all (λ (n : List ℕ). n) [] ns) (wired_names library some (scale some) some) ∙ tell.only
 
     pub told : IsNetTold library some design net
     told =

@@ -9,8 +9,8 @@ use Rattle.lef_grammar.specs.Library.{Library}
 use Rattle.connection_rules.specs.NetParts.{Net, Part, all_nets, net_named}
 use Rattle.design_rules.specs.Boxes.{scale}
 use Rattle.following_laws.specs.Following.{Exchange}
-use Rattle.net_laws.specs.NetsTold.{is_common, is_of_net, net_of_record, pins_of_net, terminals_in}
-use Rattle.net_laws.specs.OneNet.{TellNet}
+use Rattle.net_laws.specs.NetsTold.{is_common, is_of_net, pins_of_net, terminals_in}
+use Rattle.net_laws.specs.OneNet.{TellNet, names_in}
 use Rattle.net_laws.specs.Within.{AreWithin, a_component}
 
 -- a statement tells what a component is to a net: it is the component, an entry of the net, a pin of the design, or of what any net may be
@@ -66,7 +66,7 @@ pub record TellOne (some design : List Record) (net component : List ℕ) : Type
   pub terminals : terminals_in some net ≡ terminals_in design net
   pub pins : pins_of_net some net ≡ pins_of_net design net
   pub components : filter_map component_of some ≡ those_named component design
-  pub only : filter_map net_of_record some ≡ net ∷ []
+  pub only : names_in some ≡ net ∷ []
 
 -- Then that net is their only one, in the same scale, and its pins are those by the component.
 pub record ArePinsTold (library : Library) (some design : List Record) (net component : List ℕ) : Type 0 where
@@ -78,6 +78,6 @@ pub record ArePinsTold (library : Library) (some design : List Record) (net comp
 abbrev pub OneComponentIsTold : Type 0
 OneComponentIsTold = (library : Library) (some design : List Record) (net component : List ℕ) → TellOne some design net component → ArePinsTold library some design net component
 
--- A net of one entry is told by some statements.
-abbrev pub OneEntryTells : Type 0
-OneEntryTells = (design : List Record) (net : List ℕ) (e : Record) → filter (is_of_net net) design ≡ e ∷ [] → (some : List Record) × TellNet some design net
+-- A net that has an entry is told by some statements.
+abbrev pub EntriesTell : Type 0
+EntriesTell = (design : List Record) (net : List ℕ) (e : Record) (es : List Record) → filter (is_of_net net) design ≡ e ∷ es → (some : List Record) × TellNet some design net

@@ -12,9 +12,9 @@ ghost use Rattle.net_laws.specs.Blocked.{BarredLinesFollow, BarsAreExchanged};
 ghost use Rattle.net_laws.specs.NetsTold.{NetsAreTold};
 ghost use Rattle.net_laws.specs.NetExchanges.{NetsAreExchanged, NoNetsNoLines};
 ghost use Rattle.net_laws.specs.NetChanges.{ApartOnAndOn, ToldNetsAreExchanged, TouchedApart};
-ghost use Rattle.net_laws.specs.OneNet.{AllPinsTell, OneNetIsTold, OwnPinsTell};
+ghost use Rattle.net_laws.specs.OneNet.{AllPinsTell, EntriesNameOneNet, OneNetIsTold, OwnPinsTell};
 ghost use Rattle.net_laws.specs.PinLines.{PinLinesFollow};
-ghost use Rattle.net_laws.specs.StarNets.{AgreeOnAndOn, OneComponentExchanged, OneComponentIsTold, OneEntryTells, OneExchangedAgree};
+ghost use Rattle.net_laws.specs.StarNets.{AgreeOnAndOn, EntriesTell, OneComponentExchanged, OneComponentIsTold, OneExchangedAgree};
 ghost use Rattle.net_laws.specs.Within.{WithinApart};
 
 /// A net is the same in two designs that agree on what tells it.
@@ -35,6 +35,11 @@ pub fn no_nets_no_lines()
 /// Statements that tell one net of a design have that net and no other.
 pub fn one_net_is_told()
     ensures { OneNetIsTold }
+{}
+
+/// The entries of a net have one name.
+pub fn entries_name_one_net()
+    ensures { EntriesNameOneNet }
 {}
 
 /// Statements that have all pins of a design have those of each net,
@@ -92,9 +97,9 @@ pub fn pin_lines_follow()
     ensures { PinLinesFollow }
 {}
 
-/// A net of one entry is told by some statements.
-pub fn one_entry_tells()
-    ensures { OneEntryTells }
+/// A net that has an entry is told by some statements.
+pub fn entries_tell()
+    ensures { EntriesTell }
 {}
 
 /// Where statements are exchanged, so are the rectangles where they block routing.

@@ -25,5 +25,5 @@ returns g c = λ library old new component awaits.
     IfOk-weaker c.exchange_one.result
     (λ (b : Bool). b ≡ true → NetExchanged before.name c.in-Some.length c.in-Some.length before.shapes after.shapes bounds a c.exchange_one.new.reports)
     (λ (b : Bool). b ≡ true → NetsExchanged library old new (before.name ∷ []) a c.exchange_one.new.reports)
-    (λ b e is. star_told library old new component c.lengths_are_told.ensures c.one_component_exchanged.ensures c.one_entry_tells.ensures before after a awaits same c.in-Some.length was bounds length_is box_is follows c.exchange_one.new.reports (e is))
+    (λ b e is. star_told library old new component c.lengths_are_told.ensures c.one_component_exchanged.ensures c.entries_tell.ensures before after a awaits same c.in-Some.length was bounds length_is box_is follows c.exchange_one.new.reports (e is))
     exchanged

@@ -8,7 +8,7 @@ pub returns-in_ok-put_star-in-Some-clause-tells : goal.returns-in_ok-put_star-in
 returns-in_ok-put_star-in-Some-clause-tells g c = λ yes.
     let library = c.args.library.now in
     let design = design_of c.args.text.now in
-    star_tells c.one_entry_tells.ensures library design c.in-Some.star.now c.args.net.now (c.in-Some.ensures.star library design c.requires.stars) c.in-Some.ensures.named
+    star_tells c.entries_tell.ensures library design c.in-Some.star.now c.args.net.now (c.in-Some.ensures.star library design c.requires.stars) c.in-Some.ensures.named
 
 pub returns-in_ok-put_star-in-Some-clause-out : goal.returns-in_ok-put_star-in-Some-clause-out
 returns-in_ok-put_star-in-Some-clause-out g c = λ yes.

@@ -1,10 +1,10 @@
-use Rattle.std.proofs.Common.{◌∙◌, [], ◌∷◌, filter, map, ap}
-use Rattle.std.proofs.lemmas.List.{map-append}
+use Rattle.std.proofs.Common.{◌∙◌, filter, map, ap}
 use Rattle.def_reader.specs.StatementViews.{record_view}
 use Rattle.text_pieces.specs.KeptRecords.{record_of}
 use Rattle.text_pieces.specs.Tables.{ids_of, kept_at}
 use Rattle.design_text.specs.DesignTexts.{design_of}
 use Rattle.design_text.specs.Exchanges.{records_in}
+use Rattle.followed_nets.specs.Entries.{said_by}
 use Rattle.followed_nets.specs.Noted.{tells_any}
 use Rattle.followed_nets.proofs.KeptStatements.{their_pieces, their_records}
 use Rattle.followed_nets.proofs.TellLemmas.{these_tell}
@@ -26,5 +26,6 @@ returns g c =
     ∙ ap (map (λ id. record_of (kept_at slots id))) c.requires
     ∙ their_records slots tells_any (records_in text) (ids_of text.pieces.table) kept.says
     ∙ ap (filter tells_any) c.statements_are_kept.ensures.said in
-    these_tell c.all_pins_tell.ensures (design_of text) c.args.net.now (record_view c.in-Some.entry) _ _ _ c.in-Some.ensures commons_are (c.in_ok-push_listed.ensures c.if-not-branch.false)
-    (ap (map record_view) c.in_ok-push.ensures.items ∙ map-append record_view _ (c.in-Some.entry ∷ []))
+    let entries = c.in-Some.entries in
+    these_tell c.all_pins_tell.ensures c.entries_name_one_net.ensures (design_of text) c.args.net.now (record_view entries.first) (said_by entries.second) _ _ c.in-Some.ensures commons_are
+    (c.in_ok-push_entries.ensures c.if-not-branch.false)

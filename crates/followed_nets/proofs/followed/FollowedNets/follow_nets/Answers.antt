@@ -63,7 +63,7 @@ exchange-requires g c =
     told_alike library (map barrier_view c.deref-2.result.now) then_bars bars_are (said last) (map told_view c.in-Some-2.after.items)
     (subst (λ (d : List Record). AreToldIn library (map barrier_view c.deref-2.result.now) d (map told_view c.in-Some-2.after.items)) (sym c.statements_are_kept.ensures.said) told) in
     let none = if_none_so c.touched.inside.component (λ h. (h.0, ap (λ (e : ToldExchange _). map told_view e.gone.items) h.1, ap (λ (e : ToldExchange _). map told_view e.come.items) h.1)) (rw (c.in-Some-3.is) at c.in_ok-all.ensures.none) in
-    let all = all_exchanged library c.requires.0 last _ c.args.kept _ _ c.told_nets_are_exchanged.ensures c.one_entry_tells.ensures c.same_lines_sort_alike.ensures c.short_is_symmetric.ensures t f both.0 fits then_told named
+    let all = all_exchanged library c.requires.0 last _ c.args.kept _ _ c.told_nets_are_exchanged.ensures c.entries_tell.ensures c.same_lines_sort_alike.ensures c.short_is_symmetric.ensures t f both.0 fits then_told named
     c.touched.inside.component (λ (x : TouchedComponent _). x.name) (λ (x : TouchedComponent _). map star_view x.stars.items) refl (λ own is. ap (λ (x : Option (TouchedComponent _)). stars_of x) is)
     c.nets_are_told.ensures c.pin_lines_follow.ensures c.one_component_exchanged.ensures (map told_view c.in-Some-3.all.gone.items) (map told_view c.in-Some-3.all.come.items) c.exchange_stars.new.self.stars none (rw (c.in-Some-3.is) at c.in_ok-all.ensures.own) in
     let p = all.parts in
@@ -88,7 +88,7 @@ returns-clause-lines g c = λ old exchanges touched followed.
     told_alike library (map barrier_view c.deref-2.result.now) then_bars bars_are (said last) (map told_view c.in-Some-2.after.items)
     (subst (λ (d : List Record). AreToldIn library (map barrier_view c.deref-2.result.now) d (map told_view c.in-Some-2.after.items)) (sym c.statements_are_kept.ensures.said) told) in
     let none = if_none_so c.touched.inside.component (λ h. (h.0, ap (λ (e : ToldExchange _). map told_view e.gone.items) h.1, ap (λ (e : ToldExchange _). map told_view e.come.items) h.1)) (rw (c.in-Some-3.is) at c.in_ok-all.ensures.none) in
-    let all = all_exchanged library old last _ c.args.kept _ _ c.told_nets_are_exchanged.ensures c.one_entry_tells.ensures c.same_lines_sort_alike.ensures c.short_is_symmetric.ensures t f both.0 fits then_told named
+    let all = all_exchanged library old last _ c.args.kept _ _ c.told_nets_are_exchanged.ensures c.entries_tell.ensures c.same_lines_sort_alike.ensures c.short_is_symmetric.ensures t f both.0 fits then_told named
     c.touched.inside.component (λ (x : TouchedComponent _). x.name) (λ (x : TouchedComponent _). map star_view x.stars.items) refl (λ own is. ap (λ (x : Option (TouchedComponent _)). stars_of x) is)
     c.nets_are_told.ensures c.pin_lines_follow.ensures c.one_component_exchanged.ensures (map told_view c.in-Some-3.all.gone.items) (map told_view c.in-Some-3.all.come.items) c.exchange_stars.new.self.stars none (rw (c.in-Some-3.is) at c.in_ok-all.ensures.own) in
     let p = all.parts in
@@ -128,7 +128,7 @@ returns-clause-tests g c = λ old exchanges touched followed.
     told_alike library (map barrier_view c.deref-2.result.now) then_bars bars_are (said last) (map told_view c.in-Some-2.after.items)
     (subst (λ (d : List Record). AreToldIn library (map barrier_view c.deref-2.result.now) d (map told_view c.in-Some-2.after.items)) (sym c.statements_are_kept.ensures.said) told) in
     let none = if_none_so c.touched.inside.component (λ h. (h.0, ap (λ (e : ToldExchange _). map told_view e.gone.items) h.1, ap (λ (e : ToldExchange _). map told_view e.come.items) h.1)) (rw (c.in-Some-3.is) at c.in_ok-all.ensures.none) in
-    let all = all_exchanged library old last _ c.args.kept _ _ c.told_nets_are_exchanged.ensures c.one_entry_tells.ensures c.same_lines_sort_alike.ensures c.short_is_symmetric.ensures t f both.0 fits then_told named
+    let all = all_exchanged library old last _ c.args.kept _ _ c.told_nets_are_exchanged.ensures c.entries_tell.ensures c.same_lines_sort_alike.ensures c.short_is_symmetric.ensures t f both.0 fits then_told named
     c.touched.inside.component (λ (x : TouchedComponent _). x.name) (λ (x : TouchedComponent _). map star_view x.stars.items) refl (λ own is. ap (λ (x : Option (TouchedComponent _)). stars_of x) is)
     c.nets_are_told.ensures c.pin_lines_follow.ensures c.one_component_exchanged.ensures (map told_view c.in-Some-3.all.gone.items) (map told_view c.in-Some-3.all.come.items) c.exchange_stars.new.self.stars none (rw (c.in-Some-3.is) at c.in_ok-all.ensures.own) in
     let p = all.parts in
@@ -143,7 +143,7 @@ returns-clause-tests g c = λ old exchanges touched followed.
     let start = told_few _ _ _ _ _ _ _ counted gone come t.few come_few in
     let same = if_none_so c.touched.inside.component (λ h. ap (λ (e : ToldExchange _). e.tests) h.1) (rw (c.in-Some-3.is) at c.in_ok-all.ensures.none) in
     let all_told =
-    all_few library old last _ c.args.kept _ _ c.told_nets_are_exchanged.ensures c.one_entry_tells.ensures c.same_lines_sort_alike.ensures c.short_is_symmetric.ensures t f both.0 fits then_told named
+    all_few library old last _ c.args.kept _ _ c.told_nets_are_exchanged.ensures c.entries_tell.ensures c.same_lines_sort_alike.ensures c.short_is_symmetric.ensures t f both.0 fits then_told named
     c.touched.inside.component (λ (x : TouchedComponent _). x.name) (λ (x : TouchedComponent _). map star_view x.stars.items) refl (λ own is. ap (λ (x : Option (TouchedComponent _)). stars_of x) is)
     c.pin_lines_follow.ensures c.one_component_exchanged.ensures (map told_view c.in-Some-3.all.gone.items) (map told_view c.in-Some-3.all.come.items) c.exchange_stars.new.self.stars c.saturating_add-tests.result c.in-Some-3.all.tests same
     (rw (c.in-Some-3.is) at c.in_ok-all.ensures.own) (rw (c.in-Some-3.is) at c.in_ok-all.ensures.few) start in

@@ -1,6 +1,6 @@
 use Rattle.design_text.specs.DesignTexts.{design_of, text_of}
 use Rattle.followed_nets.proofs.OneEntry.{found_alone}
-use Rattle.followed_nets.proofs.told_statements.entry_in.Goals as goal
+use Rattle.followed_nets.proofs.entries.entry_in.Goals as goal
 
 pub returns-in_default : goal.returns-in_default
 returns-in_default g c =

@@ -1,15 +1,17 @@
--- A net of one entry is told by that, by all components, by all pins of the design, and by what any net may be made of.
+-- A net is told by its entries, by all components, by all pins of the design, and by what any net may be made of.
 use Rattle.std.proofs.Common.{◌≡◌, ◌∙◌, ℕ, Bool, true, false, ◌||◌, List, [], ◌∷◌, filter, Option, Some, None, refl, sym, ap, if◌then◌else◌}
 use Rattle.std.specs.List.{AllByRecursion, cons_option, filter_map}
+use Rattle.std.specs.Str.{bytes_eq}
 use Rattle.std.proofs.lemmas.Slice.Eq.{bytes_eq-Decides}
-use Rattle.form_meanings.specs.Firsts.{find_named}
+use Rattle.form_meanings.specs.Firsts.{find_named, with_all}
 use Rattle.def_grammar.specs.Components.{Component}
 use Rattle.def_grammar.specs.Nets.{is_net, must_join}
 use Rattle.def_grammar.specs.Records as records
 use Rattle.def_grammar.specs.Records.{Record, component_of, end_section, entry, in_properties, top}
 use Rattle.def_grammar.specs.Terminals.{Terminal}
 use Rattle.net_laws.specs.NetsTold.{FindsAlike, is_common, is_of_net, is_pin_of_net, net_of_record, terminals_in}
-use Rattle.net_laws.specs.StarNets.{OneEntryTells}
+use Rattle.net_laws.specs.OneNet.{EntriesNameOneNet, names_in}
+use Rattle.net_laws.specs.StarNets.{EntriesTell}
 use Rattle.net_laws.proofs.NetPins.{pins_within}
 use Rattle.net_laws.proofs.Selecting.{selected_of_those, within}
 
@@ -122,12 +124,38 @@ module _ (net : List ℕ) where
   named_so (entry (records.rule x)) h = absurd (cc)
   named_so (entry (records.skipped s x)) h = absurd (cc)
 
-  first_passes : (all : List Record) (e : Record) (left : List Record) → filter (is_of_net net) all ≡ e ∷ left → is_of_net net e ≡ true
-  first_passes [] e left h = absurd (cc)
-  first_passes (r ∷ all) e left h = one (is_of_net net r) refl h (first_passes all e left)
+  -- further entries add no name, and the first one adds it
+  abbrev self : List ℕ → List ℕ
+  self name = name
+
+  abbrev named : List Record → List (List ℕ)
+  named rs = filter_map net_of_record rs
+
+  known : (bytes_eq net net || false) ≡ true
+  known = ap (λ (b : Bool). b || false) ((bytes_eq-Decides net net).1 refl)
+
+  none_added : (all : List Record) → with_all self (net ∷ []) (named (filter (is_of_net net) all)) ≡ net ∷ []
+  unfolding Rattle.form_meanings.specs.Firsts.with_all
+  none_added [] = refl
+  none_added (r ∷ all) = one (is_of_net net r) refl (none_added all)
     where
-      one : (b : Bool) → is_of_net net r ≡ b → (if b then r ∷ filter (is_of_net net) all else filter (is_of_net net) all) ≡ e ∷ left → (filter (is_of_net net) all ≡ e ∷ left → is_of_net net e ≡ true) → is_of_net net e ≡ true
-      one true is g later = let same : r ≡ e = cc in ap (is_of_net net) (sym same) ∙ is
+      one : (b : Bool) → is_of_net net r ≡ b → with_all self (net ∷ []) (named (filter (is_of_net net) all)) ≡ net ∷ []
+          → with_all self (net ∷ []) (named (if b then r ∷ filter (is_of_net net) all else filter (is_of_net net) all)) ≡ net ∷ []
+      one true is later =
+          ap (λ (n : Option (List ℕ)). with_all self (net ∷ []) (cons_option n (named (filter (is_of_net net) all)))) (named_so r is)
+          ∙ ap (λ (b : Bool). with_all self (if b then net ∷ [] else net ∷ net ∷ []) (named (filter (is_of_net net) all))) known
+          ∙ later
+      one false is later = later
+
+  one_added : (all : List Record) (e : Record) (es : List Record) → filter (is_of_net net) all ≡ e ∷ es → with_all self [] (named (filter (is_of_net net) all)) ≡ net ∷ []
+  unfolding Rattle.form_meanings.specs.Firsts.with_all
+  one_added [] e es h = absurd (cc)
+  one_added (r ∷ all) e es h = one (is_of_net net r) refl h (one_added all e es)
+    where
+      one : (b : Bool) → is_of_net net r ≡ b → (if b then r ∷ filter (is_of_net net) all else filter (is_of_net net) all) ≡ e ∷ es
+          → (filter (is_of_net net) all ≡ e ∷ es → with_all self [] (named (filter (is_of_net net) all)) ≡ net ∷ [])
+          → with_all self [] (named (if b then r ∷ filter (is_of_net net) all else filter (is_of_net net) all)) ≡ net ∷ []
+      one true is g later = ap (λ (n : Option (List ℕ)). with_all self [] (cons_option n (named (filter (is_of_net net) all)))) (named_so r is) ∙ none_added all
       one false is g later = later g
 
   found_alike : (some design : List Record) → filter_map component_of some ≡ filter_map component_of design → (ts : List Terminal) → AllByRecursion (FindsAlike some design) ts
@@ -135,8 +163,11 @@ module _ (net : List ℕ) where
   found_alike some design same (t ∷ ts) =
       (record { named = ap (λ (cs : List Component). find_named (λ (c : Component). c.name) cs t.owner) same; all = λ star. same }, found_alike some design same ts)
 
-pub one_entry_tells : OneEntryTells
-one_entry_tells design net e one =
+pub entries_name_one_net : EntriesNameOneNet
+entries_name_one_net design net e es entries = one_added net design e es entries
+
+pub entries_tell : EntriesTell
+entries_tell design net e es entries =
     let some = filter (tells_all net) design in
     let components = selected_of_those (tells_all net) component_of (no_component net) design in (
       some,
@@ -147,6 +178,6 @@ one_entry_tells design net e one =
           pins = pins_within net (tells_all net) design (net_told net) (pin_told net (terminals_in design net));
           components = found_alike net some design components (terminals_in some net);
         };
-        only = its_names net design ∙ ap (filter_map net_of_record) one ∙ ap (λ (n : Option (List ℕ)). cons_option n []) (named_so net e (first_passes net design e [] one));
+        only = ap (with_all (self net) []) (its_names net design) ∙ one_added net design e es entries;
       },
     )
