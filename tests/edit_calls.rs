@@ -139,6 +139,107 @@ fn few_boxes_are_compared(rt: HostRuntime) -> Result<(), Fail> {
     Ok(())
 }
 
+/// A design of a component and 10000 rectangles beside each other where placement is blocked, the first of which it lies on.
+fn blocked(alloc: Global) -> Result<Vec<u8>, Fail> {
+    let mut text = Vec::new(alloc);
+    text.extend_from_slice(b"UNITS DISTANCE MICRONS 1000 ;\nCOMPONENTS 1 ;\n- c INV + PLACED ( 10000 10000 ) N ;\n")?;
+    text.extend_from_slice(b"END COMPONENTS\nBLOCKAGES 10000 ;\n")?;
+    for number in 0..10000 {
+        let x = 10000 + number % 100 * 800;
+        let y = 10000 + number / 100 * 800;
+        text.extend_from_slice(b"- PLACEMENT RECT ( ")?;
+        push_number(&mut text, x)?;
+        text.push(b' ')?;
+        push_number(&mut text, y)?;
+        text.extend_from_slice(b" ) ( ")?;
+        push_number(&mut text, x + 500)?;
+        text.push(b' ')?;
+        push_number(&mut text, y + 500)?;
+        text.extend_from_slice(b" ) ;\n")?;
+    }
+    text.extend_from_slice(b"END BLOCKAGES\nEND DESIGN\n")?;
+    Ok(text)
+}
+
+#[test]
+fn few_blockages_are_compared(rt: HostRuntime) -> Result<(), Fail> {
+    let alloc = rt.alloc();
+    let mut lefs = LefTexts::new(alloc);
+    lefs.push(INVERTER)?;
+    let library = Library::read(alloc, RandomState::new(&rt)?, &lefs)?;
+    let text = blocked(alloc)?;
+    let mut session = Session::open(alloc, &library, &text)?;
+    let before = session.diagnostics()?.len();
+    for (x, y) in [(41840, 42720), (10000, 10000)] {
+        let done = session.edit(&Edit::Place { component: b"c", x, y, orient: Orient::N })?;
+        assert!(rt; done.tests > 0 && done.tests <= 300, "{}", done.tests);
+    }
+    assert_eq!(rt; session.diagnostics()?.len(), before);
+    Ok(())
+}
+
+#[test]
+fn a_component_and_a_blockage_follow_at_once(rt: HostRuntime) -> Result<(), Fail> {
+    let alloc = rt.alloc();
+    let mut lefs = LefTexts::new(alloc);
+    lefs.push(INVERTER)?;
+    let library = Library::read(alloc, RandomState::new(&rt)?, &lefs)?;
+    let text = b"UNITS DISTANCE MICRONS 1000 ;\nCOMPONENTS 2 ;\n- a INV + PLACED ( 0 0 ) N ;\n- c INV + PLACED ( 10000 10000 ) N ;\nEND COMPONENTS\nBLOCKAGES 1 ;\n- PLACEMENT RECT ( 10000 10000 ) ( 11000 11000 ) ;\nEND BLOCKAGES\nEND DESIGN\n";
+    let mut session = Session::open(alloc, &library, text)?;
+    let before = session.diagnostics()?.len();
+    // both go to where the other component is: one overlap, and one more component that is blocked
+    let put = b"0 0 ) N ;\nEND COMPONENTS\nBLOCKAGES 1 ;\n- PLACEMENT RECT ( 0 0";
+    let done = session.text_edit(93, 170, put)?;
+    assert!(rt; done.tests > 0, "{}", done.tests);
+    assert_eq!(rt; session.diagnostics()?.len(), before + 2);
+    Ok(())
+}
+
+/// Three inverters, and nets with an entry in each of two sections, in this order.
+fn with_two_entries(alloc: Global, sections: [&[u8]; 2]) -> Result<Vec<u8>, Fail> {
+    let mut text = Vec::new(alloc);
+    text.extend_from_slice(b"UNITS DISTANCE MICRONS 1000 ;\nCOMPONENTS 3 ;\n- u1 INV + PLACED ( 0 0 ) N ;\n- u2 INV + PLACED ( 920 0 ) N ;\n")?;
+    text.extend_from_slice(b"- u3 INV + PLACED ( 90000 90000 ) N ;\nEND COMPONENTS\n")?;
+    for section in sections {
+        text.extend_from_slice(section)?;
+    }
+    text.extend_from_slice(b"END DESIGN\n")?;
+    Ok(text)
+}
+
+#[test]
+fn nets_of_two_entries_are_followed(rt: HostRuntime) -> Result<(), Fail> {
+    let alloc = rt.alloc();
+    let mut lefs = LefTexts::new(alloc);
+    lefs.push(PINNED)?;
+    let library = Library::read(alloc, RandomState::new(&rt)?, &lefs)?;
+    let special: &[u8] = b"SPECIALNETS 2 ;\n- VDD ( * VDD ) + USE POWER ;\n- n1 + ROUTED met1 140 ( 700 1100 ) ( 700 1500 ) ;\nEND SPECIALNETS\n";
+    let nets: &[u8] = b"NETS 2 ;\n- VDD + USE POWER ;\n- n1 ( u1 Y ) ( u2 A ) ( u3 A ) + ROUTED met1 ( 700 1100 ) ( 1120 * ) ;\nEND NETS\n";
+    for sections in [[special, nets], [nets, special]] {
+        let text = with_two_entries(alloc, sections)?;
+        let mut session = Session::open(alloc, &library, &text)?;
+        session.diagnostics()?;
+        let edits = [
+            Edit::Place { component: b"u3", x: 180000, y: 0, orient: Orient::N },
+            Edit::Route { net: b"n1", wiring: b"+ ROUTED met1 ( 1120 1100 ) ( * 1500 )" },
+            Edit::Unroute { net: b"n1" },
+        ];
+        for edit in &edits {
+            // no box is near that of u3: what is compared are shapes of nets
+            let done = session.edit(edit)?;
+            assert!(rt; done.tests > 0, "{}", done.tests);
+            let mut out = Counted::new(Vec::new(alloc));
+            session.write_to(&mut out)?;
+            let now = out.into_inner();
+            let mut fresh = Session::open(alloc, &library, &now)?;
+            assert_eq!(rt; session.diagnostics()?.len(), fresh.diagnostics()?.len());
+            assert_eq!(rt; session.net_length(b"n1")?, fresh.net_length(b"n1")?);
+            assert_eq!(rt; session.net_box(b"n1")?, fresh.net_box(b"n1")?);
+        }
+    }
+    Ok(())
+}
+
 /// What a session tells of a net, of all nets, and of a cell.
 #[derive(Clone, Copy, PartialEq, Eq, Debug)]
 struct Told {

@@ -196,6 +196,10 @@ fn touching_is_enough_and_far_boxes_are_not_compared(rt: HostRuntime) -> Result<
     assert_eq!(rt; corner.ids.len(), 1);
     assert_eq!(rt; corner.ids[0].0, 23);
     assert!(rt; corner.compared < 10);
+    let rects = set.met_rects(rt.alloc(), rect_of((504097, 504097, 600000, 600000)))?;
+    assert_eq!(rt; rects.rects.len(), 1);
+    assert_eq!(rt; rects.rects[0], rect_of((500000, 500000, 504097, 504097)));
+    assert_eq!(rt; rects.compared, corner.compared);
     Ok(())
 }
 

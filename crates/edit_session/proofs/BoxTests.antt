@@ -4,7 +4,7 @@ use Rattle.std.specs.List.{cons_option, filter_map}
 use Rattle.std.specs.Prelude.{IfSome}
 use Rattle.std.specs.Option.{option_map}
 use Rattle.std.proofs.lemmas.List.{map-append}
-use Rattle.std.proofs.lemmas.List.Sums.{sum_by-cons}
+use Rattle.std.proofs.lemmas.List.Sums.{sum_by-append, sum_by-cons}
 use Rattle.design_model.specs.declared.identifier.StmtId.{StmtId}
 use Rattle.design_model.specs.Geometry.{Rectangle}
 use Rattle.def_grammar.specs.Records.{Record}
@@ -17,9 +17,10 @@ use Rattle.text_pieces.specs.KeptRecords.{records_under}
 use Rattle.text_pieces.specs.Tables.{Kept}
 use Rattle.design_text.specs.Exchanges.{IsExchange}
 use Rattle.design_text.specs.Exchanges as text
-use Rattle.followed_places.specs.Places.{components_under, place_under, said}
+use Rattle.followed_places.specs.Places.{components_under, keep_outs_under, place_under, said}
 use Rattle.followed_places.specs.Tests.{near_pairs}
-use Rattle.edit_session.specs.Tests.{AreNearIn, Exchanged, FewBoxes, near_boxes}
+use Rattle.followed_places.proofs.KeepOutLemmas.{outs_said}
+use Rattle.edit_session.specs.Tests.{AreNearIn, Exchanged, FewBoxes, near_boxes, near_keep_outs}
 
 -- the components among numbered statements, and without their numbers
 seconds : (library : Library) (u : ℕ) (rs : List (StmtId × Record)) → map (λ (x : StmtId × Boxed). x.1) (components_under library u rs) ≡ filter_map (box_of library u) (said rs)
@@ -37,13 +38,30 @@ near_one r (c ∷ cs) =
     ∙ ap (λ n. cond (are_near r c.1.box) 1 0 + n) (near_one r cs)
     ∙ sym (sum_by-cons (λ (d : Boxed). cond (are_near r d.box) 1 0) c.1 (map (λ (x : StmtId × Boxed). x.1) cs))
 
-near_all : (all some : List (StmtId × Boxed)) → sum_by (λ (b : StmtId × Rectangle). count_by (λ (c : StmtId × Rectangle). are_near b.1 c.1) (map place_under all)) (map place_under some)
-    ≡ sum_by (λ (b : Boxed). count_by (λ (c : Boxed). are_near b.box c.box) (map (λ (x : StmtId × Boxed). x.1) all)) (map (λ (x : StmtId × Boxed). x.1) some)
-near_all all [] = refl
-near_all all (c ∷ some) =
-    sum_by-cons (λ (b : StmtId × Rectangle). count_by (λ (d : StmtId × Rectangle). are_near b.1 d.1) (map place_under all)) (place_under c) (map place_under some)
-    ∙ ap₂ (λ m n. m + n) (near_one c.1.box all) (near_all all some)
-    ∙ sym (sum_by-cons (λ (b : Boxed). count_by (λ (d : Boxed). are_near b.box d.box) (map (λ (x : StmtId × Boxed). x.1) all)) c.1 (map (λ (x : StmtId × Boxed). x.1) some))
+-- a sum over rectangles that keep components out, without the numbers of their statements
+sum_seconds : (w : Rectangle → ℕ) (xs : List (StmtId × Rectangle)) → sum_by (λ (b : StmtId × Rectangle). w b.1) xs ≡ sum_by w (map (λ (b : StmtId × Rectangle). b.1) xs)
+sum_seconds w [] = refl
+sum_seconds w (x ∷ xs) =
+    sum_by-cons (λ (b : StmtId × Rectangle). w b.1) x xs
+    ∙ ap (λ n. w x.1 + n) (sum_seconds w xs)
+    ∙ sym (sum_by-cons w x.1 (map (λ (b : StmtId × Rectangle). b.1) xs))
+
+sum_said : (w : Rectangle → ℕ) (rs : List (StmtId × Record)) → sum_by (λ (b : StmtId × Rectangle). w b.1) (keep_outs_under rs) ≡ sum_by w (keep_outs (said rs))
+sum_said w rs = sum_seconds w (keep_outs_under rs) ∙ ap (sum_by w) (outs_said rs)
+
+near_obstacles : (rs : List (StmtId × Record)) (r : Rectangle) (all : List (StmtId × Boxed)) → count_by (λ (b : StmtId × Rectangle). are_near r b.1) (map place_under all ++ keep_outs_under rs)
+    ≡ count_by (λ (c : Boxed). are_near r c.box) (map (λ (x : StmtId × Boxed). x.1) all) + near_keep_outs (said rs) r
+near_obstacles rs r all =
+    sum_by-append (λ (b : StmtId × Rectangle). cond {A = ℕ} (are_near r b.1) 1 0) (map place_under all) (keep_outs_under rs)
+    ∙ ap₂ (λ m n. m + n) (near_one r all) (sum_said (λ b. cond {A = ℕ} (are_near r b) 1 0) rs)
+
+near_all : (rs : List (StmtId × Record)) (all some : List (StmtId × Boxed)) → sum_by (λ (b : StmtId × Rectangle). count_by (λ (c : StmtId × Rectangle). are_near b.1 c.1) (map place_under all ++ keep_outs_under rs)) (map place_under some)
+    ≡ sum_by (λ (b : Boxed). count_by (λ (c : Boxed). are_near b.box c.box) (map (λ (x : StmtId × Boxed). x.1) all) + near_keep_outs (said rs) b.box) (map (λ (x : StmtId × Boxed). x.1) some)
+near_all rs all [] = refl
+near_all rs all (c ∷ some) =
+    sum_by-cons (λ (b : StmtId × Rectangle). count_by (λ (d : StmtId × Rectangle). are_near b.1 d.1) (map place_under all ++ keep_outs_under rs)) (place_under c) (map place_under some)
+    ∙ ap₂ (λ m n. m + n) (near_obstacles rs c.1.box all) (near_all rs all some)
+    ∙ sym (sum_by-cons (λ (b : Boxed). count_by (λ (d : Boxed). are_near b.box d.box) (map (λ (x : StmtId × Boxed). x.1) all) + near_keep_outs (said rs) b.box) c.1 (map (λ (x : StmtId × Boxed). x.1) some))
 
 near_rectangles_all : (all : List (StmtId × Boxed)) (rs : List Rectangle) → sum_by (λ (r : Rectangle). count_by (λ (b : StmtId × Rectangle). are_near r b.1) (map place_under all)) rs
     ≡ sum_by (λ (r : Rectangle). count_by (λ (c : Boxed). are_near r c.box) (map (λ (x : StmtId × Boxed). x.1) all)) rs
@@ -56,9 +74,10 @@ same_pairs library rs some =
     let u = scale (said rs) in
     let outs = keep_outs (said some) in
     ap₂ (λ m n. m + n)
-    (near_all (components_under library u rs) (components_under library u some)
-    ∙ ap₂ (λ (xs ys : List Boxed). sum_by (λ (b : Boxed). count_by (λ (c : Boxed). are_near b.box c.box) xs) ys) (seconds library u rs) (seconds library u some))
-    (near_rectangles_all (components_under library u rs) outs ∙ ap (λ (xs : List Boxed). sum_by (λ (r : Rectangle). count_by (λ (c : Boxed). are_near r c.box) xs) outs) (seconds library u rs))
+    (near_all rs (components_under library u rs) (components_under library u some)
+    ∙ ap₂ (λ (xs ys : List Boxed). sum_by (λ (b : Boxed). count_by (λ (c : Boxed). are_near b.box c.box) xs + near_keep_outs (said rs) b.box) ys) (seconds library u rs) (seconds library u some))
+    (sum_said (λ (r : Rectangle). count_by (λ (b : StmtId × Rectangle). are_near r b.1) (map place_under (components_under library u rs))) some
+    ∙ near_rectangles_all (components_under library u rs) outs ∙ ap (λ (xs : List Boxed). sum_by (λ (r : Rectangle). count_by (λ (c : Boxed). are_near r c.box) xs) outs) (seconds library u rs))
 
 -- statements under numbers are as many as these
 many : (slots : List (Option Kept)) (ids : List StmtId) → length (said (records_under slots ids)) ≡ length ids

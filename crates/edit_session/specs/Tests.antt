@@ -48,11 +48,15 @@ TouchesEach design subject nets = (name : List ℕ) → is_one_of nets name ≡ 
 abbrev pub near_rectangle : Library → List Record → Rectangle → ℕ
 near_rectangle library design r = count_by (λ (c : Boxed). are_near r c.box) (boxes library design)
 
--- each component of a design among some statements, with each whose box is near its own, itself too; and each rectangle where they keep
--- components out, with each whose box is near it
+-- how many rectangles where a design keeps components out are near one
+abbrev pub near_keep_outs : List Record → Rectangle → ℕ
+near_keep_outs design r = count_by (are_near r) (keep_outs design)
+
+-- each component of a design among some statements, with each whose box is near its own, itself too, and with each rectangle near its box
+-- that keeps components out; and each rectangle where they keep components out, with each component whose box is near it
 abbrev pub near_boxes : Library → List Record → List Record → ℕ
 near_boxes library design some =
-    sum_by (λ (b : Boxed). near_rectangle library design b.box) (boxes_among library design some) + sum_by (near_rectangle library design) (keep_outs some)
+    sum_by (λ (b : Boxed). near_rectangle library design b.box + near_keep_outs design b.box) (boxes_among library design some) + sum_by (near_rectangle library design) (keep_outs some)
 
 -- statements that went out of a design, and those that came in for them
 pub record Exchanged : Type 0 where

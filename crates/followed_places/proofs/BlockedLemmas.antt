@@ -5,12 +5,9 @@ use Rattle.std.specs.Int.Signed.{le_z}
 use Rattle.std.specs.List.{flat_map}
 use Rattle.std.proofs.lemmas.Bool.{and_from, and_parts, both_ways, cases_Bool as cases}
 use Rattle.std.proofs.lemmas.List.{append-nil, drop_all}
-use Rattle.std.proofs.lemmas.List.Sums.{sum_by-cons}
 use Rattle.design_model.specs.Families.{cross_lines}
 use Rattle.design_model.specs.Geometry.{Rectangle, overlap}
 use Rattle.design_model.specs.Views.{rectangle_of}
-use Rattle.design_model.specs.declared.geometry.Rect.{Rect}
-use Rattle.design_model.specs.declared.identifier.StmtId.{StmtId}
 use Rattle.design_rules.specs.Boxes.{Boxed}
 use Rattle.design_rules.specs.PlaceLines.{blocked_of}
 use Rattle.line_laws.specs.EachLaws.{CrossesTurn}
@@ -19,8 +16,8 @@ use Rattle.line_laws.proofs.PairSums.{sum_by-same, times-append, times-flat_map}
 use Rattle.place_checks.specs.Views.{boxed_view}
 use Rattle.place_checks.specs.declared.placed_box.PlacedBox.{PlacedBox}
 use Rattle.shape_rules.specs.Meeting.{meets}
-use Rattle.statement_boxes.specs.Boxes.{near_count}
-use Rattle.followed_places.specs.Tests.{near_rectangles}
+use Rattle.statement_boxes.specs.Boxes.{box_view}
+use Rattle.statement_boxes.specs.declared.statement_box.StatementBox.{StatementBox}
 use Rattle.followed_places.proofs.MetLemmas.{sum_by-filter}
 use Rattle.followed_places.proofs.OthersMet.{overlap_meets}
 
@@ -81,30 +78,33 @@ one_more stay met r rest old new all those is so_far = record {
       );
 }
 
-left_from : (rects : List Rect) (i : ℕ) (x : Rect) → i < length rects → x ≡ get_or rects i x → drop i rects ≡ x ∷ drop (i + 1) rects
-left_from rects i x below is = rw (add-one, drop-cons rects i x, ← is) refl
+-- the rectangles of boxes
+abbrev pub rects_of : List StatementBox → List Rectangle
+rects_of boxes = map (λ b. b.1) (map box_view boxes)
+
+left_from : (blocks : List StatementBox) (i : ℕ) (x : StatementBox) → i < length blocks → x ≡ get_or blocks i x → drop i blocks ≡ x ∷ drop (i + 1) blocks
+left_from blocks i x below is = rw (add-one, drop-cons blocks i x, ← is) refl
 
 -- one rectangle more
-pub one_of_rectangles : (stay : List Boxed) (met : List PlacedBox) (rects : List Rect) (i : ℕ) (x : Rect) (old new all : List (List ℕ)) → i < length rects → x ≡ get_or rects i x
-    → SameThings (map boxed_view met) (filter (λ b. meets b.box (rectangle_of x)) stay) → new ≡ old ++ flat_map (λ b. blocked_of b (rectangle_of x)) (map boxed_view met)
-    → SameLines (old ++ turned (map rectangle_of (drop i rects)) stay) all → SameLines (new ++ turned (map rectangle_of (drop (i + 1) rects)) stay) all
-one_of_rectangles stay met rects i x old new all below is those added so_far =
-    one_more stay (map boxed_view met) (rectangle_of x) (map rectangle_of (drop (i + 1) rects)) old new all those added
-    (subst (λ (rs : List Rect). SameLines (old ++ turned (map rectangle_of rs) stay) all) (left_from rects i x below is) so_far)
+pub one_of_rectangles : (stay : List Boxed) (met : List PlacedBox) (blocks : List StatementBox) (i : ℕ) (x : StatementBox) (old new all : List (List ℕ)) → i < length blocks → x ≡ get_or blocks i x
+    → SameThings (map boxed_view met) (filter (λ b. meets b.box (rectangle_of x.rect)) stay) → new ≡ old ++ flat_map (λ b. blocked_of b (rectangle_of x.rect)) (map boxed_view met)
+    → SameLines (old ++ turned (rects_of (drop i blocks)) stay) all → SameLines (new ++ turned (rects_of (drop (i + 1) blocks)) stay) all
+one_of_rectangles stay met blocks i x old new all below is those added so_far =
+    one_more stay (map boxed_view met) (rectangle_of x.rect) (rects_of (drop (i + 1) blocks)) old new all those added
+    (subst (λ (bs : List StatementBox). SameLines (old ++ turned (rects_of bs) stay) all) (left_from blocks i x below is) so_far)
 
 -- behind the last
-pub ended : CrossesTurn Boxed Rectangle → (stay : List Boxed) (rects : List Rect) (i : ℕ) (lines : List (List ℕ)) → length rects ≤ i
-    → SameLines (lines ++ turned (map rectangle_of (drop i rects)) stay) (turned (map rectangle_of rects) stay) → SameLines lines (cross_lines blocked_of stay (map rectangle_of rects))
-ended law stay rects i lines over so_far =
-    let done : SameLines (lines ++ []) (turned (map rectangle_of rects) stay) =
-    subst (λ (rs : List Rect). SameLines (lines ++ turned (map rectangle_of rs) stay) (turned (map rectangle_of rects) stay)) (drop_all i rects over) so_far
+pub ended : CrossesTurn Boxed Rectangle → (stay : List Boxed) (blocks : List StatementBox) (i : ℕ) (old lines : List (List ℕ)) → length blocks ≤ i
+    → SameLines (lines ++ turned (rects_of (drop i blocks)) stay) (old ++ turned (rects_of blocks) stay) → SameLines lines (old ++ cross_lines blocked_of stay (rects_of blocks))
+ended law stay blocks i old lines over so_far =
+    let done : SameLines (lines ++ []) (old ++ turned (rects_of blocks) stay) =
+    subst (λ (bs : List StatementBox). SameLines (lines ++ turned (rects_of bs) stay) (old ++ turned (rects_of blocks) stay)) (drop_all i blocks over) so_far
     in
-    record { often = λ q. ap (times q) (sym (append-nil lines)) ∙ done.often q ∙ sym ((law blocked_of stay (map rectangle_of rects)).often q) }
-
--- those near one rectangle more are counted
-pub one_counted : (boxes : List (StmtId × Rectangle)) (rects : List Rect) (i : ℕ) (x : Rect) (old new compared all : ℕ) → i < length rects → x ≡ get_or rects i x
-    → compared ≤ near_count (rectangle_of x) boxes → new ≤ old + compared → old + near_rectangles boxes (map rectangle_of (drop i rects)) ≤ all → new + near_rectangles boxes (map rectangle_of (drop (i + 1) rects)) ≤ all
-one_counted boxes rects i x old new compared all below is few added so_far =
-    let rest = map rectangle_of (drop (i + 1) rects) in
-    let here : old + near_rectangles boxes (rectangle_of x ∷ rest) ≤ all = subst (λ (rs : List Rect). old + near_rectangles boxes (map rectangle_of rs) ≤ all) (left_from rects i x below is) so_far in
-    omega (arith, here, few, added, sum_by-cons (λ (r : Rectangle). near_count r boxes) (rectangle_of x) rest)
+    record {
+      often = λ q.
+          ap (times q) (sym (append-nil lines))
+          ∙ done.often q
+          ∙ times-append q old (turned (rects_of blocks) stay)
+          ∙ ap (λ n. times q old + n) (sym ((law blocked_of stay (rects_of blocks)).often q))
+          ∙ sym (times-append q old (cross_lines blocked_of stay (rects_of blocks)));
+    }

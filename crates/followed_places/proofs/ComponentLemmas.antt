@@ -1,8 +1,6 @@
 -- Things without their order, of which those of a list are taken out one after the other.
-use Rattle.std.proofs.Common.{◌≡◌, ◌<◌, ◌+◌, ◌∙◌, ℕ, List, ◌∷◌, ◌++◌, ap, arith, drop, get_or, length, map, subst, sum_by, sym}
-use Rattle.std.specs.List.{swap_remove}
+use Rattle.std.proofs.Common.{◌≡◌, ◌<◌, ◌+◌, ◌∙◌, ℕ, List, ◌∷◌, ◌++◌, ap, arith, drop, get_or, length, map, subst, sym}
 use Rattle.std.proofs.lemmas.List.{drop_more}
-use Rattle.std.proofs.lemmas.List.Sorted.{IsPermutation-map, IsPermutation-swap_remove, sum_by-IsPermutation}
 use Rattle.std.proofs.lemmas.List.Sums.{sum_by-append, sum_by-cons}
 use Rattle.line_laws.specs.Lines.{SameThings}
 
@@ -21,15 +19,3 @@ pub taken_at : {A B : Type 0} (f : A → B) (xs : List A) (i : ℕ) (x : A) (old
 taken_at f xs i x old all now new below is h k =
     let left = drop_more xs i x below ∙ ap (λ y. y ∷ drop (i + 1) xs) (sym is) in
     one_taken (f x) (map f (drop (i + 1) xs)) old all now new (subst (λ l. SameThings (map f l ++ old) (all ++ now)) left h) k
-
--- the last takes the place of one that is taken out
-swapped : {A B : Type 0} (f : A → B) (xs : List A) (i : ℕ) (x : A) (y : B) → i < length xs → x ≡ get_or xs i x → f x ≡ y → SameThings (map f xs) (y ∷ map f (swap_remove xs i x))
-swapped f xs i x y below at is = record {
-  sums = λ w.
-      let same = sum_by-IsPermutation w (map f xs) (map f (x ∷ swap_remove xs i x)) (IsPermutation-map f xs (x ∷ swap_remove xs i x) (IsPermutation-swap_remove xs i x below at)) in
-      sym same ∙ ap (λ z. sum_by w (z ∷ map f (swap_remove xs i x))) is;
-}
-
--- the same, of one that is like another
-pub swapped_like : {A B : Type 0} (f : A → B) (xs new : List A) (i : ℕ) (x : A) (y : B) → (i < length xs) × ((d : A) → f (get_or xs i d) ≡ y) → x ≡ get_or xs i x → new ≡ swap_remove xs i x → SameThings (map f xs) (y ∷ map f new)
-swapped_like f xs new i x y found at left = rw (left) (swapped f xs i x y found.0 at (ap f at ∙ found.1 x))

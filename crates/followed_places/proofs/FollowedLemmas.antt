@@ -3,6 +3,7 @@ use Rattle.std.proofs.Common.{◌≡◌, ◌<◌, ◌≤◌, ◌+◌, ◌-◌, �
 use Rattle.std.specs.Prelude.{IfOk, IfSome}
 use Rattle.std.specs.List.{cons_option, filter_map, list_any}
 use Rattle.std.specs.Option.{option_map}
+use Rattle.std.proofs.lemmas.Grind.{flat_map-append}
 use Rattle.std.proofs.lemmas.List.{map-append}
 use Rattle.std.proofs.lemmas.List.Elements.{filter_map-append}
 use Rattle.std.proofs.lemmas.List.Sums.{sum_by-append}
@@ -22,7 +23,7 @@ use Rattle.line_laws.specs.Lines.{SameLines, SameThings}
 use Rattle.line_laws.proofs.PairSums.{times-append}
 use Rattle.following_laws.specs.DesignLaws.{lines_of_components}
 use Rattle.following_laws.specs.FamilyLaws.{SameLinesFollow}
-use Rattle.following_laws.specs.Following.{Exchange, LinesFollow}
+use Rattle.following_laws.specs.Following.{Exchange}
 use Rattle.staying_laws.specs.PlaceStatements.{ComponentsAreExchanged, PlacesFollow, boxes_among, is_surrounding, surrounds_or_blocks}
 use Rattle.staying_laws.specs.Staying.{lines_on_places}
 use Rattle.text_pieces.specs.KeptRecords.{HavePieces, record_of, records_under}
@@ -30,10 +31,12 @@ use Rattle.text_pieces.specs.Tables.{Kept, kept_at}
 use Rattle.kept_lines.specs.Kept.{Kept as KeptLines}
 use Rattle.design_text.specs.Exchanges.{Exchanged, IsExchange}
 use Rattle.design_text.proofs.KeptExchanges.{pieces-append}
-use Rattle.followed_places.specs.Lines.{Awaits, AwaitsRectangles, boxed_under}
-use Rattle.followed_places.specs.Places.{AreFollowed, Places, component_under, components_under, place_under, said}
-use Rattle.followed_places.specs.Tests.{met_among, met_pairs, met_rectangles, met_sum, near_pairs, near_rectangles, near_sum, places_in}
-use Rattle.followed_places.proofs.NearSums.{met_parted, met_rectangles_same, near_rectangles_same, near_sum_part}
+use Rattle.statement_boxes.specs.Boxes.{met_count}
+use Rattle.followed_places.specs.Lines.{Awaits, boxed_under}
+use Rattle.followed_places.specs.Places.{AreFollowed, Places, component_under, components_under, keep_outs_under, place_under, said}
+use Rattle.followed_places.specs.Tests.{met_among, met_pairs, met_sum, near_pairs, near_sum, obstacles_in, places_in}
+use Rattle.followed_places.proofs.KeepOutLemmas.{outs_as_said, outs_said, rects_of}
+use Rattle.followed_places.proofs.NearSums.{met_parted, met_sum_same, near_sum_part, near_sum_same, parts_and_others}
 
 abbrev surrounds : StmtId × Record → Bool
 surrounds x = is_surrounding x.1
@@ -106,7 +109,16 @@ both_found P R Q (Ok (Some a)) f p q = f a p q
 both_found P R Q (Ok None) f p q = tt
 both_found P R Q (Err e) f p q = tt
 
+pub three_found : {A E : Type 0} (P R : A → Type 0) (Q S : Type 0) (r : Result (Option A) E) → ((a : A) → P a → Q → S → R a) → IfOk r (λ found. IfSome found P) → IfOk r (λ found. IfSome found (λ a. Q)) → IfOk r (λ found. IfSome found (λ a. S)) → IfOk r (λ found. IfSome found R)
+three_found P R Q S (Ok (Some a)) f p q s = f a p q s
+three_found P R Q S (Ok None) f p q s = tt
+three_found P R Q S (Err e) f p q s = tt
+
 -- what one says
+pub as_ok : {A E : Type 0} (P R : A → Type 0) (r : Result A E) → ((a : A) → P a → R a) → IfOk r P → IfOk r R
+as_ok P R (Ok a) f p = f a p
+as_ok P R (Err e) f p = tt
+
 pub as_found : {A E : Type 0} (P R : A → Type 0) (r : Result (Option A) E) → ((a : A) → P a → R a) → IfOk r (λ found. IfSome found P) → IfOk r (λ found. IfSome found R)
 as_found P R (Ok (Some a)) f p = f a p
 as_found P R (Ok None) f p = tt
@@ -126,23 +138,23 @@ lines_the_same s t same [] = refl
 lines_the_same s t same (c ∷ cs) = ap₂ (λ (a b : List (List ℕ)). a ++ b) (rw (same.rows c, same.die, same.fences c) refl) (lines_the_same s t same cs)
 
 -- which of the rectangles that keep components out is first makes no difference to the lines
-same_but_outs : CrossesAreUnordered Boxed Rectangle → (s : Surroundings) (some rest : List Boxed) (outs others : List Rectangle) → SameThings outs others
-    → SameLines (lines_of_components s some rest outs []) (lines_of_components s some rest others [])
-same_but_outs crosses s some rest outs others same = record {
+same_but_outs : CrossesAreUnordered Boxed Rectangle → (s : Surroundings) (some rest : List Boxed) (outs others changed : List Rectangle) → SameThings outs others
+    → SameLines (lines_of_components s some rest outs changed) (lines_of_components s some rest others changed)
+same_but_outs crosses s some rest outs others changed same = record {
   often = λ q.
       let pairs = pair_lines overlap_of some ++ cross_lines overlap_of some rest in
       let each = flat_map (lines_in s) some in
-      let none = cross_lines blocked_of rest [] in
+      let more = cross_lines blocked_of rest changed in
       let h = (crosses blocked_of some some outs others (record { sums = λ w. refl }) same).often q in
       omega (
         arith,
         h,
-        times-append q pairs (each ++ (cross_lines blocked_of some outs ++ none)),
-        times-append q each (cross_lines blocked_of some outs ++ none),
-        times-append q (cross_lines blocked_of some outs) none,
-        times-append q pairs (each ++ (cross_lines blocked_of some others ++ none)),
-        times-append q each (cross_lines blocked_of some others ++ none),
-        times-append q (cross_lines blocked_of some others) none,
+        times-append q pairs (each ++ (cross_lines blocked_of some outs ++ more)),
+        times-append q each (cross_lines blocked_of some outs ++ more),
+        times-append q (cross_lines blocked_of some outs) more,
+        times-append q pairs (each ++ (cross_lines blocked_of some others ++ more)),
+        times-append q each (cross_lines blocked_of some others ++ more),
+        times-append q (cross_lines blocked_of some others) more,
       );
 }
 
@@ -207,20 +219,20 @@ module _ (library : Library) (slots : List (Option Kept)) (old new : List (StmtI
   places-append : (u : ℕ) (xs ys : List (StmtId × Record)) → map place_under (components_under library u (xs ++ ys)) ≡ map place_under (components_under library u xs) ++ map place_under (components_under library u ys)
   places-append u xs ys = ap (map place_under) (filter_map-append (component_under library u) xs ys) ∙ map-append place_under (components_under library u xs) (components_under library u ys)
 
-  places_parted : (u : ℕ) (all : List (StmtId × Record)) (some : List StmtId) → all ≡ these (with_these some)
-      → SameThings (map place_under (components_under library u all)) (map place_under (components_under library u (these some)) ++ map place_under (components_under library u (these stay)))
-  places_parted u all some is = record {
+  -- what is made of numbered statements part by part
+  made_parted : (p : List (StmtId × Record) → List (StmtId × Rectangle)) → ((xs ys : List (StmtId × Record)) → p (xs ++ ys) ≡ p xs ++ p ys) → (all : List (StmtId × Record)) (some : List StmtId) → all ≡ these (with_these some)
+      → SameThings (p all) (p (these some) ++ p (these stay))
+  made_parted p appends all some is = record {
     sums = λ w.
-        let p = λ (xs : List (StmtId × Record)). map place_under (components_under library u xs) in
         let here = ap (λ xs. sum_by w (p xs)) (is ∙ parted some) in
         let there = ap (λ xs. sum_by w (p xs)) stay_parted in
         omega (
           arith,
           here,
           there,
-          ap (sum_by w) (places-append u (these e.front) (these some ++ these e.rest)),
-          ap (sum_by w) (places-append u (these some) (these e.rest)),
-          ap (sum_by w) (places-append u (these e.front) (these e.rest)),
+          ap (sum_by w) (appends (these e.front) (these some ++ these e.rest)),
+          ap (sum_by w) (appends (these some) (these e.rest)),
+          ap (sum_by w) (appends (these e.front) (these e.rest)),
           sum_by-append w (p (these some)) (p (these stay)),
           sum_by-append w (p (these e.front)) (p (these some ++ these e.rest)),
           sum_by-append w (p (these some)) (p (these e.rest)),
@@ -228,19 +240,28 @@ module _ (library : Library) (slots : List (Option Kept)) (old new : List (StmtI
         );
   }
 
-  -- as many at least are near the two sides of an exchange as are near some of them
-  with_more : (n a b c d : ℕ) → n ≤ a + b → n ≤ (a + c) + (b + d)
-  with_more n a b c d h = omega (arith, h)
+  places_parted : (u : ℕ) (all : List (StmtId × Record)) (some : List StmtId) → all ≡ these (with_these some)
+      → SameThings (map place_under (components_under library u all)) (map place_under (components_under library u (these some)) ++ map place_under (components_under library u (these stay)))
+  places_parted u all some is = made_parted (λ xs. map place_under (components_under library u xs)) (places-append u) all some is
 
-  -- where nothing but what stays was compared
-  some_of_stay : (n so sn ao an po pn ro rn : ℕ) → min (so + sn) (2 ^ 64 - 1) ≤ n → po ≡ ao + so → pn ≡ an + sn → ro ≡ 0 → rn ≡ 0 → min ((po + ro) + (pn + rn)) (2 ^ 64 - 1) ≤ n + (ao + an)
-  some_of_stay n so sn ao an po pn ro rn some old_is new_is no_outs no_puts = omega (arith, some, old_is, new_is, no_outs, no_puts)
+  outs_parted : (all : List (StmtId × Record)) (some : List StmtId) → all ≡ these (with_these some) → SameThings (keep_outs_under all) (keep_outs_under (these some) ++ keep_outs_under (these stay))
+  outs_parted all some is = made_parted keep_outs_under (flat_map-append (λ (x : StmtId × Record). map (λ r. (x.0, r)) (keep_outs (x.1 ∷ [])))) all some is
 
-  some_of_outs : (n ao an po pn ro rn : ℕ) → min (ro + rn) (2 ^ 64 - 1) ≤ n → po ≡ 0 → pn ≡ 0 → min ((po + ro) + (pn + rn)) (2 ^ 64 - 1) ≤ n + (ao + an)
-  some_of_outs n ao an po pn ro rn some none_went none_came = omega (arith, some, none_went, none_came)
+  -- as many at most, by what is counted on the two sides
+  no_more : (n a b c d a' b' c' d' : ℕ) → n ≤ (a + b) + (c + d) → a ≤ a' → b ≤ b' → c ≤ c' → d ≤ d' → n ≤ (a' + b') + (c' + d')
+  no_more n a b c d a' b' c' d' few h i j k = omega (arith, few, h, i, j, k)
 
-  more_before : (n a b c d : ℕ) → n ≤ a + b → n ≤ (c + a) + (d + b)
-  more_before n a b c d h = omega (arith, h)
+  -- as many at least, where nothing but what stays was compared
+  some_of_stay : (n so to sn tn ao bo an bn po ro pn rn mo mn : ℕ) → min ((so + to) + (sn + tn)) (2 ^ 64 - 1) ≤ n → po ≡ ao + so → ro ≡ bo + to → pn ≡ an + sn → rn ≡ bn + tn → mo ≡ ao + bo → mn ≡ an + bn
+      → min ((po + ro) + (pn + rn)) (2 ^ 64 - 1) ≤ n + (mo + mn)
+  some_of_stay n so to sn tn ao bo an bn po ro pn rn mo mn some h i j k l m = omega (arith, some, h, i, j, k, l, m)
+
+  -- and where rectangles alone go and come
+  more_alone : (n a b c d : ℕ) → n ≤ b + d → n ≤ (a + b) + (c + d)
+  more_alone n a b c d few = omega (arith, few)
+
+  some_alone : (n a c b d b' d' : ℕ) → a ≡ 0 → c ≡ 0 → b' ≡ b → d' ≡ d → min (b' + d') (2 ^ 64 - 1) ≤ n → min ((a + b) + (c + d)) (2 ^ 64 - 1) ≤ n
+  some_alone n a c b d b' d' h i j k some = omega (arith, h, i, j, k, some)
 
   module _ (places : Places) (kept : KeptLines) (f : AreFollowed library old places kept) where
     pub some_units : 0 < places.scale
@@ -275,14 +296,14 @@ module _ (library : Library) (slots : List (Option Kept)) (old new : List (StmtI
       boxes_old : SameThings places.boxes (map place_under (components_under library u old))
       boxes_old = record { sums = λ w. f.places.boxes_are.sums w ∙ ap (λ v. sum_by w (map place_under (components_under library v old))) (sym f.places.scale_is) }
 
-      noted : (boxes : List (StmtId × Rectangle)) (outs : List Rectangle) (lines : KeptLines) → lines.lines ≡ sorted_by_bytes (lines_on_places library (said new))
-          → SameThings boxes (map place_under (components_under library u new)) → SameThings outs (keep_outs (said new))
-          → AreFollowed library new (record { boxes = boxes; surroundings = places.surroundings; keep_outs = outs; scale = u }) lines
+      noted : (boxes outs : List (StmtId × Rectangle)) (lines : KeptLines) → lines.lines ≡ sorted_by_bytes (lines_on_places library (said new))
+          → SameThings boxes (map place_under (components_under library u new)) → SameThings outs (keep_outs_under new)
+          → AreFollowed library new (record { boxes = boxes; keep_outs = outs; surroundings = places.surroundings; scale = u }) lines
       noted boxes outs lines lines_are same outs_are = record {
         places = record {
           boxes_are = record { sums = λ w. same.sums w ∙ ap (λ v. sum_by w (map place_under (components_under library v new))) (f.places.scale_is ∙ follow.scale) };
-          surroundings_are = subst (HaveSameLines places.surroundings) follow.surroundings f.places.surroundings_are;
           keep_outs_are = outs_are;
+          surroundings_are = subst (HaveSameLines places.surroundings) follow.surroundings f.places.surroundings_are;
           scale_is = f.places.scale_is ∙ follow.scale;
         };
         lines = lines_are;
@@ -290,42 +311,53 @@ module _ (library : Library) (slots : List (Option Kept)) (old new : List (StmtI
         few = rw (← follow.scale) f.few;
       }
 
-      lines_are : (some : List StmtId) (outs : List Rectangle) → lines_of_components places.surroundings (map (λ x. x.1) (components_under library u (these some))) (boxed_under library u slots stay) outs []
-          ≡ lines_of_components (surroundings library (said old)) (boxes_among library (said old) (say some)) (boxes_among library (said old) (say stay)) outs []
-      lines_are some outs =
+      lines_are : (some : List StmtId) (outs changed : List Rectangle) → lines_of_components places.surroundings (map (λ x. x.1) (components_under library u (these some))) (boxed_under library u slots stay) outs changed
+          ≡ lines_of_components (surroundings library (said old)) (boxes_among library (said old) (say some)) (boxes_among library (said old) (say stay)) outs changed
+      lines_are some outs changed =
           rw (lines_the_same places.surroundings (surroundings library (said old)) f.places.surroundings_are (map (λ x. x.1) (components_under library u (these some))), seconds library u (these some), seconds library u (these stay), f.places.scale_is)
           refl
 
-      -- by the components among those that went, and among those that came, where neither keep components out
-      module _ (went came : List (StmtId × Boxed)) (went_are : went ≡ components_under library u (these x.went)) (came_are : came ≡ components_under library u (these x.came))
-          (none_went : [] ≡ keep_outs (say x.went)) (none_came : [] ≡ keep_outs (say x.came)) where
-        outs_old : SameThings (keep_outs (said old)) places.keep_outs
-        outs_old = record { sums = λ w. sym (f.places.keep_outs_are.sums w) }
+      lines_alike : CrossesAreUnordered Boxed Rectangle → (some : List StmtId) (all : List Rectangle) (outs changed : List (StmtId × Rectangle)) → SameThings all (rects_of outs) → changed ≡ keep_outs_under (these some)
+          → SameLines (lines_of_components (surroundings library (said old)) (boxes_among library (said old) (say some)) (boxes_among library (said old) (say stay)) all (keep_outs (say some)))
+          (lines_of_components places.surroundings (map (λ x. x.1) (components_under library u (these some))) (boxed_under library u slots stay) (rects_of outs) (rects_of changed))
+      lines_alike crosses some all outs changed same is =
+          rw (ap rects_of is ∙ outs_said (these some), lines_are some (rects_of outs) (keep_outs (say some)))
+          (same_but_outs crosses (surroundings library (said old)) (boxes_among library (said old) (say some)) (boxes_among library (said old) (say stay)) all (rects_of outs) (keep_outs (say some)) same)
 
-        outs_new : SameThings (keep_outs (said new)) places.keep_outs
-        outs_new = record {
+      -- by the components, and the rectangles that keep components out, of those that went and of those that came
+      module _ (went came : List (StmtId × Boxed)) (gone come : List (StmtId × Rectangle)) (went_are : went ≡ components_under library u (these x.went)) (came_are : came ≡ components_under library u (these x.came))
+          (gone_are : gone ≡ keep_outs_under (these x.went)) (come_are : come ≡ keep_outs_under (these x.came)) where
+        -- those that keep components out then
+        outs_then : (later : List (StmtId × Rectangle)) → SameThings (places.keep_outs ++ come) (gone ++ later) → SameThings later (keep_outs_under new)
+        outs_then later same = record {
           sums = λ w.
-              let rest = keep_outs (say stay) in
-              let before : sum_by w (keep_outs (said old)) ≡ sum_by w rest = follow.keep_outs.old_is.sums w ∙ ap (λ (rs : List Rectangle). sum_by w (rs ++ rest)) (sym none_went) in
-              let after : sum_by w (keep_outs (said new)) ≡ sum_by w rest = follow.keep_outs.new_is.sums w ∙ ap (λ (rs : List Rectangle). sum_by w (rs ++ rest)) (sym none_came) in
-              after ∙ sym before ∙ outs_old.sums w;
+              let rest = keep_outs_under (these stay) in
+              let was = f.places.keep_outs_are.sums w in
+              let before = (outs_parted old x.went e.old_is).sums w in
+              let after = (outs_parted new x.came e.new_is).sums w in
+              let left = ap (sum_by w) gone_are in
+              let put = ap (sum_by w) come_are in
+              let both = same.sums w in
+              exchanged_sums
+              (sum_by w later)
+              (sum_by w (keep_outs_under new))
+              (sum_by w places.keep_outs)
+              (sum_by w gone)
+              (sum_by w come)
+              (sum_by w rest)
+              (sym (sum_by-append w places.keep_outs come) ∙ both ∙ sum_by-append w gone later)
+              (was ∙ before ∙ sum_by-append w (keep_outs_under (these x.went)) rest ∙ ap (λ n. n + sum_by w rest) (sym left))
+              (after ∙ sum_by-append w (keep_outs_under (these x.came)) rest ∙ ap (λ n. n + sum_by w rest) (sym put));
         }
 
-        lines_alike : CrossesAreUnordered Boxed Rectangle → (some : List StmtId) (outs gone : List Rectangle) → SameThings outs places.keep_outs → [] ≡ gone
-            → SameLines (lines_of_components (surroundings library (said old)) (boxes_among library (said old) (say some)) (boxes_among library (said old) (say stay)) outs gone)
-            (lines_of_components places.surroundings (map (λ x. x.1) (components_under library u (these some))) (boxed_under library u slots stay) places.keep_outs [])
-        lines_alike crosses some outs gone same none =
-            rw (← none, lines_are some places.keep_outs)
-            (same_but_outs crosses (surroundings library (said old)) (boxes_among library (said old) (say some)) (boxes_among library (said old) (say stay)) outs places.keep_outs same)
-
         all_awaited : SameLinesFollow → CrossesAreUnordered Boxed Rectangle
-            → Awaits library u slots stay places.surroundings places.keep_outs (components_under library u (these x.went)) (components_under library u (these x.came)) places.boxes kept.lines (lines_on_places library (said new))
+            → Awaits library u slots stay places.surroundings (components_under library u (these x.went)) (components_under library u (these x.came)) gone come places.boxes places.keep_outs kept.lines (lines_on_places library (said new))
         all_awaited alike crosses = record {
           pieces = stay_pieces;
           boxes_are = record { sums = λ w. boxes_old.sums w ∙ (places_parted u old x.went e.old_is).sums w };
           before = lines_on_places library (said old);
           kept_are = f.lines;
-          follow =
+          follow = λ later same.
               alike
               _
               _
@@ -337,174 +369,115 @@ module _ (library : Library) (slots : List (Option Kept)) (old new : List (StmtI
               _
               (record { often = λ q. refl })
               (record { often = λ q. refl })
-              (lines_alike crosses x.went (keep_outs (said old)) (keep_outs (say x.went)) outs_old none_went)
-              (lines_alike crosses x.came (keep_outs (said new)) (keep_outs (say x.came)) outs_new none_came)
+              (lines_alike crosses x.went (keep_outs (said old)) places.keep_outs gone (outs_as_said places.keep_outs old f.places.keep_outs_are) gone_are)
+              (lines_alike crosses x.came (keep_outs (said new)) later come (outs_as_said later new (outs_then later same)) come_are)
               follow.lines;
         }
 
-        pub awaits : SameLinesFollow → CrossesAreUnordered Boxed Rectangle → Awaits library u slots stay places.surroundings places.keep_outs went came places.boxes kept.lines (lines_on_places library (said new))
+        pub awaits : SameLinesFollow → CrossesAreUnordered Boxed Rectangle → Awaits library u slots stay places.surroundings went came gone come places.boxes places.keep_outs kept.lines (lines_on_places library (said new))
         awaits alike crosses = rw (went_are, came_are) (all_awaited alike crosses)
 
-        pub follows : (boxes : List (StmtId × Rectangle)) (lines : KeptLines) → lines.lines ≡ sorted_by_bytes (lines_on_places library (said new)) → SameThings boxes (map place_under came ++ map place_under (components_under library u (these stay)))
-            → AreFollowed library new (record { boxes = boxes; surroundings = places.surroundings; keep_outs = places.keep_outs; scale = u }) lines
-        follows boxes lines lines_are same =
-            noted boxes places.keep_outs lines lines_are
+        pub follows : (boxes later : List (StmtId × Rectangle)) (lines : KeptLines) → lines.lines ≡ sorted_by_bytes (lines_on_places library (said new)) → SameThings boxes (map place_under came ++ map place_under (components_under library u (these stay)))
+            → SameThings (places.keep_outs ++ come) (gone ++ later) → AreFollowed library new (record { boxes = boxes; keep_outs = later; surroundings = places.surroundings; scale = u }) lines
+        follows boxes later lines lines_are same same_outs =
+            noted boxes later lines lines_are
             (record {
               sums = λ w.
                   same.sums w
                   ∙ ap (λ (cs : List (StmtId × Boxed)). sum_by w (map place_under cs ++ map place_under (components_under library u (these stay)))) came_are
                   ∙ sym ((places_parted u new x.came e.new_is).sums w);
             })
-            (record { sums = λ w. sym (outs_new.sums w) })
+            (outs_then later same_outs)
 
         -- those that stay are part of those before and of those after
-        pub few_tests : (n : ℕ) → n ≤ near_sum (map place_under (components_under library u (these stay))) (map place_under went) + near_sum (map place_under (components_under library u (these stay))) (map place_under came)
+        obstacles_old : SameThings (map place_under (components_under library u old) ++ keep_outs_under old) (map place_under (components_under library u (these x.went)) ++ (map place_under (components_under library u (these stay)) ++ places.keep_outs))
+        obstacles_old = parts_and_others _ _ _ (keep_outs_under old) places.keep_outs (places_parted u old x.went e.old_is) f.places.keep_outs_are
+
+        obstacles_new : (later : List (StmtId × Rectangle)) → SameThings later (keep_outs_under new)
+            → SameThings (map place_under (components_under library u new) ++ keep_outs_under new) (map place_under (components_under library u (these x.came)) ++ (map place_under (components_under library u (these stay)) ++ later))
+        obstacles_new later are = parts_and_others _ _ _ (keep_outs_under new) later (places_parted u new x.came e.new_is) are
+
+        few_near : (later : List (StmtId × Rectangle)) → SameThings later (keep_outs_under new) → (n : ℕ)
+            → n ≤ (near_sum (map place_under (components_under library u (these stay)) ++ places.keep_outs) (map place_under went) + near_sum (map place_under (components_under library u (these stay))) gone) + (near_sum (map place_under (components_under library u (these stay)) ++ later) (map place_under came) + near_sum (map place_under (components_under library u (these stay))) come)
             → n ≤ near_pairs library old (these x.went) + near_pairs library new (these x.came)
-        few_tests n few =
+        few_near later are n few =
             let boxes_of = λ (rs : List (StmtId × Record)). map place_under (components_under library u rs) in
-            let before = near_sum_part (boxes_of old) (boxes_of (these x.went)) (boxes_of (these stay)) (map place_under went) (places_parted u old x.went e.old_is) in
-            let after = near_sum_part (boxes_of new) (boxes_of (these x.came)) (boxes_of (these stay)) (map place_under came) (places_parted u new x.came e.new_is) in
-            let old_pairs : near_sum (boxes_of old) (map place_under went) ≡ near_sum (places_in library old) (map place_under (components_under library (scale (said old)) (these x.went))) = rw (went_are, f.places.scale_is) refl in
-            let new_pairs : near_sum (boxes_of new) (map place_under came) ≡ near_sum (places_in library new) (map place_under (components_under library (scale (said new)) (these x.came))) = rw (came_are, f.places.scale_is, follow.scale) refl in
-            with_more n _ _ (near_rectangles (places_in library old) (keep_outs (say x.went))) (near_rectangles (places_in library new) (keep_outs (say x.came))) (omega (arith, few, before, after, old_pairs, new_pairs))
+            let rest = boxes_of (these stay) in
+            let before = near_sum_part (boxes_of old ++ keep_outs_under old) (boxes_of (these x.went)) (rest ++ places.keep_outs) (map place_under went) obstacles_old in
+            let before_outs = near_sum_part (boxes_of old) (boxes_of (these x.went)) rest gone (places_parted u old x.went e.old_is) in
+            let after = near_sum_part (boxes_of new ++ keep_outs_under new) (boxes_of (these x.came)) (rest ++ later) (map place_under came) (obstacles_new later are) in
+            let after_outs = near_sum_part (boxes_of new) (boxes_of (these x.came)) rest come (places_parted u new x.came e.new_is) in
+            let old_pairs : near_sum (boxes_of old ++ keep_outs_under old) (map place_under went) ≡ near_sum (obstacles_in library old) (map place_under (components_under library (scale (said old)) (these x.went))) = rw (went_are, f.places.scale_is) refl in
+            let old_outs : near_sum (boxes_of old) gone ≡ near_sum (places_in library old) (keep_outs_under (these x.went)) = rw (gone_are, f.places.scale_is) refl in
+            let new_pairs : near_sum (boxes_of new ++ keep_outs_under new) (map place_under came) ≡ near_sum (obstacles_in library new) (map place_under (components_under library (scale (said new)) (these x.came))) = rw (came_are, f.places.scale_is, follow.scale) refl in
+            let new_outs : near_sum (boxes_of new) come ≡ near_sum (places_in library new) (keep_outs_under (these x.came)) = rw (come_are, f.places.scale_is, follow.scale) refl in
+            no_more n _ _ _ _ _ _ _ _ few
+            (subst (λ m. near_sum (rest ++ places.keep_outs) (map place_under went) ≤ m) old_pairs before)
+            (subst (λ m. near_sum rest gone ≤ m) old_outs before_outs)
+            (subst (λ m. near_sum (rest ++ later) (map place_under came) ≤ m) new_pairs after)
+            (subst (λ m. near_sum rest come ≤ m) new_outs after_outs)
 
-        pub some_tests : (n : ℕ) → min (met_sum (map place_under (components_under library u (these stay))) (map place_under went) + met_sum (map place_under (components_under library u (these stay))) (map place_under came)) (2 ^ 64 - 1) ≤ n
+        some_met : (later : List (StmtId × Rectangle)) → SameThings later (keep_outs_under new) → (n : ℕ)
+            → min ((met_sum (map place_under (components_under library u (these stay)) ++ places.keep_outs) (map place_under went) + met_sum (map place_under (components_under library u (these stay))) gone) + (met_sum (map place_under (components_under library u (these stay)) ++ later) (map place_under came) + met_sum (map place_under (components_under library u (these stay))) come)) (2 ^ 64 - 1) ≤ n
             → min (met_pairs library old (these x.went) + met_pairs library new (these x.came)) (2 ^ 64 - 1) ≤ n + (met_among library old (these x.went) + met_among library new (these x.came))
-        some_tests n some =
+        some_met later are n some =
             let boxes_of = λ (rs : List (StmtId × Record)). map place_under (components_under library u rs) in
-            let before = met_parted (boxes_of old) (boxes_of (these x.went)) (boxes_of (these stay)) (map place_under went) (places_parted u old x.went e.old_is) in
-            let after = met_parted (boxes_of new) (boxes_of (these x.came)) (boxes_of (these stay)) (map place_under came) (places_parted u new x.came e.new_is) in
-            let old_pairs : met_sum (boxes_of old) (map place_under went) ≡ met_sum (places_in library old) (map place_under (components_under library (scale (said old)) (these x.went))) = rw (went_are, f.places.scale_is) refl in
-            let new_pairs : met_sum (boxes_of new) (map place_under came) ≡ met_sum (places_in library new) (map place_under (components_under library (scale (said new)) (these x.came))) = rw (came_are, f.places.scale_is, follow.scale) refl in
-            let old_own : met_sum (boxes_of (these x.went)) (map place_under went) ≡ met_among library old (these x.went) = rw (went_are, f.places.scale_is) refl in
-            let new_own : met_sum (boxes_of (these x.came)) (map place_under came) ≡ met_among library new (these x.came) = rw (came_are, f.places.scale_is, follow.scale) refl in
-            let old_rest = met_sum (boxes_of (these stay)) (map place_under went) in
-            let new_rest = met_sum (boxes_of (these stay)) (map place_under came) in
-            some_of_stay
-            n
-            old_rest
-            new_rest
-            (met_among library old (these x.went))
-            (met_among library new (these x.came))
-            (met_sum (places_in library old) (map place_under (components_under library (scale (said old)) (these x.went))))
-            (met_sum (places_in library new) (map place_under (components_under library (scale (said new)) (these x.came))))
-            (met_rectangles (places_in library old) (keep_outs (say x.went)))
-            (met_rectangles (places_in library new) (keep_outs (say x.came)))
-            some
-            (sym old_pairs ∙ before ∙ ap (λ m. m + old_rest) old_own)
-            (sym new_pairs ∙ after ∙ ap (λ m. m + new_rest) new_own)
-            (ap (met_rectangles (places_in library old)) (sym none_went))
-            (ap (met_rectangles (places_in library new)) (sym none_came))
+            let rest = boxes_of (these stay) in
+            let before = met_parted (boxes_of old ++ keep_outs_under old) (boxes_of (these x.went)) (rest ++ places.keep_outs) (map place_under went) obstacles_old in
+            let before_outs = met_parted (boxes_of old) (boxes_of (these x.went)) rest gone (places_parted u old x.went e.old_is) in
+            let after = met_parted (boxes_of new ++ keep_outs_under new) (boxes_of (these x.came)) (rest ++ later) (map place_under came) (obstacles_new later are) in
+            let after_outs = met_parted (boxes_of new) (boxes_of (these x.came)) rest come (places_parted u new x.came e.new_is) in
+            let old_pairs : met_sum (boxes_of old ++ keep_outs_under old) (map place_under went) ≡ met_sum (obstacles_in library old) (map place_under (components_under library (scale (said old)) (these x.went))) = rw (went_are, f.places.scale_is) refl in
+            let old_outs : met_sum (boxes_of old) gone ≡ met_sum (places_in library old) (keep_outs_under (these x.went)) = rw (gone_are, f.places.scale_is) refl in
+            let new_pairs : met_sum (boxes_of new ++ keep_outs_under new) (map place_under came) ≡ met_sum (obstacles_in library new) (map place_under (components_under library (scale (said new)) (these x.came))) = rw (came_are, f.places.scale_is, follow.scale) refl in
+            let new_outs : met_sum (boxes_of new) come ≡ met_sum (places_in library new) (keep_outs_under (these x.came)) = rw (come_are, f.places.scale_is, follow.scale) refl in
+            let old_own : met_sum (boxes_of (these x.went)) (map place_under went ++ gone) ≡ met_among library old (these x.went) = rw (went_are, gone_are, f.places.scale_is) refl in
+            let new_own : met_sum (boxes_of (these x.came)) (map place_under came ++ come) ≡ met_among library new (these x.came) = rw (came_are, come_are, f.places.scale_is, follow.scale) refl in
+            some_of_stay n _ _ _ _ _ _ _ _ _ _ _ _ _ _ some
+            (sym old_pairs ∙ before)
+            (sym old_outs ∙ before_outs)
+            (sym new_pairs ∙ after)
+            (sym new_outs ∙ after_outs)
+            (sym old_own ∙ sum_by-append (λ (b : StmtId × Rectangle). met_count b.1 (boxes_of (these x.went))) (map place_under went) gone)
+            (sym new_own ∙ sum_by-append (λ (b : StmtId × Rectangle). met_count b.1 (boxes_of (these x.came))) (map place_under came) come)
 
-      -- by the rectangles where those that went, and those that came, keep components out, where no component is among them
-      module _ (went came : List Rectangle) (went_are : went ≡ keep_outs (say x.went)) (came_are : came ≡ keep_outs (say x.came))
-          (none_went : [] ≡ components_under library u (these x.went)) (none_came : [] ≡ components_under library u (these x.came)) where
-        none_among : (some : List StmtId) → [] ≡ components_under library u (these some) → boxes_among library (said old) (say some) ≡ []
-        none_among some none = ap (λ v. filter_map (box_of library v) (say some)) (sym f.places.scale_is) ∙ sym (seconds library u (these some)) ∙ ap (map (λ (c : StmtId × Boxed). c.1)) (sym none)
+        pub few_tests : (later : List (StmtId × Rectangle)) → SameThings (places.keep_outs ++ come) (gone ++ later) → (n : ℕ)
+            → n ≤ (near_sum (map place_under (components_under library u (these stay)) ++ places.keep_outs) (map place_under went) + near_sum (map place_under (components_under library u (these stay))) gone) + (near_sum (map place_under (components_under library u (these stay)) ++ later) (map place_under came) + near_sum (map place_under (components_under library u (these stay))) come)
+            → n ≤ near_pairs library old (these x.went) + near_pairs library new (these x.came)
+        few_tests later same n few = few_near later (outs_then later same) n few
 
-        one_side_boxes : (all : List (StmtId × Record)) (some : List StmtId) → all ≡ these (with_these some) → [] ≡ components_under library u (these some)
-            → SameThings (map place_under (components_under library u all)) (map place_under (components_under library u (these stay)))
-        one_side_boxes all some is none = record {
-          sums = λ w.
-              (places_parted u all some is).sums w
-              ∙ ap (λ (cs : List (StmtId × Boxed)). sum_by w (map place_under cs ++ map place_under (components_under library u (these stay)))) (sym none);
-        }
-
-        boxes_stay : SameThings places.boxes (map place_under (components_under library u (these stay)))
-        boxes_stay = record { sums = λ w. boxes_old.sums w ∙ (one_side_boxes old x.went e.old_is none_went).sums w }
-
-        boxes_new : SameThings places.boxes (map place_under (components_under library u new))
-        boxes_new = record { sums = λ w. boxes_stay.sums w ∙ sym ((one_side_boxes new x.came e.new_is none_came).sums w) }
-
-        blocked_lines : (gone come : List Rectangle) → LinesFollow (lines_on_places library (said old)) (lines_on_places library (said new))
-            (lines_of_components (surroundings library (said old)) (boxes_among library (said old) (say x.went)) (boxes_among library (said old) (say stay)) (keep_outs (said old)) gone)
-            (lines_of_components (surroundings library (said old)) (boxes_among library (said old) (say x.came)) (boxes_among library (said old) (say stay)) (keep_outs (said new)) come)
-            → LinesFollow (lines_on_places library (said old)) (lines_on_places library (said new))
-            (cross_lines blocked_of (boxes_among library (said old) (say stay)) gone)
-            (cross_lines blocked_of (boxes_among library (said old) (say stay)) come)
-        blocked_lines gone come all =
-            let a = lines_on_places library (said old) in
-            let b = lines_on_places library (said new) in
-            let s = surroundings library (said old) in
-            let rest = boxes_among library (said old) (say stay) in
-            let put = lines_of_components s (boxes_among library (said old) (say x.came)) rest (keep_outs (said new)) come in
-            let first = subst (λ (bs : List Boxed). LinesFollow a b (lines_of_components s bs rest (keep_outs (said old)) gone) put) (none_among x.went none_went) all in
-            subst (λ (bs : List Boxed). LinesFollow a b (cross_lines blocked_of rest gone) (lines_of_components s bs rest (keep_outs (said new)) come)) (none_among x.came none_came) first
-
-        same_rest : boxed_under library u slots stay ≡ boxes_among library (said old) (say stay)
-        same_rest = seconds library u (these stay) ∙ ap (λ v. filter_map (box_of library v) (say stay)) f.places.scale_is
-
-        pub awaits_rectangles : AwaitsRectangles library u slots stay went came places.boxes kept.lines (lines_on_places library (said new))
-        awaits_rectangles = record {
-          are_boxes = record { kept = stay_pieces; boxes_are = boxes_stay };
-          before = lines_on_places library (said old);
-          kept_are = f.lines;
-          follow = rw (went_are, came_are, same_rest) (blocked_lines (keep_outs (say x.went)) (keep_outs (say x.came)) follow.lines);
-        }
-
-        pub follows_rectangles : (outs : List Rectangle) (lines : KeptLines) → lines.lines ≡ sorted_by_bytes (lines_on_places library (said new)) → SameThings (places.keep_outs ++ came) (went ++ outs)
-            → AreFollowed library new (record { boxes = places.boxes; surroundings = places.surroundings; keep_outs = outs; scale = u }) lines
-        follows_rectangles outs lines lines_are same =
-            noted places.boxes outs lines lines_are boxes_new
-            (record {
-              sums = λ w.
-                  let rest = keep_outs (say stay) in
-                  let was = f.places.keep_outs_are.sums w in
-                  let before = follow.keep_outs.old_is.sums w in
-                  let after = follow.keep_outs.new_is.sums w in
-                  let gone = ap (sum_by w) went_are in
-                  let come = ap (sum_by w) came_are in
-                  let both = same.sums w in
-                  exchanged_sums
-                  (sum_by w outs)
-                  (sum_by w (keep_outs (said new)))
-                  (sum_by w places.keep_outs)
-                  (sum_by w went)
-                  (sum_by w came)
-                  (sum_by w rest)
-                  (sym (sum_by-append w places.keep_outs came) ∙ both ∙ sum_by-append w went outs)
-                  (was ∙ before ∙ sum_by-append w (keep_outs (say x.went)) rest ∙ ap (λ n. n + sum_by w rest) (sym gone))
-                  (after ∙ sum_by-append w (keep_outs (say x.came)) rest ∙ ap (λ n. n + sum_by w rest) (sym come));
-            })
-
-        pub few_tests_near : (n : ℕ) → n ≤ near_rectangles places.boxes went + near_rectangles places.boxes came → n ≤ near_pairs library old (these x.went) + near_pairs library new (these x.came)
-        few_tests_near n few =
-            let boxes_of = λ (rs : List (StmtId × Record)). map place_under (components_under library u rs) in
-            let before : near_rectangles places.boxes went ≡ near_rectangles (places_in library old) (keep_outs (say x.went)) =
-            near_rectangles_same places.boxes (places_in library old) went f.places.boxes_are ∙ ap (near_rectangles (places_in library old)) went_are
-            in
-            let same_new : SameThings places.boxes (places_in library new) = subst (λ v. SameThings places.boxes (map place_under (components_under library v new))) (f.places.scale_is ∙ follow.scale) boxes_new in
-            let after : near_rectangles places.boxes came ≡ near_rectangles (places_in library new) (keep_outs (say x.came)) =
-            near_rectangles_same places.boxes (places_in library new) came same_new ∙ ap (near_rectangles (places_in library new)) came_are
-            in
-            more_before
-            n
-            (near_rectangles (places_in library old) (keep_outs (say x.went)))
-            (near_rectangles (places_in library new) (keep_outs (say x.came)))
-            (near_sum (places_in library old) (map place_under (components_under library (scale (said old)) (these x.went))))
-            (near_sum (places_in library new) (map place_under (components_under library (scale (said new)) (these x.came))))
-            (subst (λ m. n ≤ near_rectangles (places_in library old) (keep_outs (say x.went)) + m) after (subst (λ m. n ≤ m + near_rectangles places.boxes came) before few))
-
-        pub some_tests_near : (n : ℕ) → min (met_rectangles places.boxes went + met_rectangles places.boxes came) (2 ^ 64 - 1) ≤ n
+        pub some_tests : (later : List (StmtId × Rectangle)) → SameThings (places.keep_outs ++ come) (gone ++ later) → (n : ℕ)
+            → min ((met_sum (map place_under (components_under library u (these stay)) ++ places.keep_outs) (map place_under went) + met_sum (map place_under (components_under library u (these stay))) gone) + (met_sum (map place_under (components_under library u (these stay)) ++ later) (map place_under came) + met_sum (map place_under (components_under library u (these stay))) come)) (2 ^ 64 - 1) ≤ n
             → min (met_pairs library old (these x.went) + met_pairs library new (these x.came)) (2 ^ 64 - 1) ≤ n + (met_among library old (these x.went) + met_among library new (these x.came))
-        some_tests_near n some =
-            let before : met_rectangles places.boxes went ≡ met_rectangles (places_in library old) (keep_outs (say x.went)) =
-            met_rectangles_same places.boxes (places_in library old) went f.places.boxes_are ∙ ap (met_rectangles (places_in library old)) went_are
-            in
-            let same_new : SameThings places.boxes (places_in library new) = subst (λ v. SameThings places.boxes (map place_under (components_under library v new))) (f.places.scale_is ∙ follow.scale) boxes_new in
-            let after : met_rectangles places.boxes came ≡ met_rectangles (places_in library new) (keep_outs (say x.came)) =
-            met_rectangles_same places.boxes (places_in library new) came same_new ∙ ap (met_rectangles (places_in library new)) came_are
-            in
-            let no_old : [] ≡ components_under library (scale (said old)) (these x.went) = subst (λ v. [] ≡ components_under library v (these x.went)) f.places.scale_is none_went in
-            let no_new : [] ≡ components_under library (scale (said new)) (these x.came) = subst (λ v. [] ≡ components_under library v (these x.came)) (f.places.scale_is ∙ follow.scale) none_came in
-            some_of_outs
-            n
-            (met_among library old (these x.went))
-            (met_among library new (these x.came))
-            (met_sum (places_in library old) (map place_under (components_under library (scale (said old)) (these x.went))))
-            (met_sum (places_in library new) (map place_under (components_under library (scale (said new)) (these x.came))))
-            (met_rectangles (places_in library old) (keep_outs (say x.went)))
-            (met_rectangles (places_in library new) (keep_outs (say x.came)))
-            (subst (λ m. min (met_rectangles (places_in library old) (keep_outs (say x.went)) + m) (2 ^ 64 - 1) ≤ n) after (subst (λ m. min (m + met_rectangles places.boxes came) (2 ^ 64 - 1) ≤ n) before some))
-            (ap (λ (cs : List (StmtId × Boxed)). met_sum (places_in library old) (map place_under cs)) (sym no_old))
-            (ap (λ (cs : List (StmtId × Boxed)). met_sum (places_in library new) (map place_under cs)) (sym no_new))
+        some_tests later same n some = some_met later (outs_then later same) n some
+
+        -- where no component goes or comes
+        module _ (none_went : [] ≡ went) (none_came : [] ≡ came) where
+          boxes_stay : SameThings places.boxes (map place_under (components_under library u (these stay)))
+          boxes_stay = record {
+            sums = λ w.
+                boxes_old.sums w
+                ∙ (places_parted u old x.went e.old_is).sums w
+                ∙ ap (λ (cs : List (StmtId × Boxed)). sum_by w (map place_under cs ++ map place_under (components_under library u (these stay)))) (sym (none_went ∙ went_are));
+          }
+
+          pub follows_alone : (later : List (StmtId × Rectangle)) (lines : KeptLines) → lines.lines ≡ sorted_by_bytes (lines_on_places library (said new)) → SameThings (places.keep_outs ++ come) (gone ++ later)
+              → AreFollowed library new (record { boxes = places.boxes; keep_outs = later; surroundings = places.surroundings; scale = u }) lines
+          follows_alone later lines lines_are same =
+              follows places.boxes later lines lines_are (subst (λ (cs : List (StmtId × Boxed)). SameThings places.boxes (map place_under cs ++ map place_under (components_under library u (these stay)))) none_came boxes_stay) same
+
+          pub few_tests_alone : (n : ℕ) → n ≤ near_sum places.boxes gone + near_sum places.boxes come → n ≤ near_pairs library old (these x.went) + near_pairs library new (these x.came)
+          few_tests_alone n few =
+              few_near (keep_outs_under new) (record { sums = λ w. refl }) n
+              (more_alone n _ _ _ _ (subst (λ m. n ≤ near_sum (map place_under (components_under library u (these stay))) gone + m) (near_sum_same places.boxes (map place_under (components_under library u (these stay))) come boxes_stay) (subst (λ m. n ≤ m + near_sum places.boxes come) (near_sum_same places.boxes (map place_under (components_under library u (these stay))) gone boxes_stay) few)))
+
+          pub some_tests_alone : (n : ℕ) → min (met_sum places.boxes gone + met_sum places.boxes come) (2 ^ 64 - 1) ≤ n
+              → min (met_pairs library old (these x.went) + met_pairs library new (these x.came)) (2 ^ 64 - 1) ≤ n + (met_among library old (these x.went) + met_among library new (these x.came))
+          some_tests_alone n some =
+              some_met (keep_outs_under new) (record { sums = λ w. refl }) n
+              (some_alone n _ _ _ _ _ _
+              (ap (λ (cs : List (StmtId × Boxed)). met_sum (map place_under (components_under library u (these stay)) ++ places.keep_outs) (map place_under cs)) (sym none_went))
+              (ap (λ (cs : List (StmtId × Boxed)). met_sum (map place_under (components_under library u (these stay)) ++ keep_outs_under new) (map place_under cs)) (sym none_came))
+              (met_sum_same places.boxes (map place_under (components_under library u (these stay))) gone boxes_stay)
+              (met_sum_same places.boxes (map place_under (components_under library u (these stay))) come boxes_stay)
+              some)

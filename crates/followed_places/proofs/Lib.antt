@@ -4,6 +4,7 @@ mod ComponentLemmas
 mod ExchangeLemmas
 mod FollowedLemmas
 mod HalvesLemmas
+pub mod KeepOutLemmas
 mod MetLemmas
 mod NearSums
 mod OthersMet

@@ -43,7 +43,7 @@ sum_by-filter w p (x ∷ xs) =
     let r = sum_by-filter w p xs in
     omega (arith, r, sum_by-cond w (p x) x (filter p xs), sum_by-cons (λ x. cond (p x) (w x) 0) x xs)
 
-sum_by-map : {A B : Type 0} (w : B → ℕ) (f : A → B) (xs : List A) → sum_by w (map f xs) ≡ sum_by (λ x. w (f x)) xs
+pub sum_by-map : {A B : Type 0} (w : B → ℕ) (f : A → B) (xs : List A) → sum_by w (map f xs) ≡ sum_by (λ x. w (f x)) xs
 sum_by-map w f [] = refl
 sum_by-map w f (x ∷ xs) = let r = sum_by-map w f xs in omega (arith, r, sum_by-cons w (f x) (map f xs), sum_by-cons (λ y. w (f y)) x xs)
 

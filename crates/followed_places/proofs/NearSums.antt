@@ -1,5 +1,5 @@
 -- Boxes near others, in whatever order, and in part.
-use Rattle.std.proofs.Common.{◌≡◌, ◌∙◌, ◌≤◌, ◌<◌, ◌+◌, ◌-◌, ◌^◌, ℕ, min, cond, List, [], ◌∷◌, ◌++◌, length, get_or, drop, map, subst, sum_by, refl, sym, ap, arith}
+use Rattle.std.proofs.Common.{◌≡◌, ◌∙◌, ◌≤◌, ◌<◌, ◌+◌, ◌-◌, ◌^◌, ℕ, min, cond, List, [], ◌∷◌, ◌++◌, length, get_or, drop, sum_by, refl, sym, ap, arith}
 use Rattle.std.proofs.lemmas.List.{drop_all, drop_more}
 use Rattle.std.proofs.lemmas.List.Sums.{sum_by-append, sum_by-cons, sum_by-le-sum_by}
 use Rattle.line_laws.specs.Lines.{SameThings}
@@ -8,11 +8,7 @@ use Rattle.design_model.specs.Geometry.{Rectangle}
 use Rattle.design_model.specs.declared.identifier.StmtId.{StmtId}
 use Rattle.shape_rules.specs.Meeting.{meets}
 use Rattle.statement_boxes.specs.Boxes.{is_near, met_count, near_count}
-use Rattle.followed_places.specs.Placed.{placed_view}
-use Rattle.followed_places.specs.Places.{place_under}
-use Rattle.followed_places.specs.Tests.{met_rectangles, met_sum, near_rectangles, near_sum}
-use Rattle.followed_places.specs.declared.components.Placed.{Placed}
-use Rattle.followed_places.proofs.OthersMet.{left_from}
+use Rattle.followed_places.specs.Tests.{met_sum, near_sum}
 
 -- of a part no more are near
 near_part : (r : Rectangle) (all part rest : List (StmtId × Rectangle)) → SameThings all (part ++ rest) → near_count r rest ≤ near_count r all
@@ -29,27 +25,30 @@ pub near_sum_same : (xs ys some : List (StmtId × Rectangle)) → SameThings xs 
 near_sum_same xs ys some same =
     sum_by-same (λ (b : StmtId × Rectangle). near_count b.1 xs) (λ (b : StmtId × Rectangle). near_count b.1 ys) (λ b. same.sums (λ x. cond (is_near b.1 x) 1 0)) some
 
-pub near_rectangles_same : (xs ys : List (StmtId × Rectangle)) (some : List Rectangle) → SameThings xs ys → near_rectangles xs some ≡ near_rectangles ys some
-near_rectangles_same xs ys some same = sum_by-same (λ r. near_count r xs) (λ r. near_count r ys) (λ r. same.sums (λ x. cond (is_near r x) 1 0)) some
+-- of two lists as many are as of each
+pub near_both : (r : Rectangle) (xs ys : List (StmtId × Rectangle)) (m n : ℕ) → m ≤ near_count r xs → n ≤ near_count r ys → m + n ≤ near_count r (xs ++ ys)
+near_both r xs ys m n h k = omega (arith, h, k, sum_by-append (λ (x : StmtId × Rectangle). cond (is_near r x) 1 0) xs ys)
 
-abbrev places : List Placed → List (StmtId × Rectangle)
-places ps = map place_under (map placed_view ps)
+pub met_both : (r : Rectangle) (xs ys : List (StmtId × Rectangle)) (m n : ℕ) → met_count r xs ≤ m → met_count r ys ≤ n → met_count r (xs ++ ys) ≤ m + n
+met_both r xs ys m n h k = omega (arith, h, k, sum_by-append (λ (x : StmtId × Rectangle). cond (meets x.1 r) 1 0) xs ys)
 
--- those near one component more are counted
-pub one_counted : (boxes : List (StmtId × Rectangle)) (components : List Placed) (i : ℕ) (x : Placed) (old new compared all : ℕ) → i < length components → x ≡ get_or components i x
-    → compared ≤ near_count (place_under (placed_view x)).1 boxes → new ≤ old + compared → old + near_sum boxes (places (drop i components)) ≤ all → new + near_sum boxes (places (drop (i + 1) components)) ≤ all
-one_counted boxes components i x old new compared all below is few added so_far =
-    let rest = drop (i + 1) components in
-    let here : old + near_sum boxes (places (x ∷ rest)) ≤ all = subst (λ (ps : List Placed). old + near_sum boxes (places ps) ≤ all) (left_from components i x below is) so_far in
-    omega (arith, here, few, added, sum_by-cons (λ (b : StmtId × Rectangle). near_count b.1 boxes) (place_under (placed_view x)) (places rest))
+-- the same things before others
+pub before_others : (xs ys others : List (StmtId × Rectangle)) → SameThings xs ys → SameThings (xs ++ others) (ys ++ others)
+before_others xs ys others same = record { sums = λ w. sum_by-append w xs others ∙ ap (λ n. n + sum_by w others) (same.sums w) ∙ sym (sum_by-append w ys others) }
+
+-- and where they are in parts
+pub parts_and_others : (all part rest own others : List (StmtId × Rectangle)) → SameThings all (part ++ rest) → SameThings others own → SameThings (all ++ own) (part ++ (rest ++ others))
+parts_and_others all part rest own others same as_own = record {
+  sums = λ w.
+      let a = same.sums w in
+      let b = as_own.sums w in
+      omega (arith, a, b, sum_by-append w all own, sum_by-append w part rest, sum_by-append w part (rest ++ others), sum_by-append w rest others);
+}
 
 -- of the same as many meet
 pub met_sum_same : (xs ys some : List (StmtId × Rectangle)) → SameThings xs ys → met_sum xs some ≡ met_sum ys some
 met_sum_same xs ys some same =
     sum_by-same (λ (b : StmtId × Rectangle). met_count b.1 xs) (λ (b : StmtId × Rectangle). met_count b.1 ys) (λ b. same.sums (λ x. cond (meets x.1 b.1) 1 0)) some
-
-pub met_rectangles_same : (xs ys : List (StmtId × Rectangle)) (some : List Rectangle) → SameThings xs ys → met_rectangles xs some ≡ met_rectangles ys some
-met_rectangles_same xs ys some same = sum_by-same (λ r. met_count r xs) (λ r. met_count r ys) (λ r. same.sums (λ x. cond (meets x.1 r) 1 0)) some
 
 -- and of two parts as many as of each
 pub met_parted : (all part rest some : List (StmtId × Rectangle)) → SameThings all (part ++ rest) → met_sum all some ≡ met_sum part some + met_sum rest some
@@ -60,20 +59,29 @@ met_parted all part rest (b ∷ bs) same =
     let more : (boxes : List (StmtId × Rectangle)) → met_sum boxes (b ∷ bs) ≡ met_count b.1 boxes + met_sum boxes bs = λ boxes. sum_by-cons (λ (x : StmtId × Rectangle). met_count x.1 boxes) b bs in
     omega (arith, here, met_parted all part rest bs same, more all, more part, more rest)
 
--- what is counted at least, where a count ends at 2 ^ 64 - 1: one thing more of a list, of which something is seen
+-- what is counted at most, and at least, where a count ends at 2 ^ 64 - 1: one thing more of a list, of which something is seen
 module _ {X Y : Type 0} (weigh : Y → ℕ) (see : X → Y) (seen : List X → List Y) (none : seen [] ≡ []) (each : (x : X) (xs : List X) → seen (x ∷ xs) ≡ see x ∷ seen xs) where
+  parted : (xs : List X) (i : ℕ) (x : X) → i < length xs → x ≡ get_or xs i x → sum_by weigh (seen (drop i xs)) ≡ weigh (see x) + sum_by weigh (seen (drop (i + 1) xs))
+  parted xs i x below is =
+      let left : drop i xs ≡ x ∷ drop (i + 1) xs = drop_more xs i x below ∙ ap (λ (y : X). y ∷ drop (i + 1) xs) (sym is) in
+      ap (λ (l : List X). sum_by weigh (seen l)) left ∙ ap (sum_by weigh) (each x (drop (i + 1) xs)) ∙ sum_by-cons weigh (see x) (seen (drop (i + 1) xs))
+
+  pub next_most : (xs : List X) (i : ℕ) (x : X) (old new compared all : ℕ) → i < length xs → x ≡ get_or xs i x → compared ≤ weigh (see x) → new ≤ old + compared
+      → old + sum_by weigh (seen (drop i xs)) ≤ all → new + sum_by weigh (seen (drop (i + 1) xs)) ≤ all
+  next_most xs i x old new compared all below is few added so_far = omega (arith, parted xs i x below is, few, added, so_far)
+
   pub next_least : (xs : List X) (i : ℕ) (x : X) (old new compared all : ℕ) → i < length xs → x ≡ get_or xs i x → weigh (see x) ≤ compared → min (old + compared) (2 ^ 64 - 1) ≤ new
       → min all (2 ^ 64 - 1) ≤ old + sum_by weigh (seen (drop i xs)) → min all (2 ^ 64 - 1) ≤ new + sum_by weigh (seen (drop (i + 1) xs))
-  next_least xs i x old new compared all below is some added so_far =
-      let left : drop i xs ≡ x ∷ drop (i + 1) xs = drop_more xs i x below ∙ ap (λ (y : X). y ∷ drop (i + 1) xs) (sym is) in
-      let sum : sum_by weigh (seen (drop i xs)) ≡ weigh (see x) + sum_by weigh (seen (drop (i + 1) xs)) =
-      ap (λ (l : List X). sum_by weigh (seen l)) left ∙ ap (sum_by weigh) (each x (drop (i + 1) xs)) ∙ sum_by-cons weigh (see x) (seen (drop (i + 1) xs)) in
-      omega (arith, sum, some, added, so_far)
+  next_least xs i x old new compared all below is some added so_far = omega (arith, parted xs i x below is, some, added, so_far)
 
   pub all_least : (xs : List X) (i now all : ℕ) → length xs ≤ i → min all (2 ^ 64 - 1) ≤ now + sum_by weigh (seen (drop i xs)) → min all (2 ^ 64 - 1) ≤ now
   all_least xs i now all past so_far =
       let nothing : sum_by weigh (seen (drop i xs)) ≡ 0 = ap (λ (l : List X). sum_by weigh (seen l)) (drop_all i xs past) ∙ ap (sum_by weigh) none in
       omega (arith, nothing, so_far)
+
+-- where nothing was counted before
+pub none_before : (before n tests : ℕ) → before ≡ 0 → min (before + n) (2 ^ 64 - 1) ≤ tests → min n (2 ^ 64 - 1) ≤ tests
+none_before before n tests none h = omega (arith, none, h)
 
 pub both_least : (a b out put tests : ℕ) → min a (2 ^ 64 - 1) ≤ out → min b (2 ^ 64 - 1) ≤ put → min (out + put) (2 ^ 64 - 1) ≤ tests → min (a + b) (2 ^ 64 - 1) ≤ tests
 both_least a b out put tests h k sum = omega (arith, h, k, sum)

@@ -1,5 +1,5 @@
 -- The components of a text that take part, under the numbers of their statements.
-use Rattle.std.specs.Prelude.{◌≡◌, ◌<◌, ◌≤◌, ℕ, List, map, Option}
+use Rattle.std.specs.Prelude.{◌≡◌, ◌<◌, ◌≤◌, ℕ, List, [], ◌∷◌, flat_map, map, Option}
 use Rattle.std.specs.List.{filter_map}
 use Rattle.std.specs.Option.{option_map}
 use Rattle.design_model.specs.declared.identifier.StmtId.{StmtId}
@@ -14,12 +14,12 @@ use Rattle.place_checks.specs.SameSurroundings.{HaveSameLines}
 use Rattle.staying_laws.specs.Staying.{lines_on_places}
 use Rattle.kept_lines.specs.Kept.{Kept}
 
--- the boxes of components under the numbers of their statements, what stands round them, what keeps them out, and the database units per
--- micron
+-- the boxes of components, and the rectangles that keep them out, under the numbers of their statements, what stands round them, and the
+-- database units per micron
 pub record Places : Type 0 where
   pub boxes : List (StmtId × Rectangle)
+  pub keep_outs : List (StmtId × Rectangle)
   pub surroundings : Surroundings
-  pub keep_outs : List Rectangle
   pub scale : ℕ
 
 -- what numbered statements say
@@ -36,12 +36,15 @@ components_under library u records = filter_map (component_under library u) reco
 abbrev pub place_under : StmtId × Boxed → StmtId × Rectangle
 place_under c = (c.0, c.1.box)
 
--- places are those of a text's numbered statements; each component has the same lines in these surroundings as in the text's, and what keeps
--- components out is in any order
+-- the rectangles where numbered statements keep components out, each under the number of its statement
+abbrev pub keep_outs_under : List (StmtId × Record) → List (StmtId × Rectangle)
+keep_outs_under records = flat_map (λ x. map (λ r. (x.0, r)) (keep_outs (x.1 ∷ []))) records
+
+-- places are those of a text's numbered statements; each component has the same lines in these surroundings as in the text's
 pub record HasPlaces (library : Library) (records : List (StmtId × Record)) (p : Places) : Type 0 where
   pub boxes_are : SameThings p.boxes (map place_under (components_under library (scale (said records)) records))
+  pub keep_outs_are : SameThings p.keep_outs (keep_outs_under records)
   pub surroundings_are : HaveSameLines p.surroundings (surroundings library (said records))
-  pub keep_outs_are : SameThings p.keep_outs (keep_outs (said records))
   pub scale_is : p.scale ≡ scale (said records)
 
 -- kept lines are those on the components of a design, in the order of their bytes

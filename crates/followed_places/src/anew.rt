@@ -70,7 +70,7 @@ fn statements_around<'t, A: Allocator + Copy>(
 }
 
 /// A text whose components are gone over: what they are measured by, what they stand in, and what keeps them out.
-#[derive(Clone, Copy)]
+#[derive(Drop)]
 struct Placement<'a, 't, 'l, A: Allocator + Copy> {
     library: &'t Library<'l, A>,
     scale: u32,

@@ -2,10 +2,9 @@
 
 ghost use Rattle.std.specs.Prelude.{◌≡◌, ◌<◌, ◌≤◌, ◌++◌, IfOk, OnOk, filter, map};
 ghost use Rattle.std.specs.List.{list_any};
-ghost use Rattle.design_model.specs.Views.{rectangle_of};
 ghost use Rattle.def_reader.specs.StatementViews.{record_view, records_view};
 ghost use Rattle.design_rules.specs.Boxes.{scale};
-ghost use Rattle.design_rules.specs.Surroundings.{keep_outs, surroundings};
+ghost use Rattle.design_rules.specs.Surroundings.{surroundings};
 ghost use Rattle.design_tables.specs.TableViews.{numbered_view};
 ghost use Rattle.place_checks.specs.IndexViews.{surroundings_view};
 ghost use Rattle.place_checks.specs.SameSurroundings.{HaveSameLines};
@@ -14,22 +13,17 @@ ghost use Rattle.staying_laws.specs.PlaceStatements.{is_surrounding, surrounds_o
 use cell_library::library::Library;
 use def_reader::entry::Entry;
 use def_reader::statement::Statement;
-use design_model::geometry::Rect;
 use design_model::identifier::StmtId;
 use design_tables::Numbered;
-use place_checks::keep_outs::keep_outs_of;
 use place_checks::kept_surroundings::KeptSurroundings;
 use place_checks::scale::scale_of;
 use place_checks::surroundings::{Surroundings, surroundings_of};
 use std::alloc::{AllocError, Allocator};
 
-/// What stands round components, what keeps them out, and the database units per micron by which it is measured, kept from one edit to
-/// the next.
+/// What stands round components, and the database units per micron by which it is measured, kept from one edit to the next.
 #[derive(Drop)]
 pub(crate) struct KeptAround<A: Allocator> {
     pub(crate) surroundings: KeptSurroundings<A>,
-    /// The rectangles that keep components out, in an order that is left open.
-    pub(crate) keep_outs: Vec<Rect, A>,
     pub(crate) scale: u32,
 }
 
@@ -37,7 +31,6 @@ pub(crate) struct KeptAround<A: Allocator> {
 #[derive(Drop)]
 pub(crate) struct Around<'t, A: Allocator> {
     pub(crate) surroundings: Surroundings<'t, A>,
-    pub(crate) keep_outs: &'t [Rect],
     pub(crate) scale: u32,
 }
 
@@ -87,13 +80,11 @@ impl<A: Allocator + Copy> KeptAround<A> {
         requires some { 0 < scale (records_view statements.now) }
         requires few { scale (records_view statements.now) ≤ 100000 }
         ensures surroundings { IfOk result (λ a. HaveSameLines a.surroundings (surroundings library.now (records_view statements.now))) }
-        ensures keep_outs { IfOk result (λ a. map rectangle_of a.keep_outs.items ≡ keep_outs (records_view statements.now)) }
         ensures scale { IfOk result (λ a. a.scale ≡ scale (records_view statements.now)) }
     {
         let surroundings = surroundings_of(alloc, library, statements)?;
         Ok(KeptAround {
             surroundings: KeptSurroundings::of(alloc, &surroundings)?,
-            keep_outs: keep_outs_of(alloc, statements)?,
             scale: scale_of(statements),
         })
     }
@@ -101,12 +92,10 @@ impl<A: Allocator + Copy> KeptAround<A> {
     /// It, lent. No statement is read, and nothing is sorted.
     pub(crate) fn lent<'a>(&'a self, alloc: A) -> Result<Around<'a, A>, AllocError>
         ensures surroundings { IfOk result (λ a. surroundings_view a.surroundings ≡ self.entry.now.surroundings) }
-        ensures keep_outs { IfOk result (λ a. a.keep_outs.now ≡ self.entry.now.keep_outs.items) }
         ensures scale { IfOk result (λ a. a.scale ≡ self.entry.now.scale) }
     {
         Ok(Around {
             surroundings: self.surroundings.lent(alloc)?,
-            keep_outs: &self.keep_outs,
             scale: self.scale,
         })
     }

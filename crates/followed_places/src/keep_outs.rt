@@ -1,73 +1,87 @@
-//! Rectangles that keep components out, of which some go and others come (LEF/DEF 5.8 Language Reference, "Blockages").
+//! Rectangles that keep components out, each under the number of its statement, of which some go and others come (LEF/DEF 5.8 Language
+//! Reference, "Blockages").
 
-ghost use Rattle.std.specs.Prelude.{◌≡◌, ◌<◌, ◌∷◌, ◌++◌, [], IfOk, IfSome, IsTrue, get_or, length, map};
+ghost use Rattle.std.specs.Prelude.{◌≡◌, ◌++◌, IfOk, IsTrue, OnOk, map};
 ghost use Rattle.design_model.specs.Views.{rectangle_of};
+ghost use Rattle.design_tables.specs.TableViews.{numbered_view};
 ghost use Rattle.line_laws.specs.Lines.{SameThings};
+ghost use Rattle.statement_boxes.specs.Boxes.{box_view};
+ghost use Rattle.followed_places.specs.Places.{keep_outs_under};
 
 use design_model::geometry::Rect;
+use design_model::identifier::StmtId;
+use design_tables::Numbered;
+use place_checks::keep_outs::keep_outs_of;
+use statement_boxes::{StatementBox, StatementBoxes};
 use std::alloc::{AllocError, Allocator};
+use std::slice;
 
-/// Whether no rectangle goes, and none comes.
-pub(crate) fn are_no_rectangles(went: &[Rect], came: &[Rect]) -> bool
-    ensures { IsTrue result → (went.now ≡ []) × (came.now ≡ []) }
+/// Puts rectangles under the number of one statement behind others.
+fn push_under<A: Allocator>(
+    id: StmtId,
+    rects: &[Rect],
+    boxes: &mut Vec<StatementBox, A>,
+) -> Result<(), AllocError>
+    ensures { OnOk result (map box_view boxes.new.items ≡ map box_view boxes.old.items ++ map (λ r. (id, r)) (map rectangle_of rects.now)) }
 {
-    went.is_empty() && came.is_empty()
-}
-
-/// Whether two rectangles are one.
-fn is_same(a: &Rect, b: &Rect) -> bool
-    ensures { IsTrue result → rectangle_of a.now ≡ rectangle_of b.now }
-{
-    a.x1 == b.x1 && a.y1 == b.y1 && a.x2 == b.x2 && a.y2 == b.y2
-}
-
-/// The last place of a rectangle, if it is there.
-fn place_of(rects: &[Rect], rect: &Rect) -> Option<usize>
-    ensures { IfSome result (λ n. (n < length rects.now) × ((d : _) → rectangle_of (get_or rects.now n d) ≡ rectangle_of rect.now)) }
-{
-    for place in (0..rects.len()).rev() {
-        if is_same(&rects[place], rect) {
-            return Some(place);
-        }
+    for rect in rects {
+        boxes.push(StatementBox { id, rect: *rect })?;
     }
-    None
+    Ok(())
 }
 
-/// Takes a rectangle out, once, and says whether it was there.
-fn take<A: Allocator + Copy>(rects: &mut Vec<Rect, A>, rect: &Rect) -> bool
-    ensures { IsTrue result → SameThings (map rectangle_of rects.old.items) (rectangle_of rect.now ∷ map rectangle_of rects.new.items) }
+/// The rectangles where statements keep components out, in their order.
+pub(crate) fn keep_outs_among<A: Allocator + Copy>(
+    alloc: A,
+    statements: &[Numbered<'_>],
+) -> Result<Vec<StatementBox, A>, AllocError>
+    ensures { IfOk result (λ v. map box_view v.items ≡ keep_outs_under (map numbered_view statements.now)) }
 {
-    let Some(place) = place_of(rects, rect) else {
-        return false;
-    };
-    rects.swap_remove(place);
-    true
+    let mut boxes = Vec::new(alloc);
+    for numbered in statements {
+        let rects = keep_outs_of(alloc, slice::from_ref(&numbered.statement))?;
+        push_under(numbered.id, &rects, &mut boxes)?;
+    }
+    Ok(boxes)
 }
 
 /// Takes rectangles out, each once, and says whether all of them were there.
-fn take_all<A: Allocator + Copy>(rects: &mut Vec<Rect, A>, went: &[Rect]) -> bool
-    ensures { IsTrue result → SameThings (map rectangle_of rects.old.items) (map rectangle_of went.now ++ map rectangle_of rects.new.items) }
+fn take_all<A: Allocator + Copy>(keep_outs: &mut StatementBoxes<A>, went: &[StatementBox]) -> bool
+    ensures { IsTrue result → SameThings keep_outs.old (map box_view went.now ++ keep_outs.new) }
 {
-    for rect in went {
-        if !take(rects, rect) {
+    for gone in went {
+        if !keep_outs.remove(*gone) {
             return false;
         }
     }
     true
 }
 
-/// Takes the rectangles that went out, each once, and puts those that came behind the others; says whether all that went were there.
+/// Puts rectangles in.
+fn put_all<A: Allocator + Copy>(
+    keep_outs: &mut StatementBoxes<A>,
+    came: &[StatementBox],
+) -> Result<(), AllocError>
+    ensures { OnOk result (SameThings keep_outs.new (map box_view came.now ++ keep_outs.old)) }
+{
+    for put in came {
+        keep_outs.insert(*put)?;
+    }
+    Ok(())
+}
+
+/// Takes the rectangles that went out, each once, and puts those that came in; says whether all that went were there.
 pub(crate) fn exchange_keep_outs<A: Allocator + Copy>(
-    rects: &mut Vec<Rect, A>,
-    went: &[Rect],
-    came: &[Rect],
+    keep_outs: &mut StatementBoxes<A>,
+    went: &[StatementBox],
+    came: &[StatementBox],
 ) -> Result<bool, AllocError>
     ensures { IfOk result (λ there. IsTrue there
-        → SameThings (map rectangle_of rects.old.items ++ map rectangle_of came.now) (map rectangle_of went.now ++ map rectangle_of rects.new.items)) }
+        → SameThings (keep_outs.old ++ map box_view came.now) (map box_view went.now ++ keep_outs.new)) }
 {
-    if !take_all(rects, went) {
+    if !take_all(keep_outs, went) {
         return Ok(false);
     }
-    rects.extend_from_slice(came)?;
+    put_all(keep_outs, came)?;
     Ok(true)
 }

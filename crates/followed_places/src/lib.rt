@@ -1,11 +1,11 @@
 //! The lines on the components of a text, which follow its edits.
 //!
-//! Begin with `FollowedPlaces::of`, which notes the components of a text that take part, over tiles, and keeps what stands round
-//! components, and the rectangles that keep them out. For each exchange of statements that an edit of the text was made by, `follow` looks
+//! Begin with `FollowedPlaces::of`, which notes the components of a text that take part, and the rectangles that keep them out, both over
+//! tiles, and keeps what stands round components. For each exchange of statements that an edit of the text was made by, `follow` looks
 //! at those that went out and at those that came in: unless one of them is of what stands round components, it exchanges in lines that are
-//! kept the lines on their components, with those components alone whose boxes meet theirs; or where they have no components, the lines on
-//! the rectangles where they keep components out, with those alone whose boxes meet these. It reads these statements, and no others.
-//! It counts the boxes that it compares: no more than the `near_pairs` of `specs/Tests`, before the exchange and after it.
+//! kept the lines on their components, with the boxes and the rectangles alone that meet theirs, and the lines on the rectangles where they
+//! keep components out, with those components alone whose boxes meet these. It reads these statements, and no others. It counts what it
+//! compares: no more than the `near_pairs` of `specs/Tests`, before the exchange and after it.
 //! `lines_on_places` makes the lines anew from a text, chunk by chunk.
 //!
 //! What is noted is `HasPlaces` of `specs/Places`, and with the kept lines `AreFollowed`. Statements are asked of

@@ -74,30 +74,43 @@ fn push_components<'t, A: Allocator>(
     Ok(())
 }
 
-/// The lines on components: with one another, with those whose boxes are kept, in what stands round them, and on what keeps them out; and
-/// how many of the boxes that are kept were compared with theirs.
+/// No lines, for which nothing was compared.
+pub(crate) fn nothing<A: Allocator + Copy>(alloc: A) -> Checked<A>
+    ensures lines { result.lines ≡ [] }
+    ensures tests { result.tests ≡ 0 }
+{
+    let lines = Lines::new(alloc);
+    Checked { lines, tests: 0 }
+}
+
+/// The lines on components: with one another, with those whose boxes are kept, in what stands round them, and on the rectangles that keep
+/// them out; and how many of the boxes and rectangles that are kept were compared with theirs.
 pub(crate) fn lines_of<'t, A: Allocator + Copy>(
     alloc: A,
     library: &'t Library<'_, A>,
     text: &'t DesignText<A>,
     around: &Around<'t, A>,
     boxes: &StatementBoxes<A>,
+    keep_outs: &StatementBoxes<A>,
     components: &[Placed<'t>],
 ) -> Result<Checked<A>, AllocError>
     requires some { 0 < around.now.scale }
     requires few { around.now.scale ≤ 100000 }
     requires kept { (ids : List Number) × AreBoxesOf library.now around.now.scale text.now.pieces.table.slots ids boxes.now }
     ensures lines { (ids : List Number) → AreBoxesOf library.now around.now.scale text.now.pieces.table.slots ids boxes.now
-        → IfOk result (λ c. SameLines c.lines (lines_of_components (surroundings_view around.now.surroundings) (map component_of components.now) (boxed_under library.now around.now.scale text.now.pieces.table.slots ids) (map rectangle_of around.now.keep_outs.now) [])) }
-    ensures tests { IfOk result (λ c. c.tests ≤ near_sum boxes.now (map place_under (map placed_view components.now))) }
-    ensures least { IfOk result (λ c. min (met_sum boxes.now (map place_under (map placed_view components.now))) (2 ^ 64 - 1) ≤ c.tests) }
+        → IfOk result (λ c. SameLines c.lines (lines_of_components (surroundings_view around.now.surroundings) (map component_of components.now) (boxed_under library.now around.now.scale text.now.pieces.table.slots ids) (map (λ b. b.1) keep_outs.now) [])) }
+    ensures tests { IfOk result (λ c. c.tests ≤ near_sum (boxes.now ++ keep_outs.now) (map place_under (map placed_view components.now))) }
+    ensures least { IfOk result (λ c. min (met_sum (boxes.now ++ keep_outs.now) (map place_under (map placed_view components.now))) (2 ^ 64 - 1) ≤ c.tests) }
 {
     let scale = around.scale;
     let mut lines = Lines::new(alloc);
     let mut tests = 0_u64;
     for (place, one) in components.iter().enumerate() {
-        let found = met(alloc, library, scale, text, boxes, one.component.rect)?;
+        let rect = one.component.rect;
+        let found = met(alloc, library, scale, text, boxes, rect)?;
+        let blocking = keep_outs.met_rects(alloc, rect)?;
         tests = tests.saturating_add(found.compared);
+        tests = tests.saturating_add(blocking.compared);
         let mut others = found.components;
         push_components(&mut others, &components[place + 1..])?;
         put_own_lines(
@@ -105,7 +118,7 @@ pub(crate) fn lines_of<'t, A: Allocator + Copy>(
             &around.surroundings,
             &one.component,
             &others,
-            around.keep_outs,
+            &blocking.rects,
             &mut lines,
         )?;
     }

@@ -1,5 +1,5 @@
 -- Boxes and the shapes that stand for them.
-use Rattle.std.proofs.Common.{◌≡◌, ◌≤◌, ℕ, Bool, true, false, cond, not, ◌&&◌, List, [], ◌∷◌, ◌++◌, Option, Some, None, Result, refl, sym, ap, ◌∙◌, arith, map}
+use Rattle.std.proofs.Common.{◌≡◌, ◌≤◌, ℕ, Bool, true, false, cond, not, ◌&&◌, List, [], ◌∷◌, ◌++◌, Option, Some, None, Result, Ok, Err, refl, sym, ap, ◌∙◌, arith, map}
 use Rattle.std.specs.Prelude.{sum_by, ◌==◌, ◌≢◌, IfOk, IfSome}
 use Rattle.std.specs.List.{All}
 use Rattle.std.proofs.lemmas.List.{map-append}
@@ -140,6 +140,36 @@ pub met_as : (r : Rect) (es met : List Entry) (boxes : List (StmtId × Rectangle
     → SameThings (map (λ e. number_of e.1) met) (map (λ b. b.0) (met_by (rectangle_of r) boxes))
 met_as r es met boxes is o h =
     rw (← is, ← met_numbers r es o) (maps_are_same Entry StmtId (λ e. number_of e.1) met (shapes_met the_layer r es) h)
+
+-- one rectangle more is pushed
+pub rect_pushed : {V E : Type 0} (items : V → List Rect) (q r : Result V E) (e : Entry) (xs : List Entry) → Holds items (map (λ e. e.1.rect) xs) q → IfOk r (λ v. Pushes items q e.1.rect (items v))
+    → Holds items (map (λ e. e.1.rect) (xs ++ e ∷ [])) r
+rect_pushed items q r e xs h k = rw (map-append (λ (e : Entry). e.1.rect) xs (e ∷ [])) (pushed items q r e.1.rect (map (λ e. e.1.rect) xs) h k)
+
+-- the rectangles of the shapes that are met
+met_rectangles : (r : Rect) (es : List Entry) → AreOnTheLayer es → map (λ e. rectangle_of e.1.rect) (shapes_met the_layer r es) ≡ map (λ b. b.1) (met_by (rectangle_of r) (map box_of es))
+met_rectangles r [] o = refl
+met_rectangles r (e ∷ es) o =
+    let rest = met_rectangles r es (on_layer_less e es o) in
+    rw (first_on e es o) (elim (meets (rectangle_of e.1.rect) (rectangle_of r)) as (λ b. map (λ (e : Entry). rectangle_of e.1.rect) (cond b (e ∷ shapes_met the_layer r es) (shapes_met the_layer r es)) ≡ map (λ (b : StmtId × Rectangle). b.1) (cond b (box_of e ∷ met_by (rectangle_of r) (map box_of es)) (met_by (rectangle_of r) (map box_of es)))) [
+      | true ↦ ap (λ (l : List Rectangle). rectangle_of e.1.rect ∷ l) rest
+      | false ↦ rest
+    ])
+
+-- what was pushed is seen as these
+pub found_rects : {V E : Type 0} (items : V → List Rect) (q : Result V E) (r : Rect) (es met : List Entry) (boxes : List (StmtId × Rectangle)) → Holds items (map (λ e. e.1.rect) met) q
+    → map box_of es ≡ boxes → AreOnTheLayer es → SameThings met (shapes_met the_layer r es)
+    → IfOk q (λ v. SameThings (map rectangle_of (items v)) (map (λ b. b.1) (met_by (rectangle_of r) boxes)))
+found_rects items (Err e) r es met boxes held is o h = tt
+found_rects items (Ok v) r es met boxes held is o h = record {
+  sums = λ w.
+      ap (λ (l : List Rect). sum_by w (map rectangle_of l)) held
+      ∙ sum_by-map w rectangle_of (map (λ (e : Entry). e.1.rect) met)
+      ∙ sum_by-map (λ (x : Rect). w (rectangle_of x)) (λ (e : Entry). e.1.rect) met
+      ∙ h.sums (λ (e : Entry). w (rectangle_of e.1.rect))
+      ∙ sym (sum_by-map w (λ (e : Entry). rectangle_of e.1.rect) (shapes_met the_layer r es))
+      ∙ ap (sum_by w) (met_rectangles r es o ∙ ap (λ (l : List (StmtId × Rectangle)). map (λ b. b.1) (met_by (rectangle_of r) l)) is);
+}
 
 -- how many they are
 met_boxes : (r : Rect) (es : List Entry) → AreOnTheLayer es → count_met the_layer r es ≡ met_count (rectangle_of r) (map box_of es)

@@ -18,7 +18,7 @@ use std::marker::Model;
 #[derive(Drop)]
 pub struct StatementBoxes<A: Allocator = Global> {
     // Each box as a shape of one layer, whose net is the statement's number.
-    tiles: TiledShapes<A>,
+    pub(crate) tiles: TiledShapes<A>,
 }
 
 /// The statements whose boxes meet a rectangle.

@@ -3,7 +3,7 @@ use Rattle.design_model.specs.declared.identifier.StmtId.{StmtId}
 use Rattle.def_grammar.specs.Records.{Record}
 use Rattle.def_reader.specs.StatementViews.{record_view}
 use Rattle.design_rules.specs.Boxes.{scale}
-use Rattle.design_rules.specs.Surroundings.{keep_outs, surroundings}
+use Rattle.design_rules.specs.Surroundings.{surroundings}
 use Rattle.staying_laws.specs.PlaceStatements.{surrounds_or_blocks}
 use Rattle.text_pieces.specs.KeptRecords.{record_of}
 use Rattle.text_pieces.specs.Tables.{ids_of, kept_at}
@@ -61,6 +61,5 @@ returns g c =
     let told = c.surroundings_are_told.ensures c.args.library.now (said (records_in text)) in
     record {
       surroundings = rw (ap (surroundings c.args.library.now) read ∙ told.surroundings) at c.of.ensures.surroundings;
-      keep_outs = rw (ap keep_outs read ∙ told.keep_outs) at c.of.ensures.keep_outs;
       scale = rw (ap scale read ∙ told.scale) at c.of.ensures.scale;
     }

@@ -1,10 +1,10 @@
-use Rattle.std.proofs.Common.{rules, map}
-use Rattle.design_model.specs.Views.{rectangle_of}
+use Rattle.std.proofs.Common.{rules, ◌∷◌}
+use Rattle.line_laws.specs.Lines.{SameThings}
+use Rattle.statement_boxes.specs.Boxes.{box_view}
 use Rattle.followed_places.proofs.ComponentLemmas.{taken_at}
 use Rattle.followed_places.proofs.keep_outs.take_all.Goals as goal
 
-pub loop-rect-preserved : goal.loop-rect-preserved
-loop-rect-preserved g c =
-    taken_at rectangle_of c.args.went.now c.loop-rect.rect-index c.rect-item.result (map rectangle_of c.args.rects.now.items) (map rectangle_of c.args.went.now) (map rectangle_of c.loop-rect.rects.items) (map rectangle_of c.take.new.rects.items)
-    c.loop-rect-test.true c.rect-item.is c.loop-rect.invariant
-    (c.take.ensures (search (rules, c.if-not-take.false)))
+pub loop-gone-preserved : goal.loop-gone-preserved
+loop-gone-preserved g c =
+    let now : SameThings c.loop-gone.keep_outs (box_view c.gone-item.result ∷ c.remove.new.self) = search rules in
+    taken_at box_view _ _ c.gone-item.result _ _ _ _ c.loop-gone-test.true c.gone-item.is c.loop-gone.invariant now

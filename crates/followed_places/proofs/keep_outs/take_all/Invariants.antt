@@ -1,7 +1,7 @@
 use Rattle.std.proofs.Common.{◌++◌, drop, map}
-use Rattle.design_model.specs.Views.{rectangle_of}
 use Rattle.line_laws.specs.Lines.{SameThings}
+use Rattle.statement_boxes.specs.Boxes.{box_view}
 use Rattle.followed_places.proofs.keep_outs.take_all.Given as goal
 
-abbrev pub invariant-loop-rect : goal.invariant-loop-rect
-invariant-loop-rect g l = SameThings (map rectangle_of (drop l.rect-index l.went) ++ map rectangle_of l.fn.rects.items) (map rectangle_of l.went ++ map rectangle_of l.rects.items)
+abbrev pub invariant-loop-gone : goal.invariant-loop-gone
+invariant-loop-gone g l = SameThings (map box_view (drop l.gone-index l.went) ++ l.initial.keep_outs) (map box_view l.went ++ l.keep_outs)

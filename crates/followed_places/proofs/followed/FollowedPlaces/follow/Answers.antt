@@ -1,10 +1,10 @@
-use Rattle.std.proofs.Common.{ap, map, sym, ◌∙◌}
-use Rattle.design_model.specs.Views.{rectangle_of}
+use Rattle.std.proofs.Common.{[], ap, map, refl, sym, ◌∙◌}
 use Rattle.staying_laws.specs.Staying.{lines_on_places}
 use Rattle.design_text.specs.Exchanges.{exchange_view}
+use Rattle.statement_boxes.specs.Boxes.{box_view}
 use Rattle.followed_places.specs.Placed.{placed_view}
 use Rattle.followed_places.specs.Places.{said}
-use Rattle.followed_places.proofs.FollowedLemmas.{as_found, awaits, awaits_rectangles, both_found, few_tests, few_tests_near, few_units, follows, follows_rectangles, some_tests, some_tests_near, some_units, stay}
+use Rattle.followed_places.proofs.FollowedLemmas.{as_found, awaits, both_found, few_tests, few_tests_alone, few_units, follows, follows_alone, some_tests, some_tests_alone, some_units, stay, three_found}
 use Rattle.followed_places.proofs.followed.FollowedPlaces.follow.Goals as goal
 
 pub loose_places-requires-clause-some : goal.loose_places-requires-clause-some
@@ -53,9 +53,9 @@ exchanged_keep_outs-requires-clause-awaits g c =
     let none = c.are_none.ensures c.if-are_none.true in
     let no_went = ap (map placed_view) (sym none.0 ∙ c.deref.ensures.value) ∙ went in
     let no_came = ap (map placed_view) (sym none.1 ∙ c.deref-2.ensures.value) ∙ came in
-    let out_is = ap (map rectangle_of) c.deref-then-are_none.ensures.value ∙ outs in
-    let put_is = ap (map rectangle_of) c.deref-then-are_none-2.ensures.value ∙ puts in
-    (stay library slots c.requires.0 c.requires.1 x e, lines_on_places library (said c.requires.1), awaits_rectangles library slots c.requires.0 c.requires.1 x e _ _ f c.components_are_exchanged.ensures gone come _ _ out_is put_is no_went no_came)
+    let out_is = ap (map box_view) c.deref-then-are_none.ensures.value ∙ outs in
+    let put_is = ap (map box_view) c.deref-then-are_none-2.ensures.value ∙ puts in
+    (stay library slots c.requires.0 c.requires.1 x e, lines_on_places library (said c.requires.1), _, awaits library slots c.requires.0 c.requires.1 x e _ _ f c.components_are_exchanged.ensures gone come [] [] _ _ no_went no_came out_is put_is c.same_lines_follow.ensures c.crosses_are_unordered.ensures)
 
 pub returns-then-are_none : goal.returns-then-are_none
 returns-then-are_none g c =
@@ -72,19 +72,19 @@ returns-then-are_none g c =
     let none = c.are_none.ensures c.if-are_none.true in
     let no_went = ap (map placed_view) (sym none.0 ∙ c.deref.ensures.value) ∙ went in
     let no_came = ap (map placed_view) (sym none.1 ∙ c.deref-2.ensures.value) ∙ came in
-    let out_is = ap (map rectangle_of) c.deref-then-are_none.ensures.value ∙ outs in
-    let put_is = ap (map rectangle_of) c.deref-then-are_none-2.ensures.value ∙ puts in
+    let out_is = ap (map box_view) c.deref-then-are_none.ensures.value ∙ outs in
+    let put_is = ap (map box_view) c.deref-then-are_none-2.ensures.value ∙ puts in
     record {
       followed = λ old new e followed.
           let f = rw (← c.self.view_is) at followed in
-          let awaited = awaits_rectangles library slots old new x e _ _ f law gone come _ _ out_is put_is no_went no_came in
-          both_found _ _ _ c.exchanged_keep_outs.result (λ k lines same. follows_rectangles library slots old new x e _ _ f law gone come _ _ out_is put_is no_went no_came _ k.lines lines same) (c.exchanged_keep_outs.ensures.lines _ _ awaited) c.exchanged_keep_outs.ensures.keep_outs;
+          let awaited = awaits library slots old new x e _ _ f law gone come [] [] _ _ no_went no_came out_is put_is c.same_lines_follow.ensures c.crosses_are_unordered.ensures in
+          both_found _ _ _ c.exchanged_keep_outs.result (λ k lines same. follows_alone library slots old new x e _ _ f law gone come [] [] _ _ no_went no_came out_is put_is refl refl _ k.lines lines same) (c.exchanged_keep_outs.ensures.lines _ _ _ awaited) c.exchanged_keep_outs.ensures.keep_outs;
       tests = λ old new e followed.
           let f = rw (← c.self.view_is) at followed in
-          as_found _ _ c.exchanged_keep_outs.result (λ k few. few_tests_near library slots old new x e _ _ f law gone come _ _ out_is put_is no_went no_came k.tests few) c.exchanged_keep_outs.ensures.tests;
+          as_found _ _ c.exchanged_keep_outs.result (λ k few. few_tests_alone library slots old new x e _ _ f law gone come [] [] _ _ no_went no_came out_is put_is refl refl k.tests few) c.exchanged_keep_outs.ensures.tests;
       least = λ old new e followed.
           let f = rw (← c.self.view_is) at followed in
-          as_found _ _ c.exchanged_keep_outs.result (λ k some. some_tests_near library slots old new x e _ _ f law gone come _ _ out_is put_is no_went no_came k.tests some) c.exchanged_keep_outs.ensures.least;
+          as_found _ _ c.exchanged_keep_outs.result (λ k some. some_tests_alone library slots old new x e _ _ f law gone come [] [] _ _ no_went no_came out_is put_is refl refl k.tests some) c.exchanged_keep_outs.ensures.least;
     }
 
 pub exchanged-requires-clause-some : goal.exchanged-requires-clause-some
@@ -110,12 +110,9 @@ exchanged-requires-clause-awaits g c =
     let came = rw c.in-Some-2.is at c.in_ok-came.ensures.components in
     let outs = rw c.in-Some.is at c.in_ok-went.ensures.keep_outs in
     let puts = rw c.in-Some-2.is at c.in_ok-came.ensures.keep_outs in
-    let none = c.are_no_rectangles.ensures c.if-not-are_no_rectangles.false in
-    let no_outs = ap (map rectangle_of) (sym none.0 ∙ c.deref-3.ensures.value) ∙ outs in
-    let no_puts = ap (map rectangle_of) (sym none.1 ∙ c.deref-4.ensures.value) ∙ puts in
     let around = c.in_ok-around.ensures in
-    let awaited = awaits library slots c.requires.0 c.requires.1 x e _ _ f c.components_are_exchanged.ensures gone come _ _ went came no_outs no_puts c.same_lines_follow.ensures c.crosses_are_unordered.ensures in
-    (stay library slots c.requires.0 c.requires.1 x e, lines_on_places library (said c.requires.1), rw (around.scale, around.surroundings, around.keep_outs) awaited)
+    let awaited = awaits library slots c.requires.0 c.requires.1 x e _ _ f c.components_are_exchanged.ensures gone come _ _ _ _ went came outs puts c.same_lines_follow.ensures c.crosses_are_unordered.ensures in
+    (stay library slots c.requires.0 c.requires.1 x e, lines_on_places library (said c.requires.1), rw (around.scale, around.surroundings) awaited)
 
 pub returns : goal.returns
 returns g c =
@@ -129,24 +126,21 @@ returns g c =
     let came = rw c.in-Some-2.is at c.in_ok-came.ensures.components in
     let outs = rw c.in-Some.is at c.in_ok-went.ensures.keep_outs in
     let puts = rw c.in-Some-2.is at c.in_ok-came.ensures.keep_outs in
-    let none = c.are_no_rectangles.ensures c.if-not-are_no_rectangles.false in
-    let no_outs = ap (map rectangle_of) (sym none.0 ∙ c.deref-3.ensures.value) ∙ outs in
-    let no_puts = ap (map rectangle_of) (sym none.1 ∙ c.deref-4.ensures.value) ∙ puts in
     let around = c.in_ok-around.ensures in
     record {
       followed = λ old new e followed.
           let f = rw (← c.self.view_is) at followed in
-          let awaited = rw (← around.scale, ← around.surroundings, ← around.keep_outs) at (awaits library slots old new x e _ _ f law gone come _ _ went came no_outs no_puts c.same_lines_follow.ensures c.crosses_are_unordered.ensures) in
+          let awaited = rw (← around.scale, ← around.surroundings) at (awaits library slots old new x e _ _ f law gone come _ _ _ _ went came outs puts c.same_lines_follow.ensures c.crosses_are_unordered.ensures) in
           let boxes = rw around.scale at (c.exchanged.ensures.boxes _ _ awaited) in
-          both_found _ _ _ c.exchanged.result (λ k lines same. follows library slots old new x e _ _ f law gone come _ _ went came no_outs no_puts _ k.lines lines same) (c.exchanged.ensures.lines _ _ awaited) boxes;
+          three_found _ _ _ _ c.exchanged.result (λ k lines same same_outs. follows library slots old new x e _ _ f law gone come _ _ _ _ went came outs puts _ _ k.lines lines same same_outs) (c.exchanged.ensures.lines _ _ awaited) boxes c.exchanged.ensures.keep_outs;
       tests = λ old new e followed.
           let f = rw (← c.self.view_is) at followed in
-          let awaited = rw (← around.scale, ← around.surroundings, ← around.keep_outs) at (awaits library slots old new x e _ _ f law gone come _ _ went came no_outs no_puts c.same_lines_follow.ensures c.crosses_are_unordered.ensures) in
+          let awaited = rw (← around.scale, ← around.surroundings) at (awaits library slots old new x e _ _ f law gone come _ _ _ _ went came outs puts c.same_lines_follow.ensures c.crosses_are_unordered.ensures) in
           let tests = rw around.scale at (c.exchanged.ensures.tests _ _ awaited) in
-          as_found _ _ c.exchanged.result (λ k few. few_tests library slots old new x e _ _ f law gone come _ _ went came no_outs no_puts k.tests few) tests;
+          both_found _ _ _ c.exchanged.result (λ k few same. few_tests library slots old new x e _ _ f law gone come _ _ _ _ went came outs puts _ same k.tests few) tests c.exchanged.ensures.keep_outs;
       least = λ old new e followed.
           let f = rw (← c.self.view_is) at followed in
-          let awaited = rw (← around.scale, ← around.surroundings, ← around.keep_outs) at (awaits library slots old new x e _ _ f law gone come _ _ went came no_outs no_puts c.same_lines_follow.ensures c.crosses_are_unordered.ensures) in
+          let awaited = rw (← around.scale, ← around.surroundings) at (awaits library slots old new x e _ _ f law gone come _ _ _ _ went came outs puts c.same_lines_follow.ensures c.crosses_are_unordered.ensures) in
           let least = rw around.scale at (c.exchanged.ensures.least _ _ awaited) in
-          as_found _ _ c.exchanged.result (λ k some. some_tests library slots old new x e _ _ f law gone come _ _ went came no_outs no_puts k.tests some) least;
+          both_found _ _ _ c.exchanged.result (λ k some same. some_tests library slots old new x e _ _ f law gone come _ _ _ _ went came outs puts _ same k.tests some) least c.exchanged.ensures.keep_outs;
     }
