@@ -19,7 +19,7 @@ use report_lines::Lines;
 use std::alloc::{AllocError, Allocator};
 
 /// How many entries may list a component so that the lines on them are told.
-const MOST_ENTRIES: usize = 64;
+const MOST_ENTRIES: usize = 1024;
 
 /// Puts the lines on the entries that list a component behind others, unless they are many. Of the name that a pin of the design has
 /// before it, it isn't said which these are.

@@ -38,7 +38,8 @@ fn entries_show_same(a: &Entry<'_>, b: &Entry<'_>) -> bool
     }
 }
 
-/// Whether others can see the same of two statements, a header's number among it.
+/// Whether others can see the same of two statements, a header's number among it. Of those at the top, but for a header and `UNITS`, they see
+/// nothing.
 #[tactic(auto, using(crate::proofs::ShowLemmas::entries_same))]
 pub(crate) fn statements_show_same(a: &Statement<'_>, b: &Statement<'_>) -> bool
     ensures { IsTrue result → ShowSame (record_view a.now ∷ []) (record_view b.now ∷ []) }
@@ -46,7 +47,13 @@ pub(crate) fn statements_show_same(a: &Statement<'_>, b: &Statement<'_>) -> bool
     match (a, b) {
         (Statement::Entry(a), Statement::Entry(b)) => entries_show_same(a, b),
         (Statement::Header(s, m), Statement::Header(t, n)) => s == t && m.bytes == n.bytes,
-        (Statement::Floor(_), Statement::Floor(_)) => true,
+        (Statement::Floor(_), Statement::Floor(_))
+        | (Statement::Kept(..), Statement::Kept(..))
+        | (Statement::Extension(_), Statement::Extension(_))
+        | (Statement::Properties, Statement::Properties)
+        | (Statement::Property(_), Statement::Property(_))
+        | (Statement::EndSection(_), Statement::EndSection(_))
+        | (Statement::EndDesign, Statement::EndDesign) => true,
         _ => false,
     }
 }
